@@ -1,0 +1,9 @@
+use Rattle.std.proofs.lemmas.Result.{IfOk-weaker}
+use Rattle.fs_path.specs.DocumentLaws.{document_found, document_only}
+use Rattle.fs_path.proofs.parse.parse_document.Goals as goal
+
+pub returns-clause-found : goal.returns-clause-found
+returns-clause-found c = IfOk-weaker c.read_document.result _ _ (λ n h. document_found c.args.root.now c.args.text.now n h) c.read_document.ensures.ok
+
+pub returns-clause-only : goal.returns-clause-only
+returns-clause-only c = document_only c.args.root.now c.args.text.now

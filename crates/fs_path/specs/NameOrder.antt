@@ -1,0 +1,31 @@
+-- Document names go segment by segment: project, database, and then the ids. A name that begins another comes first.
+-- (Cloud Firestore documentation, "Data types": references are ordered by path elements.)
+use Rattle.std.specs.Prelude.{◌≡◌, refl}
+use Rattle.std.specs.declared.cmp.Ordering.{Ordering}
+use Rattle.std.specs.declared.cmp.Ordering.TheVariants.{Less, Equal, Greater}
+use Rattle.std.specs.Ordering.{ordering_then, then_cmp, on}
+use Rattle.std.specs.Cmp.{IsTotalOrder}
+use Rattle.std.proofs.lemmas.Cmp.{then_total, on_total}
+use Rattle.fs_path.specs.declared.name.DocName.{DocName}
+use Rattle.fs_path.specs.TextOrder.{text_cmp, ids_cmp, text_cmp_total, text_same, ids_cmp_total, ids_same}
+
+abbrev pub name_cmp : DocName → DocName → Ordering
+name_cmp = then_cmp (on (λ n. n.project) text_cmp) (then_cmp (on (λ n. n.database) text_cmp) (on (λ n. n.ids) ids_cmp))
+
+-- ---- the laws of this order
+
+pub name_cmp_total : IsTotalOrder name_cmp
+name_cmp_total = then_total (on_total (λ n. n.project) text_cmp_total) (then_total (on_total (λ n. n.database) text_cmp_total) (on_total (λ n. n.ids) ids_cmp_total))
+
+-- where the first decides nothing, the second decides
+pub both_equal : (a b : Ordering) → ordering_then a b ≡ Equal → (a ≡ Equal) × (b ≡ Equal)
+both_equal Less b h = (h, absurd (cc))
+both_equal Equal b h = (refl, h)
+both_equal Greater b h = (h, absurd (cc))
+
+-- names that compare alike are one
+pub name_same : (a b : DocName) → name_cmp a b ≡ Equal → a ≡ b
+name_same a b h =
+    let first = both_equal (text_cmp a.project b.project) (ordering_then (text_cmp a.database b.database) (ids_cmp a.ids b.ids)) h in
+    let rest = both_equal (text_cmp a.database b.database) (ids_cmp a.ids b.ids) first.1 in
+    λ i. record { project = text_same a.project b.project first.0 i; database = text_same a.database b.database rest.0 i; ids = ids_same a.ids b.ids rest.1 i }

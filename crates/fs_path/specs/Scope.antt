@@ -1,0 +1,22 @@
+-- The documents that a query goes over. (v1 reference, "StructuredQuery.CollectionSelector".)
+use Rattle.std.specs.Prelude.{◌≡◌, ℕ, ◌+◌, ◌-◌, Bool, ◌&&◌, List, [], ◌∷◌, ◌++◌, length, slice_index_or, ◌==◌, nat_le}
+use Rattle.std.specs.List.{starts_with}
+use Rattle.fs_path.specs.declared.name.DocName.{DocName}
+use Rattle.fs_path.specs.declared.scope.Scope.{Scope}
+use Rattle.fs_path.specs.declared.scope.Scope.TheVariants.{Collection, Group}
+use Rattle.fs_path.specs.TextOrder.{text_eq}
+
+-- a document of the collection right below its parent, or of a collection with this id anywhere below its parent
+abbrev pub Covers : Scope → DocName → Type 0
+Covers (Collection parent id) n = (last : List ℕ) × (n.ids ≡ parent ++ id ∷ last ∷ [])
+Covers (Group parent id) n = (between : List (List ℕ)) × (last : List ℕ) × (n.ids ≡ parent ++ (between ++ id ∷ last ∷ []))
+
+-- ---- the test
+
+-- ids that begin with a parent's, and whose last two are of a document in a collection with this id
+abbrev pub lies_in : List (List ℕ) → List ℕ → List (List ℕ) → Bool
+lies_in parent id ids = nat_le (length parent + 2) (length ids) && starts_with text_eq ids parent && text_eq (slice_index_or ids (length ids - 2) []) id
+
+abbrev pub covers : Scope → DocName → Bool
+covers (Collection parent id) n = lies_in parent id n.ids && length n.ids == length parent + 2
+covers (Group parent id) n = lies_in parent id n.ids

@@ -1,0 +1,79 @@
+ghost use Rattle.std.specs.Prelude.{◌≡◌};
+ghost use Rattle.fs_path.specs.declared.error.PathError.TheVariants.{Memory};
+ghost use Rattle.fs_path.specs.Refusal.{rule_of};
+
+use crate::place::Rule;
+use std::alloc::{AllocError, AllocFailed};
+use thiserror::Error;
+
+/// Why a text is no name or path. Of several reasons the first in this order is told.
+#[derive(Clone, Copy, Debug, PartialEq, Eq, Error)]
+pub enum PathError {
+    /// It doesn't begin as `projects/{project}/databases/{database}/documents`.
+    #[error("not a name of a project's database")]
+    BadPrefix,
+    /// It names another project or database than the server's.
+    #[error("another project or database")]
+    WrongDatabase,
+    /// Its path hasn't the number of segments that is wanted here.
+    #[error("wrong number of segments")]
+    Parity,
+    /// A segment is empty.
+    #[error("empty segment")]
+    Empty,
+    /// A segment matches `__.*__`.
+    #[error("reserved segment")]
+    Reserved,
+    /// A segment is `.` or `..`.
+    #[error("segment of dots")]
+    Dots,
+    /// The length in bytes of the first segment above 1,500, else that of the text above 6,144.
+    #[error("{0} bytes are too long")]
+    TooLong(u64),
+    /// The number of segments, above 200.
+    #[error("{0} segments are too many")]
+    TooDeep(u64),
+    /// A text is no field path: the length in bytes of its longest beginning that a field path may begin with.
+    #[error("no field path from byte {0} on")]
+    BadQuote(u64),
+    #[error("out of memory")]
+    Memory(AllocError),
+}
+
+impl PathError {
+    /// The rule that was broken, numbered from 1 in the order above, or `None` for want of memory.
+    pub fn rule(&self) -> Option<Rule>
+        ensures { result ≡ rule_of self.now }
+    {
+        match self {
+            PathError::BadPrefix => Some(Rule::P(1, None)),
+            PathError::WrongDatabase => Some(Rule::P(2, None)),
+            PathError::Parity => Some(Rule::P(3, None)),
+            PathError::Empty => Some(Rule::P(4, None)),
+            PathError::Reserved => Some(Rule::P(5, None)),
+            PathError::Dots => Some(Rule::P(6, None)),
+            PathError::TooLong(n) => Some(Rule::P(7, Some(*n))),
+            PathError::TooDeep(n) => Some(Rule::P(8, Some(*n))),
+            PathError::BadQuote(n) => Some(Rule::P(9, Some(*n))),
+            PathError::Memory(_) => None,
+        }
+    }
+}
+
+impl From<AllocError> for PathError {
+    ghost from_gives = { λ e r. r ≡ Memory e };
+
+    fn from(e: AllocError) -> PathError {
+        PathError::Memory(e)
+    }
+}
+
+impl<T: Drop> From<AllocFailed<T>> for PathError {
+    ghost use Rattle.std.specs.Prelude.{alloc_error};
+
+    ghost from_gives = { λ _ r. r ≡ Memory alloc_error };
+
+    fn from(_: AllocFailed<T>) -> PathError {
+        PathError::Memory(AllocError)
+    }
+}

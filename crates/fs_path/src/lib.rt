@@ -1,0 +1,35 @@
+//! The names of Cloud Firestore: projects, databases, document paths and field paths.
+#![tactic(auto)]
+
+mod database;
+mod error;
+mod field;
+mod field_name;
+mod field_print;
+mod head;
+mod ids;
+mod name;
+mod parse;
+mod place;
+mod print;
+mod scope;
+mod segment;
+mod stage;
+mod survey;
+#[cfg(test)]
+mod tests;
+mod text;
+
+pub use database::check_database;
+pub use error::PathError;
+pub use field::{FieldPath, parse_field};
+pub use field_name::{is_bad_field_name, is_simple_name};
+pub use field_print::print_field;
+pub use ids::{Ids, Texts};
+pub use name::{DocName, Root};
+pub use parse::{parse_document, parse_parent, parse_reference};
+pub use place::{Place, Rule};
+pub use print::print_document;
+pub use scope::{Scope, covers, shard_of};
+pub use segment::is_reserved;
+pub use text::{Bytes, Text};

@@ -1,0 +1,37 @@
+ghost use Rattle.std.specs.Prelude.{◌≡◌, ◌-◌, ◌^◌, IfOk, length, min};
+ghost use Rattle.fs_path.specs.Document.{document_text};
+
+use crate::name::DocName;
+use crate::text::Text;
+use std::alloc::{AllocError, Global};
+
+/// Writes a name as requests and replies have it. Reading it back gives the same name.
+pub fn print_document(alloc: Global, name: &DocName) -> Result<Text, AllocError>
+    ensures { IfOk result (λ t. t ≡ document_text name.now) }
+{
+    let mut text = String::with_capacity(alloc, text_len(name))?;
+    text.push_str("projects/")?;
+    text.push_str(name.project.as_str())?;
+    text.push_str("/databases/")?;
+    text.push_str(name.database.as_str())?;
+    text.push_str("/documents")?;
+    for id in name.ids.as_slice() {
+        text.push_str("/")?;
+        text.push_str(id.as_str())?;
+    }
+    Ok(Text::of(text))
+}
+
+/// The number of bytes of a name's text, or the last number where there are more.
+fn text_len(name: &DocName) -> usize
+    ensures { result ≡ min (length (document_text name.now)) (2 ^ 64 - 1) }
+{
+    let mut len = "projects//databases//documents"
+        .len()
+        .saturating_add(name.project.len())
+        .saturating_add(name.database.len());
+    for id in name.ids.as_slice() {
+        len = len.saturating_add("/".len()).saturating_add(id.len());
+    }
+    len
+}

@@ -1,0 +1,79 @@
+ghost use Rattle.std.specs.Prelude.{◌≡◌, ◌↔◌, ◌<◌, ◌≤◌, ◌%◌, IfOk, IsTrue, sum};
+ghost use Rattle.fs_path.specs.Scope.{covers, lies_in, Covers};
+
+use crate::ids::Ids;
+use crate::name::DocName;
+use crate::text::Text;
+use std::alloc::{AllocError, Global};
+
+/// The documents that a query goes over: those of one collection, or those of every collection with one id below a
+/// parent, however deep. The parent's ids are a document's, or none for the root.
+/// (v1 reference, "StructuredQuery.CollectionSelector".)
+#[derive(PartialEq, Eq, PartialOrd, Ord, Drop, Debug)]
+pub enum Scope {
+    Collection { parent: Ids, id: Text },
+    Group { parent: Ids, id: Text },
+}
+
+impl Scope {
+    pub fn copy(&self, alloc: Global) -> Result<Scope, AllocError>
+        ensures { IfOk result (λ s. s ≡ self.now) }
+    {
+        match self {
+            Scope::Collection { parent, id } => Ok(Scope::Collection {
+                parent: parent.copy(alloc)?,
+                id: id.copy(alloc)?,
+            }),
+            Scope::Group { parent, id } => Ok(Scope::Group {
+                parent: parent.copy(alloc)?,
+                id: id.copy(alloc)?,
+            }),
+        }
+    }
+}
+
+/// Whether a document is in a scope.
+pub fn covers(scope: &Scope, name: &DocName) -> bool
+    ensures value { result ≡ covers scope.now name.now }
+    ensures meaning { IsTrue result ↔ Covers scope.now name.now }
+{
+    is_in(scope, name)
+}
+
+fn is_in(scope: &Scope, name: &DocName) -> bool
+    ensures { result ≡ covers scope.now name.now }
+{
+    match scope {
+        Scope::Collection { parent, id } => {
+            lies_in(parent, id, &name.ids) && name.ids.len() - parent.len() == 2
+        }
+        Scope::Group { parent, id } => lies_in(parent, id, &name.ids),
+    }
+}
+
+/// Whether ids begin with a parent's, and the last two are of a document in a collection with this id.
+fn lies_in(parent: &Ids, id: &Text, ids: &Ids) -> bool
+    ensures { result ≡ lies_in parent.now id.now ids.now }
+{
+    let ids = ids.as_slice();
+    let parent = parent.as_slice();
+    ids.len() >= 2
+        && ids.len() - 2 >= parent.len()
+        && ids.starts_with(parent)
+        && ids[ids.len() - 2] == *id
+}
+
+/// The shard that a collection belongs to, of a number of shards from 1 to 16: the sum of its id's bytes modulo their
+/// number. (This project's own.)
+pub fn shard_of(id: &Text, shards: u32) -> u32
+    requires some { 1 ≤ shards }
+    requires few { shards ≤ 16 }
+    ensures value { result ≡ sum id.now % shards }
+    ensures within { result < shards }
+{
+    let mut shard = 0;
+    for b in id.as_str().as_bytes() {
+        shard = (shard + u32::from(*b)) % shards;
+    }
+    shard
+}
