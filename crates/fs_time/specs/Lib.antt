@@ -1,0 +1,11 @@
+pub mod Calendar
+pub mod Grammar
+pub mod GrammarLaws
+pub mod CalendarLaws
+pub mod Moment
+pub mod ReadingLaws
+pub mod Rfc3339
+pub mod RoundTrip
+pub mod TextLaws
+pub mod TextReadLaws
+pub mod TimeLaws

@@ -1,0 +1,26 @@
+/// What a text of RFC 3339 shows, before anybody asks whether the calendar has it.
+#[derive(Clone, Copy, Debug)]
+pub struct Parts {
+    pub year: u16,
+    pub month: u8,
+    pub day: u8,
+    pub hour: u8,
+    pub minute: u8,
+    pub second: u8,
+    /// How many decimals the second has, 0 where the text has no point.
+    pub places: u8,
+    /// Those decimals, read as one number.
+    pub fraction: u32,
+    pub offset: Offset,
+}
+
+/// How far the clock that a text shows is from UTC, in hours and minutes.
+#[derive(Clone, Copy, Debug)]
+pub enum Offset {
+    /// `Z`
+    Utc,
+    /// `+hh:mm`
+    Ahead(u8, u8),
+    /// `-hh:mm`
+    Behind(u8, u8),
+}
