@@ -1,0 +1,4 @@
+pub mod Message
+pub mod Reason
+pub mod Refusal
+pub mod Status

@@ -1,0 +1,31 @@
+-- The messages of refusals.
+use Rattle.std.specs.Prelude.{ℕ, Some, None, List, ◌++◌, codes, decimal}
+use Rattle.fs_path.specs.declared.place.Rule.{Rule}
+use Rattle.fs_path.specs.declared.place.Rule.TheVariants.{G, T, P, E, Q}
+use Rattle.fs_time.specs.Rfc3339.{time_text}
+use Rattle.fs_status.specs.declared.reason.Line.{Line}
+use Rattle.fs_status.specs.declared.reason.Line.TheVariants.{NotAnObject, DoesNotApply, HasBytes}
+use Rattle.fs_status.specs.declared.reason.Reason.{Reason}
+use Rattle.fs_status.specs.declared.reason.Reason.TheVariants as reasons
+
+-- a rule by its letter and its number, and the number that it carries: `G`, `T1`, `P7 1501`
+abbrev pub rule_text : Rule → List ℕ
+rule_text G = codes "G"
+rule_text (T n) = codes "T" ++ decimal n
+rule_text (P n None) = codes "P" ++ decimal n
+rule_text (P n (Some carried)) = codes "P" ++ decimal n ++ (codes " " ++ decimal carried)
+rule_text (E n) = codes "E" ++ decimal n
+rule_text (Q n None) = codes "Q" ++ decimal n
+rule_text (Q n (Some carried)) = codes "Q" ++ decimal n ++ (codes " " ++ decimal carried)
+
+abbrev pub line_text : Line → List ℕ
+line_text NotAnObject = codes "line is not a JSON object"
+line_text DoesNotApply = codes "line does not apply"
+line_text (HasBytes n) = codes "line has " ++ decimal n ++ codes " bytes"
+
+abbrev pub message_text : Reason → List ℕ
+message_text (reasons.Rule rule place) = rule_text rule ++ (codes " at " ++ place)
+message_text (reasons.NoDocument time) = codes "no document at " ++ time_text time
+message_text (reasons.Method name) = codes "method " ++ name
+message_text (reasons.Line line) = line_text line
+message_text reasons.Memory = codes "out of memory"

@@ -1,0 +1,63 @@
+ghost use Rattle.std.specs.Prelude.{◌≡◌, IfOk, string_bytes};
+ghost use Rattle.fs_status.specs.Message.{message_text, line_text, rule_text};
+
+use crate::reason::{Line, Reason};
+use crate::refusal::Refusal;
+use fs_path::{Rule, Text};
+use fs_time::print;
+use std::alloc::{AllocError, Global};
+
+/// The message of a refusal, for a person: `no document at 2024-01-01T00:00:00Z`.
+pub fn message(alloc: Global, refusal: &Refusal) -> Result<Text, AllocError>
+    ensures { IfOk result (λ t. t ≡ message_text refusal.now.reason) }
+{
+    Ok(Text::of(reason_text(alloc, &refusal.reason)?))
+}
+
+fn reason_text(alloc: Global, reason: &Reason) -> Result<String, AllocError>
+    ensures { IfOk result (λ s. string_bytes s ≡ message_text reason.now) }
+{
+    match reason {
+        Reason::Rule(rule, place) => {
+            let rule = rule_text(alloc, *rule)?;
+            let (rule, place) = (rule.as_str(), place.as_str());
+            format!(in alloc; "{rule} at {place}")
+        }
+        Reason::NoDocument(time) => {
+            let time = print(alloc, *time)?;
+            let time = time.as_str();
+            format!(in alloc; "no document at {time}")
+        }
+        Reason::Method(name) => {
+            let name = name.as_str();
+            format!(in alloc; "method {name}")
+        }
+        Reason::Line(line) => line_text(alloc, *line),
+        Reason::Memory => String::from_str(alloc, "out of memory"),
+    }
+}
+
+// A rule by its letter and its number, and the number that it carries.
+fn rule_text(alloc: Global, rule: Rule) -> Result<String, AllocError>
+    ensures { IfOk result (λ s. string_bytes s ≡ rule_text rule) }
+{
+    match rule {
+        Rule::G => String::from_str(alloc, "G"),
+        Rule::T(n) => format!(in alloc; "T{n}"),
+        Rule::P(n, None) => format!(in alloc; "P{n}"),
+        Rule::P(n, Some(carried)) => format!(in alloc; "P{n} {carried}"),
+        Rule::E(n) => format!(in alloc; "E{n}"),
+        Rule::Q(n, None) => format!(in alloc; "Q{n}"),
+        Rule::Q(n, Some(carried)) => format!(in alloc; "Q{n} {carried}"),
+    }
+}
+
+fn line_text(alloc: Global, line: Line) -> Result<String, AllocError>
+    ensures { IfOk result (λ s. string_bytes s ≡ line_text line) }
+{
+    match line {
+        Line::NotAnObject => String::from_str(alloc, "line is not a JSON object"),
+        Line::DoesNotApply => String::from_str(alloc, "line does not apply"),
+        Line::HasBytes(n) => format!(in alloc; "line has {n} bytes"),
+    }
+}
