@@ -1,0 +1,5 @@
+pub mod Weights
+pub mod Places
+pub mod Naming
+pub mod Folds
+pub mod Comparing

@@ -1,0 +1,18 @@
+use Rattle.std.proofs.Common.{ap, sym, ◌∙◌, subst}
+use Rattle.std.specs.FinMap.{get, remove}
+use Rattle.fs_path.specs.NameOrder.{name_cmp_total, name_same}
+use Rattle.fs_value.specs.Named.{IsNamed}
+use Rattle.fs_value.specs.Tree.{get_tree, remove_tree}
+use Rattle.fs_value.proofs.Naming.{IsNamed-remove}
+use Rattle.fs_value.proofs.document_map.DocumentMap.remove.Goals as goal
+
+pub returns-clause-value : goal.returns-clause-value
+returns-clause-value c =
+    c.remove.ensures.value ∙ get_tree name_cmp_total c.self.inside.documents.entries c.args.name.now ∙ ap (λ m. get m c.args.name.now) c.self.view_is
+
+pub returns-clause-removed : goal.returns-clause-removed
+returns-clause-removed c =
+    remove_tree name_cmp_total name_same c.self.inside.documents.entries _ c.args.name.now c.remove.ensures.updates.0 ∙ ap (λ m. remove m c.args.name.now) c.self.view_is
+
+pub invariant_of-self : goal.invariant_of-self
+invariant_of-self c = subst IsNamed (sym (returns-clause-removed c)) (IsNamed-remove _ _ (subst IsNamed c.self.view_is c.self.invariant))

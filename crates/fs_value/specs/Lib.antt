@@ -1,0 +1,11 @@
+pub mod Data
+pub mod ValueOrder
+pub mod DataLaws
+pub mod View
+pub mod ViewOrder
+pub mod Falls
+pub mod FieldPlace
+pub mod Rising
+pub mod Tree
+pub mod Named
+pub mod Size

@@ -1,0 +1,118 @@
+use crate::fields::Fields;
+use fs_path::DocName;
+use fs_time::Micros;
+use std::alloc::{AllocError, Global};
+use std::marker::Model;
+
+/// A document (`google.firestore.v1.Document`): its name and fields, when it was created, and when it was last updated.
+#[derive(Drop, Debug)]
+pub struct Document {
+    pub name: DocName,
+    pub fields: Fields,
+    pub created: Micros,
+    pub updated: Micros,
+}
+
+impl Document {
+    ghost use Rattle.std.specs.Prelude.{◌≡◌, IfOk};
+
+    pub fn copy(&self, alloc: Global) -> Result<Document, AllocError>
+        ensures { IfOk result (λ d. d ≡ self.now) }
+    {
+        Ok(Document {
+            name: self.name.copy(alloc)?,
+            fields: self.fields.copy(alloc)?,
+            created: self.created,
+            updated: self.updated,
+        })
+    }
+}
+
+/// Documents in order. Contracts see them as a list.
+#[derive(Drop, Debug)]
+pub struct Documents {
+    items: Vec<Document>,
+}
+
+impl Model for Documents {
+    ghost use Rattle.std.specs.Prelude.{List};
+    ghost use Rattle.std.specs.Coded.{coded_list};
+    ghost use Rattle.fs_value.specs.contracts.document.Document as document;
+    ghost use Rattle.fs_value.specs.declared.document.Document.{Document};
+
+    ghost Value = { List Document };
+
+    ghost coded = { coded_list document.the_row.coded };
+
+    ghost view = { λ d. d.items.items };
+}
+
+impl Documents {
+    ghost use Rattle.std.specs.Prelude.{◌≡◌, ◌↔◌, ◌<◌, ◌∷◌, ◌++◌, IfOk, OnOk, OnErr, IsTrue, Some, [], length, slice_get};
+
+    /// No documents. The allocator serves those that are pushed.
+    pub fn new(alloc: Global) -> Documents
+        ensures { result ≡ [] }
+    {
+        Documents {
+            items: Vec::new(alloc),
+        }
+    }
+
+    /// The documents of a `Vec`, without a copy.
+    pub fn of(items: Vec<Document>) -> Documents
+        ensures { result ≡ items.items }
+    {
+        Documents { items }
+    }
+
+    /// The documents as a `Vec`, without a copy.
+    pub fn into_vec(self) -> Vec<Document>
+        ensures { result.items ≡ self }
+    {
+        self.items
+    }
+
+    pub fn as_slice(&self) -> &[Document]
+        ensures { result.now ≡ self.now }
+    {
+        self.items.as_slice()
+    }
+
+    pub fn len(&self) -> usize
+        ensures { result ≡ length self.now }
+    {
+        self.items.len()
+    }
+
+    pub fn is_empty(&self) -> bool
+        ensures { IsTrue result ↔ (self.now ≡ []) }
+    {
+        self.items.is_empty()
+    }
+
+    pub fn at(&self, i: usize) -> &Document
+        requires { i < length self.now }
+        ensures { slice_get self.now i ≡ Some result.now }
+    {
+        &self.items[i]
+    }
+
+    /// Adds a document at the end.
+    pub fn push(&mut self, document: Document) -> Result<(), AllocError>
+        ensures ok { OnOk result (self.new ≡ self.old ++ document ∷ []) }
+        ensures err { OnErr result (self.new ≡ self.old) }
+    {
+        Ok(self.items.push(document)?)
+    }
+
+    pub fn copy(&self, alloc: Global) -> Result<Documents, AllocError>
+        ensures { IfOk result (λ ds. ds ≡ self.now) }
+    {
+        let mut items = Vec::with_capacity(alloc, self.items.len())?;
+        for document in &self.items {
+            items.push(document.copy(alloc)?)?;
+        }
+        Ok(Documents { items })
+    }
+}
