@@ -1,0 +1,66 @@
+ghost use Rattle.std.specs.Prelude.{◌≡◌, ◌<◌, length, Some};
+
+use crate::clock::Clock;
+use fs_time::Micros;
+use std::marker::Model;
+
+/// Moments in order.
+#[derive(Drop, Debug)]
+pub struct Moments {
+    items: Vec<Micros>,
+}
+
+impl Model for Moments {
+    ghost use Rattle.std.specs.Prelude.{List, ℤ};
+
+    ghost Value = { List ℤ };
+
+    ghost view = { λ m. m.items.items };
+}
+
+impl Moments {
+    pub fn of(items: Vec<Micros>) -> Moments
+        ensures { result ≡ items.items }
+    {
+        Moments { items }
+    }
+}
+
+/// A clock in memory. It tells its moments in order, and the last of them again and again.
+#[derive(Drop, Debug)]
+pub struct MemoryClock {
+    moments: Moments,
+    at: usize,
+}
+
+impl Model for MemoryClock {
+    ghost use Rattle.std.specs.Prelude.{List, ℤ, drop, length, ◌<◌};
+
+    ghost Value = { List ℤ };
+
+    ghost view = { λ c. drop c.at c.moments };
+
+    ghost invariant = { λ c. c.at < length c.moments };
+}
+
+impl MemoryClock {
+    /// A clock of these moments, of which there is at least one.
+    pub fn new(moments: Moments) -> MemoryClock
+        requires { 0 < length moments }
+        ensures { result ≡ moments }
+    {
+        MemoryClock { moments, at: 0 }
+    }
+}
+
+impl Clock for MemoryClock {
+    ghost to_tell = { λ c. Some c };
+
+    fn now(&mut self) -> Micros {
+        let now = self.moments.items[self.at];
+        if self.at + 1 < self.moments.items.len() {
+            self.at += 1;
+        }
+        now
+    }
+}

@@ -1,0 +1,51 @@
+ghost use Rattle.std.specs.Prelude.{◌≡◌, ℕ};
+
+use crate::count::count;
+use crate::doors::{Door, Doors};
+use crate::link::Sent;
+use crate::memory::link::MemoryLink;
+use std::alloc::AllocError;
+use std::marker::Model;
+
+/// Doors in memory that have no link to hand out: each call fails.
+#[derive(Drop, Debug)]
+pub struct MemoryDoors {
+    faults: u64,
+}
+
+impl Model for MemoryDoors {
+    ghost use Rattle.std.specs.Prelude.{ℕ};
+
+    ghost Value = { ℕ };
+
+    ghost view = { λ d. d.faults };
+}
+
+impl MemoryDoors {
+    pub fn new() -> MemoryDoors
+        ensures { result ≡ 0 }
+    {
+        MemoryDoors { faults: 0 }
+    }
+}
+
+impl Doors for MemoryDoors {
+    type L = MemoryLink;
+
+    ghost faults = { λ d. d };
+
+    fn listen(&mut self, _port: u16) -> Result<Sent, AllocError> {
+        count(&mut self.faults);
+        Ok(Sent::Failed)
+    }
+
+    fn accept(&mut self) -> Result<Door<MemoryLink>, AllocError> {
+        count(&mut self.faults);
+        Ok(Door::Failed)
+    }
+
+    fn dial(&mut self, _port: u16) -> Result<Door<MemoryLink>, AllocError> {
+        count(&mut self.faults);
+        Ok(Door::Failed)
+    }
+}

@@ -1,0 +1,124 @@
+ghost use Rattle.std.specs.Prelude.{◌≡◌, [], ℕ, List, Some, IsTrue};
+ghost use Rattle.fs_edge.specs.Link.{hearings_of, none_fails};
+
+use crate::count::count;
+use crate::link::{Heard, Link, Sent};
+use crate::memory::pace::{Pace, Paces};
+use fs_path::{Text, Texts};
+use std::alloc::{AllocError, Global};
+use std::marker::Model;
+use std::mem;
+
+/// What a link in memory will hear, in order. After the last it is closed. `Failed` has no place here: a link fails
+/// by its paces.
+#[derive(Drop, Debug)]
+pub struct Hearings {
+    items: Vec<Heard>,
+}
+
+impl Model for Hearings {
+    ghost use Rattle.std.specs.Prelude.{List};
+    ghost use Rattle.fs_edge.specs.Link.{Hearing, hearings_of};
+
+    ghost Value = { List Hearing };
+
+    ghost view = { λ h. hearings_of h.items.items };
+}
+
+impl Hearings {
+    pub fn of(items: Vec<Heard>) -> Hearings
+        requires { IsTrue (none_fails items.items) }
+        ensures { result ≡ hearings_of items.items }
+    {
+        Hearings { items }
+    }
+}
+
+/// A link in memory. It tells what it will hear, what was sent over it, and the paces of its next calls.
+#[derive(Drop, Debug)]
+pub struct MemoryLink {
+    alloc: Global,
+    hearings: Vec<Heard>,
+    // how many were heard
+    at: usize,
+    sent: Texts,
+    paces: Paces,
+    // how many calls went by a pace of the list
+    calls: usize,
+    faults: u64,
+}
+
+impl Model for MemoryLink {
+    ghost use Rattle.std.specs.Prelude.{drop, length, ◌≤◌};
+    ghost use Rattle.fs_edge.specs.Link.{hearings_of};
+    ghost use Rattle.fs_edge.specs.Memory.{Line};
+
+    ghost Value = { Line };
+
+    ghost view = { λ l. record { to_hear = hearings_of (drop l.at l.hearings.items); sent = l.sent; paces = drop l.calls l.paces; faults = l.faults } };
+
+    ghost invariant = { λ l. l.at ≤ length l.hearings.items };
+}
+
+impl MemoryLink {
+    /// A link over which nothing was sent yet.
+    pub fn new(alloc: Global, heard: Hearings, paces: Paces) -> MemoryLink
+        ensures { result ≡ record { to_hear = heard; sent = []; paces = paces; faults = 0 } }
+    {
+        MemoryLink {
+            alloc,
+            hearings: heard.items,
+            at: 0,
+            sent: Texts::new(alloc),
+            paces,
+            calls: 0,
+            faults: 0,
+        }
+    }
+
+    /// The messages that were sent over it, in order.
+    pub fn sent(&self) -> &Texts
+        ensures { result.now ≡ self.now.sent }
+    {
+        &self.sent
+    }
+}
+
+impl Link for MemoryLink {
+    ghost to_hear = { λ l. Some l.to_hear };
+
+    ghost sent = { λ l. Some l.sent };
+
+    ghost faults = { λ l. l.faults };
+
+    fn receive(&mut self) -> Result<Heard, AllocError> {
+        if self.paces.next(&mut self.calls) == Pace::Fail {
+            count(&mut self.faults);
+            return Ok(Heard::Failed);
+        }
+        if self.at >= self.hearings.len() {
+            return Ok(Heard::Closed);
+        }
+        match mem::replace(&mut self.hearings[self.at], Heard::Closed) {
+            Heard::Message(text) => {
+                self.at += 1;
+                Ok(Heard::Message(text))
+            }
+            Heard::Quiet => {
+                self.at += 1;
+                Ok(Heard::Quiet)
+            }
+            Heard::Closed | Heard::Failed => Ok(Heard::Closed),
+        }
+    }
+
+    fn send(&mut self, text: &str) -> Result<Sent, AllocError> {
+        let message = Text::from_str(self.alloc, text)?;
+        if self.paces.next(&mut self.calls) == Pace::Fail {
+            count(&mut self.faults);
+            return Ok(Sent::Failed);
+        }
+        self.sent.push(message)?;
+        Ok(Sent::Done)
+    }
+}

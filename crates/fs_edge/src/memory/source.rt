@@ -1,0 +1,90 @@
+ghost use Rattle.std.specs.Prelude.{◌≡◌, ◌≤◌, IsTrue, ℕ, List, Some};
+ghost use Rattle.fs_edge.specs.Paces.{all_let_through, moved_of};
+
+use crate::count::count;
+use crate::memory::pace::{Pace, Paces};
+use crate::source::{Source, Took};
+use fs_path::Bytes;
+use std::marker::Model;
+
+/// A source of bytes in memory. It tells what it has left, and the paces of its next reads.
+#[derive(Drop, Debug)]
+pub struct MemorySource {
+    bytes: Bytes,
+    // how many bytes were taken
+    at: usize,
+    paces: Paces,
+    // how many reads went by a pace of the list
+    calls: usize,
+    faults: u64,
+    ends: u64,
+}
+
+impl Model for MemorySource {
+    ghost use Rattle.std.specs.Prelude.{drop, length, ◌≤◌, IsTrue};
+    ghost use Rattle.fs_edge.specs.Memory.{Feed};
+    ghost use Rattle.fs_edge.specs.Paces.{all_let_through};
+
+    ghost Value = { Feed };
+
+    ghost view = { λ s. record { left = drop s.at s.bytes; paces = drop s.calls s.paces; faults = s.faults; ends = s.ends } };
+
+    ghost invariant = { λ s. (s.at ≤ length s.bytes) × IsTrue (all_let_through (drop s.calls s.paces)) };
+}
+
+impl MemorySource {
+    /// A source with these bytes. Each pace lets at least one byte through.
+    pub fn new(bytes: Bytes, paces: Paces) -> MemorySource
+        requires { IsTrue (all_let_through paces) }
+        ensures { result ≡ record { left = bytes; paces = paces; faults = 0; ends = 0 } }
+    {
+        MemorySource {
+            bytes,
+            at: 0,
+            paces,
+            calls: 0,
+            faults: 0,
+            ends: 0,
+        }
+    }
+}
+
+// How many bytes a call at this pace moves of those that there are.
+pub(crate) fn moved(pace: Pace, there: usize) -> usize
+    ensures value { result ≡ moved_of pace there }
+    ensures within { result ≤ there }
+{
+    match pace {
+        Pace::Free => there,
+        Pace::AtMost(most) => there.min(most as usize),
+        Pace::Fail => 0,
+    }
+}
+
+impl Source for MemorySource {
+    ghost left = { λ s. Some s.left };
+
+    ghost faults = { λ s. s.faults };
+
+    ghost ends = { λ s. s.ends };
+
+    fn read(&mut self, into: &mut [u8]) -> Took {
+        let pace = self.paces.next(&mut self.calls);
+        if pace == Pace::Fail {
+            count(&mut self.faults);
+            return Took::Failed;
+        }
+        let there = self.bytes.len() - self.at;
+        if into.is_empty() {
+            return Took::Bytes(0);
+        }
+        if there == 0 {
+            count(&mut self.ends);
+            return Took::End;
+        }
+        let most = moved(pace, there.min(into.len()));
+        into[..most].copy_from_slice(&self.bytes.as_slice()[self.at..self.at + most]);
+        self.at += most;
+        Took::Bytes(most)
+    }
+}

@@ -1,0 +1,28 @@
+ghost use Rattle.std.specs.Prelude.{◌≡◌, ◌≤◌, ℕ, List, Option};
+ghost use Rattle.fs_edge.specs.Count.{Rose};
+ghost use Rattle.fs_edge.specs.Sink.{Writes, Takes};
+
+/// What a write gave.
+#[derive(Clone, Copy, Debug, PartialEq, Eq)]
+pub enum Gave {
+    /// The sink took so many bytes from the front of the piece.
+    Bytes(usize),
+    /// The write failed, and the sink took nothing.
+    Failed,
+}
+
+/// Where bytes go.
+pub trait Sink {
+    /// The bytes that it took so far, where the sink tells them. Memory does; a file or a terminal does not.
+    ghost given: { Self → Option (List ℕ) };
+
+    /// How often a write has failed.
+    ghost faults: { Self → ℕ };
+
+    /// Gives the front of a piece. A sink that takes none of a piece that has bytes has failed.
+    fn write(&mut self, from: &[u8]) -> Gave
+        ensures writes { Writes result from.now (given self.old) (given self.new) }
+        ensures takes { Takes result from.now }
+        ensures faults { faults self.old ≤ faults self.new }
+        ensures failed { result ≡ Gave.Failed → Rose (faults self.old) (faults self.new) };
+}
