@@ -1,0 +1,3 @@
+pub mod Base64Forms
+pub mod Integers
+pub mod Written

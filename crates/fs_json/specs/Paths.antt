@@ -1,0 +1,32 @@
+-- Names of documents in JSON: strings, read by the grammar of names.
+use Rattle.std.specs.Prelude.{ℕ, List, Option, Some, None, Result, Ok, Err, alloc_error}
+use Rattle.fs_path.specs.Document.{document_of, reference_of}
+use Rattle.fs_path.specs.Refusal.{rule_of}
+use Rattle.fs_path.specs.declared.error.PathError.{PathError}
+use Rattle.fs_path.specs.declared.name.DocName.{DocName}
+use Rattle.fs_path.specs.declared.name.Root.{Root}
+use Rattle.fs_path.specs.declared.place.Rule.{Rule}
+use Rattle.fs_path.specs.declared.place.Rule.TheVariants.{G}
+use Rattle.serde_json.specs.Data.{Data}
+use Rattle.serde_json.specs.Find.{as_str}
+use Rattle.fs_json.specs.Answer.{or_fault, ◌>>=◌}
+use Rattle.fs_json.specs.declared.bad.Bad.{Bad}
+use Rattle.fs_json.specs.declared.bad.Bad.TheVariants.{At, Memory}
+
+-- the rule at the place, where one is broken
+abbrev pub rule_at : List ℕ → Option Rule → Bad
+rule_at place (Some rule) = At rule place
+rule_at place None = Memory alloc_error
+
+-- what was read of a path's text, or the rule of paths that is broken
+abbrev pub path_at : {A : Type 0} → List ℕ → Result A PathError → Result A Bad
+path_at place (Ok x) = Ok x
+path_at place (Err e) = Err (rule_at place (rule_of e))
+
+-- the name of a document of any project and database
+abbrev pub reference_at : Data → List ℕ → Result DocName Bad
+reference_at d place = or_fault G place (as_str d) >>= λ text. path_at place (reference_of text)
+
+-- the name of a document of this root
+abbrev pub document_name_at : Root → Data → List ℕ → Result DocName Bad
+document_name_at root d place = or_fault G place (as_str d) >>= λ text. path_at place (document_of root text)

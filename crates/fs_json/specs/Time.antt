@@ -1,0 +1,25 @@
+-- Times in JSON: strings of RFC 3339 (proto3 JSON: `google.protobuf.Timestamp`).
+use Rattle.std.specs.Prelude.{ℕ, ℤ, List, Result, Ok, Err}
+use Rattle.fs_path.specs.declared.place.Rule.TheVariants.{G, T}
+use Rattle.fs_time.specs.Rfc3339.{time_of, time_text}
+use Rattle.fs_time.specs.declared.error.TimeError.{TimeError}
+use Rattle.fs_time.specs.declared.error.TimeError.TheVariants.{BadText, OutOfRange, Memory as NoMemory}
+use Rattle.serde_json.specs.Data.{Data, string}
+use Rattle.serde_json.specs.Find.{as_str}
+use Rattle.fs_json.specs.Answer.{or_fault, ◌>>=◌}
+use Rattle.fs_json.specs.declared.bad.Bad.{Bad}
+use Rattle.fs_json.specs.declared.bad.Bad.TheVariants.{At, Memory}
+
+-- what was read of a time's text, or the rule of times that is broken: 1 for a text that is no time, 2 out of range
+abbrev pub moment_at : List ℕ → Result ℤ TimeError → Result ℤ Bad
+moment_at place (Ok z) = Ok z
+moment_at place (Err BadText) = Err (At (T 1) place)
+moment_at place (Err OutOfRange) = Err (At (T 2) place)
+moment_at place (Err (NoMemory e)) = Err (Memory e)
+
+abbrev pub time_at : Data → List ℕ → Result ℤ Bad
+time_at d place = or_fault G place (as_str d) >>= λ text. moment_at place (time_of text)
+
+-- a time as it is written
+abbrev pub time_json : ℤ → Data
+time_json z = string (time_text z)

@@ -1,0 +1,21 @@
+//! The pieces of the JSON of Firestore's requests and answers, each read with the place where it stands.
+#![tactic(auto)]
+
+mod bad;
+mod binary;
+mod members;
+mod names;
+mod paths;
+mod scalars;
+#[cfg(test)]
+mod tests;
+mod times;
+mod write;
+
+pub use bad::Bad;
+pub use binary::{base64_forms, bytes};
+pub use members::{at_most_one_of, member, one_of, only, required};
+pub use paths::{document_name, reference, unless_refused};
+pub use scalars::{integer, list, small, text, truth};
+pub use times::{time, write_time};
+pub use write::{write_bytes, write_integer, write_text};

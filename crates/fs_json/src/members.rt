@@ -1,0 +1,263 @@
+ghost use Rattle.std.specs.Prelude.{◌≡◌, ℕ, List, Option, map, None, option_map, IfSome, if◌then◌else◌};
+ghost use Rattle.std.specs.List.{list_any};
+ghost use Rattle.fs_json.specs.Names.{snake_of, spells};
+ghost use Rattle.serde_json.specs.Data.{Data};
+ghost use Rattle.serde_json.specs.View.{view, members_view};
+ghost use Rattle.serde_json.specs.Find.{get_member};
+ghost use Rattle.fs_json.specs.Answer.{Gives};
+ghost use Rattle.fs_json.specs.Members.{at_most_one_at, chosen, first_twice, first_unknown, given_at, is_given, is_second, member_at, name_of, none_or_one, one_of_at, only_at, required_at};
+
+use crate::bad::Bad;
+use crate::names::{is_snake, spells};
+use fs_path::{Place, Rule};
+use serde_json::{Map, Value};
+use std::alloc::Global;
+
+/// The member of this name, which is given in lowerCamelCase and may stand in snake_case too. One whose value is null
+/// counts as absent, but for `nullValue`. Both spellings together are refused at the second.
+pub fn member<'a>(
+    alloc: Global,
+    v: &'a Value,
+    name: &str,
+    place: &Place,
+) -> Result<Option<&'a Value>, Bad>
+    ensures { Gives (λ found. option_map (λ x. view x.now) found) result
+        (member_at name.now (view v.now) place.now) }
+{
+    let Value::Object(members) = v else {
+        return Ok(None);
+    };
+    let first = given_at(members, name);
+    if is_snake(name.as_bytes(), name.as_bytes()) {
+        return Ok(first);
+    }
+    match (first, given_in_snake_case(members, name)) {
+        (Some(_), Some((key, _))) => Err(Bad::At(Rule::G, place.member(alloc, key)?)),
+        (Some(found), None) => Ok(Some(found)),
+        (None, Some((_, found))) => Ok(Some(found)),
+        (None, None) => Ok(None),
+    }
+}
+
+/// The member of this name, which has to be there. Where it is absent, its own place is at fault.
+pub fn required<'a>(
+    alloc: Global,
+    v: &'a Value,
+    name: &str,
+    place: &Place,
+) -> Result<&'a Value, Bad>
+    ensures { Gives (λ found. view found.now) result
+        (required_at name.now (view v.now) place.now) }
+{
+    match member(alloc, v, name, place)? {
+        Some(found) => Ok(found),
+        None => Err(Bad::At(Rule::G, place.member(alloc, name)?)),
+    }
+}
+
+/// The one member that is there of these names, by its name. Where none is there, or more than one, the object is at
+/// fault.
+pub fn one_of<'a, 'n>(
+    alloc: Global,
+    v: &'a Value,
+    names: &[&'n str],
+    place: &Place,
+) -> Result<(&'n str, &'a Value), Bad>
+    ensures { Gives {Y = List ℕ × Data} (λ one. (one.0.now, view one.1.now)) result
+        (one_of_at (map (λ n. n.now) names.now) (view v.now) place.now) }
+{
+    match at_most_one_of(alloc, v, names, place)? {
+        Some(one) => Ok(one),
+        None => Err(Bad::At(Rule::G, place.copy(alloc)?)),
+    }
+}
+
+/// The member that is there of these names, by its name, if any is. Where more than one is there, the object is at
+/// fault.
+pub fn at_most_one_of<'a, 'n>(
+    alloc: Global,
+    v: &'a Value,
+    names: &[&'n str],
+    place: &Place,
+) -> Result<Option<(&'n str, &'a Value)>, Bad>
+    ensures { Gives {Y = Option (List ℕ × Data)}
+        (λ found. option_map (λ one. (one.0.now, view one.1.now)) found) result
+        (at_most_one_at (map (λ n. n.now) names.now) (view v.now) place.now) }
+{
+    if let Value::Object(members) = v
+        && let Some(found) = chosen(members, names)
+    {
+        return Ok(found);
+    }
+    Err(Bad::At(Rule::G, place.copy(alloc)?))
+}
+
+/// Refuses a value that isn't an object, a member of none of these names, and a member that is given in both spellings.
+pub fn only(alloc: Global, v: &Value, names: &[&str], place: &Place) -> Result<(), Bad>
+    ensures { Gives (λ u. u) result (only_at (map (λ n. n.now) names.now) (view v.now) place.now) }
+{
+    let Value::Object(members) = v else {
+        return Err(Bad::At(Rule::G, place.copy(alloc)?));
+    };
+    match first_unknown(members, names).or(first_twice(members, names)) {
+        Some(key) => Err(Bad::At(Rule::G, place.member(alloc, key)?)),
+        None => Ok(()),
+    }
+}
+
+/// Whether a member counts as there.
+fn is_given(key: &str, v: &Value) -> bool
+    ensures { result ≡ is_given key.now (view v.now) }
+{
+    match v {
+        Value::Null => spells("nullValue", key),
+        _ => true,
+    }
+}
+
+/// The member under this very key, if it counts as there.
+fn given_at<'a>(members: &'a Map<String, Value>, key: &str) -> Option<&'a Value>
+    ensures { option_map (λ x. view x.now) result
+        ≡ given_at key.now (members_view members.now.entries) }
+{
+    match found_at(members, key) {
+        Some(v) => if is_given(key, v) { Some(v) } else { None },
+        None => None,
+    }
+}
+
+fn found_at<'a>(members: &'a Map<String, Value>, key: &str) -> Option<&'a Value>
+    ensures { option_map (λ x. view x.now) result
+        ≡ get_member key.now (members_view members.now.entries) }
+{
+    members.get(key)
+}
+
+/// The member in snake_case, if it counts as there, with its key.
+fn given_in_snake_case<'a>(
+    members: &'a Map<String, Value>,
+    name: &str,
+) -> Option<(&'a str, &'a Value)>
+    ensures value { option_map (λ x. view x.1.now) result
+        ≡ given_at (snake_of name.now) (members_view members.now.entries) }
+    ensures key { IfSome result (λ x. x.0.now ≡ snake_of name.now) }
+{
+    match found_in_snake_case(members, name) {
+        Some((key, v)) => if is_given(key, v) {
+            Some((key, v))
+        } else {
+            None
+        },
+        None => None,
+    }
+}
+
+fn found_in_snake_case<'a>(
+    members: &'a Map<String, Value>,
+    name: &str,
+) -> Option<(&'a str, &'a Value)>
+    ensures value { option_map (λ x. view x.1.now) result
+        ≡ get_member (snake_of name.now) (members_view members.now.entries) }
+    ensures key { IfSome result (λ x. x.0.now ≡ snake_of name.now) }
+{
+    for (key, v) in members.iter() {
+        if is_snake(name.as_bytes(), key.as_bytes()) {
+            return Some((key.as_str(), v));
+        }
+    }
+    None
+}
+
+fn first_unknown<'a>(members: &'a Map<String, Value>, names: &[&str]) -> Option<&'a str>
+    ensures { option_map (λ key. key.now) result
+        ≡ first_unknown (map (λ n. n.now) names.now) (members_view members.now.entries) }
+{
+    for (key, _) in members.iter() {
+        if !is_known(names, key.as_str()) {
+            return Some(key.as_str());
+        }
+    }
+    None
+}
+
+fn is_known(names: &[&str], key: &str) -> bool
+    ensures { result ≡ list_any (λ name. spells name key.now) (map (λ n. n.now) names.now) }
+{
+    for name in names {
+        if spells(name, key) {
+            return true;
+        }
+    }
+    false
+}
+
+fn first_twice<'a>(members: &'a Map<String, Value>, names: &[&str]) -> Option<&'a str>
+    ensures { let all = members_view members.now.entries in
+        option_map (λ key. key.now) result ≡ first_twice (map (λ n. n.now) names.now) all all }
+{
+    for (key, v) in members.iter() {
+        if is_given(key.as_str(), v) && is_second(members, names, key.as_str()) {
+            return Some(key.as_str());
+        }
+    }
+    None
+}
+
+fn is_second(members: &Map<String, Value>, names: &[&str], key: &str) -> bool
+    ensures { result ≡ is_second (map (λ n. n.now) names.now) (members_view members.now.entries) key.now }
+{
+    for name in names {
+        if is_snake(name.as_bytes(), key.as_bytes())
+            && *name != key
+            && given_at(members, name).is_some()
+        {
+            return true;
+        }
+    }
+    false
+}
+
+// `None` where more than one is there.
+fn chosen<'a, 'n>(
+    members: &'a Map<String, Value>,
+    names: &[&'n str],
+) -> Option<Option<(&'n str, &'a Value)>>
+    ensures { option_map {U = Option (List ℕ × Data)}
+        (λ found. option_map (λ one. (one.0.now, view one.1.now)) found) result
+        ≡ none_or_one (chosen (map (λ n. n.now) names.now) (members_view members.now.entries)) }
+{
+    let mut found = None;
+    for (key, v) in members.iter() {
+        if let Some(name) = chosen_by(names, key.as_str(), v) {
+            if found.is_some() {
+                return None;
+            }
+            found = Some((name, v));
+        }
+    }
+    Some(found)
+}
+
+/// The name that the key spells, if the member counts as there.
+fn chosen_by<'n>(names: &[&'n str], key: &str, v: &Value) -> Option<&'n str>
+    ensures { option_map (λ name. name.now) result
+        ≡ (if is_given key.now (view v.now) then name_of (map (λ n. n.now) names.now) key.now else None) }
+{
+    if is_given(key, v) {
+        name_of(names, key)
+    } else {
+        None
+    }
+}
+
+fn name_of<'n>(names: &[&'n str], key: &str) -> Option<&'n str>
+    ensures { option_map (λ name. name.now) result
+        ≡ name_of (map (λ n. n.now) names.now) key.now }
+{
+    for name in names {
+        if spells(name, key) {
+            return Some(*name);
+        }
+    }
+    None
+}

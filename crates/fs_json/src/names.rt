@@ -1,0 +1,31 @@
+ghost use Rattle.std.specs.Prelude.{◌≡◌, map};
+ghost use Rattle.std.specs.List.{list_any};
+ghost use Rattle.std.specs.Str.{bytes_eq};
+ghost use Rattle.fs_json.specs.Names.{snake_of, spells};
+
+/// Whether the key is one of the two spellings of the name.
+pub(crate) fn spells(name: &str, key: &str) -> bool
+    ensures { result ≡ spells name.now key.now }
+{
+    name == key || is_snake(name.as_bytes(), key.as_bytes())
+}
+
+/// Whether the key is the snake_case spelling of the name.
+pub(crate) fn is_snake(name: &[u8], key: &[u8]) -> bool
+    ensures { result ≡ bytes_eq (snake_of name.now) key.now }
+{
+    match name {
+        [] => key.is_empty(),
+        [c, name @ ..] => if c.is_ascii_uppercase() {
+            match key {
+                [b'_', k, key @ ..] => *k == *c + 32 && is_snake(name, key),
+                _ => false,
+            }
+        } else {
+            match key {
+                [k, key @ ..] => k == c && is_snake(name, key),
+                _ => false,
+            }
+        },
+    }
+}
