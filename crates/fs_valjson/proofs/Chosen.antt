@@ -1,0 +1,102 @@
+-- The walk over an object's members, beside the look-up of the one that is there.
+use Rattle.std.proofs.Common.{◌≡◌, ℕ, List, [], ◌∷◌, ◌++◌, map, Bool, true, false, Option, Some, None, option_map, codes, Result, Ok, Err, refl, sym, ap, ◌∙◌, bytes_eq, cond}
+use Rattle.std.specs.Option.{option_to_list, option_map_or}
+use mathlib.Core.List.{map-append}
+use Rattle.std.proofs.lemmas.Slice.Eq.{bytes_eq-Decides}
+use Rattle.fs_path.specs.Place.{member_place}
+use Rattle.fs_path.specs.declared.place.Rule.TheVariants.{G}
+use Rattle.serde_json.specs.Data as json
+use Rattle.fs_json.specs.Answer.{or_fault, ◌>>=◌}
+use Rattle.fs_json.specs.Members.{at_most_one_at, chosen, if_chosen, is_given, name_of, none_or_one, one_of_at, only_at}
+use Rattle.fs_json.specs.declared.bad.Bad.{Bad}
+use Rattle.fs_json.specs.declared.bad.Bad.TheVariants.{At}
+use Rattle.fs_valjson.specs.Reading.{kinds, in_array, in_map, the_one, plain_at, value_at, kinds_in, kind_at, lists_in, list_at, maps_in, fields_at}
+use Rattle.fs_valjson.specs.Steps.{array_at, content_at, map_at}
+
+map-made : {A B C : Type 0} (f : B → C) (g : A → B) (o : Option A) → map f (option_to_list (option_map g o)) ≡ option_to_list (option_map (λ x. f (g x)) o)
+map-made f g None = refl
+map-made f g (Some x) = refl
+
+-- a walk that reads the members that are chosen
+one_more : {A : Type 0} (names : List (List ℕ)) (f : List ℕ × json.Data → A) (k : List ℕ) (d : json.Data) (ms : json.Members) (rest : List A)
+    → rest ≡ map f (chosen names ms) → if_chosen names (λ name. f (name, d)) k d ++ rest ≡ map f (chosen names (json.member k d ms))
+one_more names f k d ms rest e =
+    ap (λ r. if_chosen names (λ name. f (name, d)) k d ++ r) e
+    ∙ ap (λ front. front ++ map f (chosen names ms)) (sym (map-made f (λ name. (name, d)) (cond (is_given k d) (name_of names k) None)))
+    ∙ sym (map-append f (if_chosen names (λ name. (name, d)) k d) (chosen names ms))
+
+lists_in-chosen : (ms : json.Members) (place : List ℕ) → lists_in ms place ≡ map (λ one. list_at one.1 (member_place place one.0)) (chosen in_array ms)
+lists_in-chosen json.no_members place = refl
+lists_in-chosen (json.member k d ms) place = one_more in_array (λ one. list_at one.1 (member_place place one.0)) k d ms _ (lists_in-chosen ms place)
+
+maps_in-chosen : (ms : json.Members) (place : List ℕ) → maps_in ms place ≡ map (λ one. fields_at one.1 (member_place place one.0)) (chosen in_map ms)
+maps_in-chosen json.no_members place = refl
+maps_in-chosen (json.member k d ms) place = one_more in_map (λ one. fields_at one.1 (member_place place one.0)) k d ms _ (maps_in-chosen ms place)
+
+-- one of the readings, beside the reading of the one
+the_one-map : {A X : Type 0} (f : X → Result A Bad) (place : List ℕ) (absent : Result A Bad) (xs : List X)
+    → the_one place absent (map f xs) ≡ or_fault G place (none_or_one xs) >>= λ found. option_map_or f found absent
+the_one-map f place absent [] = refl
+the_one-map f place absent (x ∷ []) = refl
+the_one-map f place absent (x ∷ y ∷ rest) = refl
+
+in_array_at : (ms : json.Members) (place : List ℕ)
+    → (only_at in_array (json.object ms) place >>= λ _. the_one place (Ok []) (lists_in ms place)) ≡ array_at (json.object ms) place
+in_array_at ms place =
+    ap (λ r. only_at in_array (json.object ms) place >>= λ _. r)
+    (ap (the_one place (Ok [])) (lists_in-chosen ms place)
+    ∙ the_one-map (λ one. list_at one.1 (member_place place one.0)) place (Ok []) (chosen in_array ms))
+
+in_map_at : (ms : json.Members) (place : List ℕ)
+    → (only_at in_map (json.object ms) place >>= λ _. the_one place (Ok []) (maps_in ms place)) ≡ map_at (json.object ms) place
+in_map_at ms place =
+    ap (λ r. only_at in_map (json.object ms) place >>= λ _. r)
+    (ap (the_one place (Ok [])) (maps_in-chosen ms place)
+    ∙ the_one-map (λ one. fields_at one.1 (member_place place one.0)) place (Ok []) (chosen in_map ms))
+
+plain_at-array : (name : List ℕ) (d : json.Data) (place : List ℕ) → bytes_eq name (codes "arrayValue") ≡ true → plain_at name d place ≡ Err (At G place)
+plain_at-array name d place is = let same : name ≡ codes "arrayValue" = (bytes_eq-Decides _ _).0 is in rw same refl
+
+plain_at-map : (name : List ℕ) (d : json.Data) (place : List ℕ) → bytes_eq name (codes "mapValue") ≡ true → plain_at name d place ≡ Err (At G place)
+plain_at-map name d place is = let same : name ≡ codes "mapValue" = (bytes_eq-Decides _ _).0 is in rw same refl
+
+-- a choice that makes no difference
+needless : {A : Type 0} (b c : Bool) (x y z : A) → (b ≡ true → x ≡ y) → (c ≡ true → x ≡ z) → x ≡ cond b y (cond c z x)
+needless true c x y z e f = e refl
+needless false true x y z e f = f refl
+needless false false x y z e f = refl
+
+kind_at-content : (d : json.Data) (name place : List ℕ) → kind_at d name place ≡ content_at name d place
+kind_at-content json.null name place = needless _ _ _ _ _ (plain_at-array name json.null place) (plain_at-map name json.null place)
+kind_at-content (json.boolean b) name place = needless _ _ _ _ _ (plain_at-array name (json.boolean b) place) (plain_at-map name (json.boolean b) place)
+kind_at-content (json.number n) name place = needless _ _ _ _ _ (plain_at-array name (json.number n) place) (plain_at-map name (json.number n) place)
+kind_at-content (json.string s) name place = needless _ _ _ _ _ (plain_at-array name (json.string s) place) (plain_at-map name (json.string s) place)
+kind_at-content (json.array ds) name place = needless _ _ _ _ _ (plain_at-array name (json.array ds) place) (plain_at-map name (json.array ds) place)
+kind_at-content (json.object ms) name place = rw (in_array_at ms place, in_map_at ms place) refl
+
+kinds_in-chosen : (ms : json.Members) (place : List ℕ) → kinds_in ms place ≡ map (λ one. content_at one.0 one.1 (member_place place one.0)) (chosen kinds ms)
+kinds_in-chosen json.no_members place = refl
+kinds_in-chosen (json.member k d ms) place =
+    let content : (λ name. kind_at d name (member_place place name)) ≡ (λ name. content_at name d (member_place place name)) = λ i name. kind_at-content d name (member_place place name) i in
+    ap (λ f. if_chosen kinds f k d ++ kinds_in ms place) content
+    ∙ one_more kinds (λ one. content_at one.0 one.1 (member_place place one.0)) k d ms _ (kinds_in-chosen ms place)
+
+one_or_fault : {A X : Type 0} (f : X → Result A Bad) (place : List ℕ) (read : Result (Option X) Bad)
+    → (read >>= λ found. option_map_or f found (Err (At G place))) ≡ ((read >>= or_fault G place) >>= f)
+one_or_fault f place (Ok None) = refl
+one_or_fault f place (Ok (Some x)) = refl
+one_or_fault f place (Err bad) = refl
+
+-- a value is read in three steps
+pub value_at-steps : (d : json.Data) (place : List ℕ)
+    → value_at d place ≡ only_at kinds d place >>= λ _. one_of_at kinds d place >>= λ one. content_at one.0 one.1 (member_place place one.0)
+value_at-steps json.null place = refl
+value_at-steps (json.boolean b) place = refl
+value_at-steps (json.number n) place = refl
+value_at-steps (json.string s) place = refl
+value_at-steps (json.array ds) place = refl
+value_at-steps (json.object ms) place =
+    ap (λ r. only_at kinds (json.object ms) place >>= λ _. r)
+    (ap (the_one place (Err (At G place))) (kinds_in-chosen ms place)
+    ∙ the_one-map (λ one. content_at one.0 one.1 (member_place place one.0)) place (Err (At G place)) (chosen kinds ms)
+    ∙ one_or_fault (λ one. content_at one.0 one.1 (member_place place one.0)) place (at_most_one_at kinds (json.object ms) place))

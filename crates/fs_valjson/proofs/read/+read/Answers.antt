@@ -1,0 +1,91 @@
+use Rattle.std.proofs.Common.{◌≡◌, ◌+◌, [], ◌∷◌, ◌++◌, Ok, Some, drop, string_bytes, sym, ap, ◌∙◌, subst, arith, rules, append_assoc}
+use Rattle.std.proofs.lemmas.List.{drop_more}
+use Rattle.std.specs.List.Sorted.{IsStrictlySortedBy}
+use Rattle.std.specs.Map.{keys_of}
+use Rattle.std.specs.String.{string_cmp}
+use Rattle.serde_json.specs.Data.{members_depth}
+use Rattle.serde_json.specs.View.{view as json, items_view, members_view}
+use Rattle.serde_json.proofs.Views.{Entry}
+use Rattle.fs_path.specs.Place.{item_place, member_place}
+use Rattle.fs_value.specs.View.{view}
+use Rattle.fs_json.specs.Members.{at_most_one_at, one_of_at}
+use Rattle.fs_valjson.specs.Reading.{kinds, in_array, in_map, value_at, items_at, entries_at}
+use Rattle.fs_valjson.proofs.Chosen.{value_at-steps}
+use Rattle.fs_valjson.proofs.Depths.{at_most_one_falls, one_of_falls, item_falls, entry_falls}
+use Rattle.fs_valjson.proofs.Lists.{behind, next_item, next_entry}
+use Rattle.fs_valjson.proofs.Rising.{one_more_key, rising_front}
+use Rattle.fs_valjson.proofs.read.+read.Goals as goal
+
+pub read_value-read_kind-requires : goal.read_value-read_kind-requires
+read_value-read_kind-requires t c =
+    let found : one_of_at kinds (json c.args.v.now) c.args.place.now ≡ Ok (c.in_ok-name.name.now, json c.in_ok-name.content.now) = search rules in
+    (omega (arith, one_of_falls kinds (json c.args.v.now) c.args.place.now _ found), tt)
+
+pub read_value-returns-in_err-name : goal.read_value-returns-in_err-name
+read_value-returns-in_err-name t c = rw (value_at-steps (json c.args.v.now) c.args.place.now) (search rules)
+
+pub read_value-returns : goal.read_value-returns
+read_value-returns t c = rw (value_at-steps (json c.args.v.now) c.args.place.now) (search rules)
+
+pub read_array-read_list-requires : goal.read_array-read_list-requires
+read_array-read_list-requires t c =
+    let found : at_most_one_at in_array (json c.args.v.now) c.args.place.now ≡ Ok (Some (c.in-Some.name.now, json c.in-Some.content.now)) = search rules in
+    (omega (arith, at_most_one_falls in_array (json c.args.v.now) c.args.place.now _ found), tt)
+
+pub read_map-read_fields-requires : goal.read_map-read_fields-requires
+read_map-read_fields-requires t c =
+    let found : at_most_one_at in_map (json c.args.v.now) c.args.place.now ≡ Ok (Some (c.in-Some.name.now, json c.in-Some.content.now)) = search rules in
+    (omega (arith, at_most_one_falls in_map (json c.args.v.now) c.args.place.now _ found), tt)
+
+pub read_items-read_value-requires : goal.read_items-read_value-requires
+read_items-read_value-requires t c =
+    (omega (arith, item_falls c.args.items.now c.loop-i.i c.index-items-i.result c.index-items-i.is c.loop-i-test.true), tt)
+
+pub read_items-loop-i-preserved : goal.read_items-loop-i-preserved
+read_items-loop-i-preserved t c =
+    let items = c.args.items.now in
+    let place = c.args.place.now in
+    let i = c.loop-i.i in
+    let x = c.index-items-i.result in
+    let here : drop i items ≡ x ∷ drop (i + 1) items = drop_more items i x (omega arith) ∙ ap (λ y. y ∷ drop (i + 1) items) (sym c.index-items-i.is) in
+    let read : value_at (json x) (item_place place i) ≡ Ok (view c.in_ok-value.value) = search rules in
+    let step = next_item c.loop-i.values (json x) (items_view (drop (i + 1) items)) i place (view c.in_ok-value.value) read in
+    rw c.in_ok-push.ensures.ok (sym step ∙ ap (λ ys. behind c.loop-i.values (items_at (items_view ys) i place)) (sym here) ∙ c.loop-i.invariant)
+
+-- this turn's member, and those after it
+pub read_entries-read_value-requires : goal.read_entries-read_value-requires
+read_entries-read_value-requires t c =
+    let done = c.loop-key.invariant.done in
+    let e : Entry = (c.in-Some.key.now, c.in-Some.content.now) in
+    let left = c.next.new.self in
+    let all : c.args.members.now.entries ≡ done ++ e ∷ left = c.loop-key.invariant.whole ∙ ap (λ es. done ++ es) c.in-Some.ensures.steps in
+    (omega (arith, entry_falls done e left, ap (λ es. members_depth (members_view es)) all), tt)
+
+pub read_entries-push_last-requires : goal.read_entries-push_last-requires
+read_entries-push_last-requires t c =
+    let done = c.loop-key.invariant.done in
+    let e : Entry = (c.in-Some.key.now, c.in-Some.content.now) in
+    let left = c.next.new.self in
+    let all : c.args.members.now.entries ≡ (done ++ e ∷ []) ++ left =
+    c.loop-key.invariant.whole ∙ ap (λ es. done ++ es) c.in-Some.ensures.steps ∙ sym (append_assoc done (e ∷ []) left) in
+    let named : c.in_ok-key.key ≡ string_bytes e.0 = search rules in
+    rising_front _ (done ++ e ∷ []) left (one_more_key c.loop-key.fields done c.in_ok-key.key (view c.in_ok-value.value) e c.loop-key.invariant.keys named)
+    (subst (λ es. IsStrictlySortedBy string_cmp (keys_of es)) all c.iter-key-items.ensures.ordered)
+
+pub read_entries-loop-key-preserved : goal.read_entries-loop-key-preserved
+read_entries-loop-key-preserved t c =
+    let l = c.loop-key in
+    let done = l.invariant.done in
+    let e : Entry = (c.in-Some.key.now, c.in-Some.content.now) in
+    let left = c.next.new.self in
+    let place = c.args.place.now in
+    let pushed = c.in_ok-push_last.ensures.ok in
+    let named : c.in_ok-key.key ≡ string_bytes e.0 = search rules in
+    let read : value_at (json e.1) (member_place place (string_bytes e.0)) ≡ Ok (view c.in_ok-value.value) = search rules in
+    let step = next_entry l.fields (string_bytes e.0) (json e.1) (members_view left) place (view c.in_ok-value.value) read in
+    record {
+      done = done ++ e ∷ [];
+      whole = l.invariant.whole ∙ ap (λ es. done ++ es) c.in-Some.ensures.steps ∙ sym (append_assoc done (e ∷ []) left);
+      keys = rw pushed (one_more_key l.fields done c.in_ok-key.key (view c.in_ok-value.value) e l.invariant.keys named);
+      reading = rw (pushed, named) (sym step ∙ ap (λ es. behind l.fields (entries_at (members_view es) place)) (sym c.in-Some.ensures.steps) ∙ l.invariant.reading);
+    }

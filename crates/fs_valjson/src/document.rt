@@ -1,0 +1,112 @@
+ghost use Rattle.std.specs.Prelude.{◌≡◌, ℕ, List, false, Ok, IfOk, OnOk};
+ghost use Rattle.fs_path.specs.Document.{IsDocumentOf};
+ghost use Rattle.fs_path.specs.declared.name.Root.{Root};
+ghost use Rattle.fs_value.specs.Data.{members_of};
+ghost use Rattle.serde_json.specs.Written.{has_float};
+ghost use Rattle.serde_json.specs.View.{view as json, members_view};
+ghost use Rattle.fs_json.specs.Answer.{Gives};
+ghost use Rattle.fs_valjson.specs.Document.{document_at, document_json, fields_in, time_in, with_fields_put};
+ghost use Rattle.fs_valjson.specs.Writing.{MembersHaveNames};
+
+use crate::read::read_fields;
+use crate::write::write_members;
+use fs_json::{Bad, document_name, member, only, required, time, write_time};
+use fs_path::{Place, Root, print_document};
+use fs_time::Micros;
+use fs_value::{Document, Fields};
+use serde_json::{Map, Value};
+use std::alloc::{AllocError, Global};
+
+/// Reads a document of this root. Fields that are absent are none, and a time that is absent is 1970-01-01T00:00:00Z,
+/// as `google.protobuf.Timestamp` has it: a document in a write has no times.
+#[tactic(auto, unfolding(crate::specs::Document::document_at))]
+pub fn read_document(alloc: Global, root: &Root, v: &Value, place: &Place) -> Result<Document, Bad>
+    ensures { Gives (λ d. d) result (document_at root.now (json v.now) place.now) }
+{
+    only(
+        alloc,
+        v,
+        &["name", "fields", "createTime", "updateTime"],
+        place,
+    )?;
+    let name = required(alloc, v, "name", place)?;
+    let name = document_name(alloc, root, name, &place.member(alloc, "name")?)?;
+    let fields = fields_in(alloc, v, place)?;
+    let created = time_in(alloc, v, "createTime", place)?;
+    let updated = time_in(alloc, v, "updateTime", place)?;
+    Ok(Document {
+        name,
+        fields,
+        created,
+        updated,
+    })
+}
+
+fn fields_in(alloc: Global, v: &Value, place: &Place) -> Result<Fields, Bad>
+    ensures { Gives (λ fs. fs) result (fields_in (json v.now) place.now) }
+{
+    match member(alloc, v, "fields", place)? {
+        Some(fields) => {
+            let inside = place.member(alloc, "fields")?;
+            read_fields(alloc, fields, &inside)
+        }
+        None => Ok(Fields::new(alloc)),
+    }
+}
+
+fn time_in(alloc: Global, v: &Value, name: &str, place: &Place) -> Result<Micros, Bad>
+    ensures { Gives (λ t. t) result (time_in name.now (json v.now) place.now) }
+{
+    match member(alloc, v, name, place)? {
+        Some(moment) => {
+            let inside = place.member(alloc, name)?;
+            time(alloc, moment, &inside)
+        }
+        None => Ok(Micros::new(0).unwrap()),
+    }
+}
+
+/// Writes a document, with its two times. Fields that are none are left out.
+pub fn write_document(alloc: Global, d: &Document) -> Result<Value, AllocError>
+    ensures value { IfOk result (λ j. json j ≡ document_json d.now) }
+    ensures no_float { IfOk result (λ j. has_float (json j) ≡ false) }
+
+    // Where it is a document of the root, and its references are names of documents, it is read back as the same
+    // document, at any place.
+    ensures reads_back { IfOk result (λ j. (root : Root) (place : List ℕ) → IsDocumentOf root d.now.name
+        → MembersHaveNames (members_of d.now.fields) → document_at root (json j) place ≡ Ok d.now) }
+{
+    let mut members = Map::new(alloc);
+    serde_json::put(
+        &mut members,
+        alloc,
+        "createTime",
+        write_time(alloc, d.created)?,
+    )?;
+    let fields = write_members(alloc, &d.fields)?;
+    put_fields(alloc, &mut members, fields)?;
+    let name = print_document(alloc, &d.name)?.into_string();
+    serde_json::put(&mut members, alloc, "name", Value::String(name))?;
+    serde_json::put(
+        &mut members,
+        alloc,
+        "updateTime",
+        write_time(alloc, d.updated)?,
+    )?;
+    Ok(Value::Object(members))
+}
+
+/// Puts in the fields, where there are any.
+fn put_fields(
+    alloc: Global,
+    members: &mut Map<String, Value>,
+    fields: Map<String, Value>,
+) -> Result<(), AllocError>
+    ensures { OnOk result (members_view members.new.entries
+        ≡ with_fields_put (members_view fields.entries) (members_view members.old.entries)) }
+{
+    if fields.is_empty() {
+        return Ok(());
+    }
+    serde_json::put(members, alloc, "fields", Value::Object(fields))
+}

@@ -1,0 +1,12 @@
+//! The JSON of Firestore's values and documents, read and written.
+#![tactic(auto)]
+
+mod document;
+mod read;
+#[cfg(test)]
+mod tests;
+mod write;
+
+pub use document::{read_document, write_document};
+pub use read::{read_array, read_list, read_value};
+pub use write::write_value;

@@ -1,0 +1,130 @@
+ghost use Rattle.std.specs.Prelude.{◌≡◌, ℕ, List, false, Ok, IfOk, OnOk};
+ghost use Rattle.fs_path.specs.declared.place.Rule.TheVariants.{G};
+ghost use Rattle.fs_value.specs.Data.{items_of, members_of};
+ghost use Rattle.fs_value.specs.View.{view};
+ghost use Rattle.serde_json.specs.Written.{has_float};
+ghost use Rattle.serde_json.specs.View.{view as json, items_view, members_view};
+ghost use Rattle.fs_valjson.specs.Reading.{value_at};
+ghost use Rattle.fs_valjson.specs.Writing.{json_of, items_json, members_json, list_content, fields_content, with_one, HasNames, IsHeld, ItemsAreHeld, MembersAreHeld};
+
+use fs_json::{write_bytes, write_integer, write_text, write_time};
+use fs_path::print_document;
+use fs_value::{Fields, Value, Values};
+use serde_json::Map;
+use std::alloc::{AllocError, Global};
+
+/// Writes a value.
+pub fn write_value(alloc: Global, v: &Value) -> Result<serde_json::Value, AllocError>
+    ensures value { IfOk result (λ j. json j ≡ json_of (view v.now)) }
+
+    // It has no float, so what is printed of it is told byte for byte.
+    ensures no_float { IfOk result (λ j. has_float (json j) ≡ false) }
+
+    // Where its references are names of documents, it is read back as the same value, at any place.
+    ensures reads_back { IfOk result (λ j. (place : List ℕ) → HasNames (view v.now)
+        → value_at (json j) place ≡ Ok (view v.now)) }
+{
+    write(alloc, v)
+}
+
+#[cycle(write)]
+fn write(alloc: Global, v: &Value) -> Result<serde_json::Value, AllocError>
+    ensures value { IfOk result (λ j. json j ≡ json_of (view v.now)) }
+    ensures held { OnOk result (IsHeld (view v.now)) }
+{
+    match v {
+        Value::Null => with_one(alloc, "nullValue", serde_json::Value::Null),
+        Value::Boolean(b) => with_one(alloc, "booleanValue", serde_json::Value::Bool(*b)),
+        Value::Integer(n) => with_one(alloc, "integerValue", write_integer(alloc, *n)?),
+        Value::Timestamp(t) => with_one(alloc, "timestampValue", write_time(alloc, *t)?),
+        Value::String(text) => with_one(alloc, "stringValue", write_text(alloc, text)?),
+        Value::Bytes(bytes) => with_one(alloc, "bytesValue", write_bytes(alloc, bytes)?),
+        Value::Reference(name) => {
+            let text = print_document(alloc, name)?;
+            with_one(
+                alloc,
+                "referenceValue",
+                serde_json::Value::String(text.into_string()),
+            )
+        }
+        Value::Array(values) => with_one(alloc, "arrayValue", write_array(alloc, values)?),
+        Value::Map(fields) => with_one(alloc, "mapValue", write_map(alloc, fields)?),
+    }
+}
+
+#[cycle(write)]
+fn write_array(alloc: Global, values: &Values) -> Result<serde_json::Value, AllocError>
+    ensures value { IfOk result (λ j. json j ≡ list_content (items_json (items_of values.now))) }
+    ensures held { OnOk result (ItemsAreHeld (items_of values.now)) }
+{
+    let mut items = Vec::with_capacity(alloc, values.len())?;
+    for value in values.as_slice() {
+        items.push(write(alloc, value)?)?;
+    }
+    list_content(alloc, items)
+}
+
+#[cycle(write)]
+fn write_map(alloc: Global, fields: &Fields) -> Result<serde_json::Value, AllocError>
+    ensures value { IfOk result (λ j. json j ≡ fields_content (members_json (members_of fields.now))) }
+    ensures held { OnOk result (MembersAreHeld (members_of fields.now)) }
+{
+    let members = write_members(alloc, fields)?;
+    fields_content(alloc, members)
+}
+
+/// The members of an object that holds these fields.
+#[cycle(write)]
+pub(crate) fn write_members(
+    alloc: Global,
+    fields: &Fields,
+) -> Result<Map<String, serde_json::Value>, AllocError>
+    ensures value { IfOk result (λ m. members_view m.entries ≡ members_json (members_of fields.now)) }
+    ensures held { OnOk result (MembersAreHeld (members_of fields.now)) }
+{
+    let mut members = Map::new(alloc);
+    for field in fields.as_slice() {
+        let value = write(alloc, &field.value)?;
+        serde_json::put(&mut members, alloc, field.key.as_str(), value)?;
+    }
+    Ok(members)
+}
+
+/// The content of an array. An empty list is left out.
+fn list_content(
+    alloc: Global,
+    items: Vec<serde_json::Value>,
+) -> Result<serde_json::Value, AllocError>
+    ensures { IfOk result (λ j. json j ≡ list_content (items_view items.items)) }
+{
+    if items.is_empty() {
+        return Ok(serde_json::Value::Object(Map::new(alloc)));
+    }
+    with_one(alloc, "values", serde_json::Value::Array(items))
+}
+
+/// The content of a map. Empty fields are left out.
+fn fields_content(
+    alloc: Global,
+    members: Map<String, serde_json::Value>,
+) -> Result<serde_json::Value, AllocError>
+    ensures { IfOk result (λ j. json j ≡ fields_content (members_view members.entries)) }
+{
+    if members.is_empty() {
+        return Ok(serde_json::Value::Object(members));
+    }
+    with_one(alloc, "fields", serde_json::Value::Object(members))
+}
+
+/// An object of one member.
+fn with_one(
+    alloc: Global,
+    name: &str,
+    content: serde_json::Value,
+) -> Result<serde_json::Value, AllocError>
+    ensures { IfOk result (λ j. json j ≡ with_one name.now (json content)) }
+{
+    let mut members = Map::new(alloc);
+    serde_json::put(&mut members, alloc, name, content)?;
+    Ok(serde_json::Value::Object(members))
+}
