@@ -1,0 +1,174 @@
+-- What holds of all scripts.
+use Rattle.std.proofs.Common.{◌≡◌, ℕ, ◌+◌, ◌<◌, Bool, true, false, cond, eqb, List, [], ◌∷◌, ◌++◌, length, Option, Some, None, option_map, ℤ, pos, ◌+ℤ◌, refl, sym, ap, ◌∙◌, arith}
+use Rattle.std.proofs.lemmas.Cmp.{tied_itself}
+use Rattle.std.proofs.lemmas.List.{append-nil}
+use Rattle.std.proofs.lemmas.List.Splits.{length-slice_split}
+use Rattle.std.specs.Cmp.{Equal-is}
+use Rattle.std.specs.FinMap.{get, get-insert, get-remove}
+use Rattle.std.specs.List.{onto_first}
+use Rattle.std.specs.Ordering.{eq_by_cmp}
+use Rattle.fs_path.specs.NameOrder.{name_cmp, name_cmp_total}
+use Rattle.fs_path.specs.declared.name.DocName.{DocName}
+use Rattle.fs_value.specs.Data.{members_of, fields_of}
+use Rattle.fs_value.specs.DataLaws.{fields_of-members_of}
+use Rattle.fs_value.specs.ValueOrder.{members_same}
+use Rattle.fs_value.specs.declared.document.Document.{Document}
+use Rattle.fsemu.specs.Batch.{Docs, has_fields_of, updated_from, after_write, after_writes, after_commit, settled}
+use Rattle.fsemu.specs.Laws.{commits, is_commit, writes_of, asked_writes, is_written, is_written_in, after_lines}
+use Rattle.fsemu.specs.Line.{line_of}
+use Rattle.fsemu.specs.Step.{start, after_request, after_reading, after_line, line_output}
+use Rattle.fsemu.specs.Transcript.{lines_of, written, transcript}
+use Rattle.fsemu.specs.declared.request.Line.{Line}
+use Rattle.fsemu.specs.declared.request.Line.TheVariants as line
+use Rattle.fsemu.specs.declared.request.Request.{Request}
+use Rattle.fsemu.specs.declared.request.Request.TheVariants.{Commit, GetDocument, Broken, Unbuilt}
+use Rattle.fsemu.specs.declared.request.Update.{Update as Updated}
+use Rattle.fsemu.specs.declared.request.Write.{Write}
+use Rattle.fsemu.specs.declared.request.Write.TheVariants.{Update, Delete}
+use Rattle.fsemu.specs.declared.state.State.{State}
+use Rattle.fsemu.proofs.Settling.{get-after_commit, get-after_writes, neither, settled_same}
+
+-- ---- what changes nothing
+
+request_changes_nothing : (s : State) (r : Request) → commits r ≡ false → after_request s r ≡ s
+request_changes_nothing s (Commit writes) e = absurd (cc)
+request_changes_nothing s (GetDocument name) e = refl
+request_changes_nothing s (Broken rule place) e = refl
+request_changes_nothing s (Unbuilt name) e = refl
+
+reading_changes_nothing : (s : State) (l : Line) → is_commit l ≡ false → after_reading s l ≡ s
+reading_changes_nothing s line.Empty e = refl
+reading_changes_nothing s line.NotYet e = refl
+reading_changes_nothing s (line.Wrong rule place) e = refl
+reading_changes_nothing s (line.Asked asked) e = request_changes_nothing s asked.request e
+
+pub changes_nothing : (s : State) (bytes : List ℕ) → is_commit (line_of s.root bytes) ≡ false → after_line s bytes ≡ s
+unfolding after_line
+changes_nothing s bytes e = reading_changes_nothing s (line_of s.root bytes) e
+
+-- ---- each commit's time
+
+request_rises : (s : State) (r : Request) → commits r ≡ true → (after_request s r).last ≡ (s.last +ℤ pos 1)
+request_rises s (Commit writes) e = refl
+request_rises s (GetDocument name) e = absurd (cc)
+request_rises s (Broken rule place) e = absurd (cc)
+request_rises s (Unbuilt name) e = absurd (cc)
+
+reading_rises : (s : State) (l : Line) → is_commit l ≡ true → (after_reading s l).last ≡ (s.last +ℤ pos 1)
+reading_rises s line.Empty e = absurd (cc)
+reading_rises s line.NotYet e = absurd (cc)
+reading_rises s (line.Wrong rule place) e = absurd (cc)
+reading_rises s (line.Asked asked) e = request_rises s asked.request e
+
+pub time_rises : (s : State) (bytes : List ℕ) → is_commit (line_of s.root bytes) ≡ true → (after_line s bytes).last ≡ (s.last +ℤ pos 1)
+unfolding after_line
+time_rises s bytes e = reading_rises s (line_of s.root bytes) e
+
+-- ---- what isn't written stays
+
+request_keeps : (s : State) (r : Request) (n : DocName) → is_written n (writes_of r) ≡ false → get (after_request s r).documents n ≡ get s.documents n
+request_keeps s (Commit writes) n e =
+    let time = s.last +ℤ pos 1 in
+    get-after_commit s.documents writes time n
+    ∙ ap (settled (get s.documents n)) (get-after_writes s.documents writes time n e)
+    ∙ settled_same (get s.documents n)
+request_keeps s (GetDocument name) n e = refl
+request_keeps s (Broken rule place) n e = refl
+request_keeps s (Unbuilt name) n e = refl
+
+reading_keeps : (s : State) (l : Line) (n : DocName) → is_written n (asked_writes l) ≡ false → get (after_reading s l).documents n ≡ get s.documents n
+reading_keeps s line.Empty n e = refl
+reading_keeps s line.NotYet n e = refl
+reading_keeps s (line.Wrong rule place) n e = refl
+reading_keeps s (line.Asked asked) n e = request_keeps s asked.request n e
+
+line_keeps : (s : State) (bytes : List ℕ) (n : DocName) → is_written n (asked_writes (line_of s.root bytes)) ≡ false → get (after_line s bytes).documents n ≡ get s.documents n
+unfolding after_line
+line_keeps s bytes n e = reading_keeps s (line_of s.root bytes) n e
+
+pub lines_keep : (s : State) (lines : List (List ℕ)) (n : DocName) → is_written_in n s lines ≡ false → get (after_lines s lines).documents n ≡ get s.documents n
+lines_keep s [] n e = refl
+lines_keep s (bytes ∷ lines) n e =
+    let both = neither (is_written n (asked_writes (line_of s.root bytes))) (is_written_in n (after_line s bytes) lines) e in
+    lines_keep (after_line s bytes) lines n both.1 ∙ line_keeps s bytes n both.0
+
+-- ---- the last write of a name decides
+
+after_writes-split : (docs : Docs) (earlier later : List Write) (time : ℤ) → after_writes docs (earlier ++ later) time ≡ after_writes (after_writes docs earlier time) later time
+after_writes-split docs [] later time = refl
+after_writes-split docs (w ∷ earlier) later time = after_writes-split (after_write docs w time) earlier later time
+
+-- what the writes up to the last of a name leave of it, all of them leave
+get-last : (docs : Docs) (earlier : List Write) (write : Write) (later : List Write) (time : ℤ) (n : DocName) → is_written n later ≡ false
+    → get (after_commit docs (earlier ++ write ∷ later) time) n ≡ settled (get docs n) (get (after_write (after_writes docs earlier time) write time) n)
+get-last docs earlier write later time n e =
+    get-after_commit docs (earlier ++ write ∷ later) time n
+    ∙ ap (λ d. settled (get docs n) (get d n)) (after_writes-split docs earlier (write ∷ later) time)
+    ∙ ap (settled (get docs n)) (get-after_writes (after_write (after_writes docs earlier time) write time) later time n e)
+
+itself : (n : DocName) → eq_by_cmp name_cmp n n ≡ true
+itself n = (Equal-is _).1 (tied_itself name_cmp_total n)
+
+same_fields : (a b : Document) → has_fields_of a b ≡ true → a.fields ≡ b.fields
+same_fields a b t = sym (fields_of-members_of a.fields) ∙ ap fields_of (members_same _ _ ((Equal-is _).0 t)) ∙ fields_of-members_of b.fields
+
+chosen_fields : (b : Bool) (before after : Document) → has_fields_of before after ≡ b → (cond b before after).fields ≡ after.fields
+chosen_fields true before after e = same_fields before after e
+chosen_fields false before after e = refl
+
+updated_fields : (o : Option Document) (u : Updated) (time : ℤ) → (updated_from o u time).fields ≡ u.fields
+updated_fields None u time = refl
+updated_fields (Some before) u time = chosen_fields _ before (record { name = u.name; fields = u.fields; created = before.created; updated = time }) refl
+
+chosen_of : (b : Bool) (before after : Document) → has_fields_of before after ≡ b → option_map (λ (d : Document). d.fields) (cond b (Some before) (Some after)) ≡ Some after.fields
+chosen_of true before after e = ap Some (same_fields before after e)
+chosen_of false before after e = refl
+
+settled_fields : (o : Option Document) (after : Document) → option_map (λ (d : Document). d.fields) (settled o (Some after)) ≡ Some after.fields
+settled_fields None after = refl
+settled_fields (Some before) after = chosen_of _ before after refl
+
+pub last_update : (docs : Docs) (earlier : List Write) (u : Updated) (later : List Write) (time : ℤ) → is_written u.name later ≡ false
+    → option_map (λ (d : Document). d.fields) (get (after_commit docs (earlier ++ Update u ∷ later) time) u.name) ≡ Some u.fields
+last_update docs earlier u later time e =
+    let before = after_writes docs earlier time in
+    let d = updated_from (get before u.name) u time in
+    let there : get (after_write before (Update u) time) u.name ≡ Some d =
+    get-insert name_cmp_total before u.name d u.name ∙ ap (λ b. cond b (Some d) (get before u.name)) (itself u.name) in
+    ap (option_map (λ (x : Document). x.fields)) (get-last docs earlier (Update u) later time u.name e ∙ ap (settled (get docs u.name)) there)
+    ∙ settled_fields (get docs u.name) d
+    ∙ ap Some (updated_fields (get before u.name) u time)
+
+settled_none : (o : Option Document) → settled o None ≡ None
+settled_none None = refl
+settled_none (Some d) = refl
+
+pub last_delete : (docs : Docs) (earlier : List Write) (n : DocName) (later : List Write) (time : ℤ) → is_written n later ≡ false
+    → get (after_commit docs (earlier ++ Delete n ∷ later) time) n ≡ None
+last_delete docs earlier n later time e =
+    let before = after_writes docs earlier time in
+    let gone : get (after_write before (Delete n) time) n ≡ None =
+    get-remove name_cmp_total before n n ∙ ap (λ b. cond b None (get before n)) (itself n) in
+    get-last docs earlier (Delete n) later time n e ∙ ap (settled (get docs n)) gone ∙ settled_none (get docs n)
+
+-- ---- a last newline
+
+one_more : (x : ℕ) (b : Bool) (ls more : List (List ℕ)) → 0 < length ls → more ≡ ls ++ [] ∷ [] → cond b ([] ∷ more) (onto_first x more) ≡ cond b ([] ∷ ls) (onto_first x ls) ++ [] ∷ []
+one_more x true ls more some e = ap (λ l. [] ∷ l) e
+one_more x false [] more some e = absurd (omega (arith, some))
+one_more x false (l ∷ ls) more some e = ap (onto_first x) e
+
+lines_more : (text : List ℕ) → lines_of (text ++ 10 ∷ []) ≡ lines_of text ++ [] ∷ []
+lines_more [] = refl
+lines_more (x ∷ xs) = one_more x (eqb x 10) (lines_of xs) (lines_of (xs ++ 10 ∷ [])) (omega (arith, length-slice_split (λ b. eqb b 10) xs)) (lines_more xs)
+
+nothing_written : (s : State) (n : ℕ) → line_output s n [] ≡ []
+unfolding line_output
+nothing_written s n = refl
+
+written_more : (s : State) (n : ℕ) (lines : List (List ℕ)) → written s n (lines ++ [] ∷ []) ≡ written s n lines
+written_more s n [] = ap (λ t. t ++ []) (nothing_written s n)
+written_more s n (bytes ∷ lines) = ap (λ t. line_output s n bytes ++ t) (written_more (after_line s bytes) (n + 1) lines)
+
+pub last_newline : (script : List ℕ) → transcript (script ++ 10 ∷ []) ≡ transcript script
+last_newline script = ap (written start 1) (lines_more script) ∙ written_more start 1 (lines_of script)

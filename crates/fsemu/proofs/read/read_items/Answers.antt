@@ -1,0 +1,19 @@
+use Rattle.std.proofs.Common.{◌≡◌, ◌+◌, ◌∷◌, Ok, drop, sym, ap, ◌∙◌, arith, rules}
+use Rattle.std.proofs.lemmas.List.{drop_more}
+use Rattle.serde_json.specs.View.{view, items_view}
+use Rattle.fs_path.specs.Place.{item_place}
+use Rattle.fsemu.specs.Request.{write_at, writes_in}
+use Rattle.fsemu.proofs.Reading.{behind, next_write}
+use Rattle.fsemu.proofs.read.read_items.Goals as goal
+
+pub loop-i-preserved : goal.loop-i-preserved
+loop-i-preserved c =
+    let items = c.args.items.now in
+    let place = c.args.place.now in
+    let root = c.args.root.now in
+    let i = c.loop-i.i in
+    let x = c.index-items-i.result in
+    let here : drop i items ≡ x ∷ drop (i + 1) items = drop_more items i x (omega arith) ∙ ap (λ y. y ∷ drop (i + 1) items) (sym c.index-items-i.is) in
+    let read : write_at root (view x) (item_place place i) ≡ Ok c.in_ok-write.write = search rules in
+    let step = next_write root c.loop-i.writes (view x) (items_view (drop (i + 1) items)) i place c.in_ok-write.write read in
+    rw c.in_ok-push.ensures.ok (sym step ∙ ap (λ ys. behind c.loop-i.writes (writes_in root (items_view ys) i place)) (sym here) ∙ c.loop-i.invariant)

@@ -1,0 +1,55 @@
+-- What the laws of scripts speak of.
+use Rattle.std.specs.Prelude.{ℕ, Bool, true, false, ◌||◌, List, [], ◌∷◌}
+use Rattle.std.specs.Ordering.{eq_by_cmp}
+use Rattle.fs_path.specs.NameOrder.{name_cmp}
+use Rattle.fs_path.specs.declared.name.DocName.{DocName}
+use Rattle.fsemu.specs.Batch.{name_of}
+use Rattle.fsemu.specs.Line.{line_of}
+use Rattle.fsemu.specs.Step.{after_line}
+use Rattle.fsemu.specs.declared.request.Line.{Line}
+use Rattle.fsemu.specs.declared.request.Line.TheVariants as line
+use Rattle.fsemu.specs.declared.request.Request.{Request}
+use Rattle.fsemu.specs.declared.request.Request.TheVariants.{Commit, GetDocument, Broken, Unbuilt}
+use Rattle.fsemu.specs.declared.request.Write.{Write}
+use Rattle.fsemu.specs.declared.state.State.{State}
+
+-- whether a line asks for a commit
+abbrev pub commits : Request → Bool
+commits (Commit writes) = true
+commits (GetDocument name) = false
+commits (Broken rule place) = false
+commits (Unbuilt name) = false
+
+abbrev pub is_commit : Line → Bool
+is_commit line.Empty = false
+is_commit line.NotYet = false
+is_commit (line.Wrong rule place) = false
+is_commit (line.Asked asked) = commits asked.request
+
+-- the writes that a line asks for
+abbrev pub writes_of : Request → List Write
+writes_of (Commit writes) = writes
+writes_of (GetDocument name) = []
+writes_of (Broken rule place) = []
+writes_of (Unbuilt name) = []
+
+abbrev pub asked_writes : Line → List Write
+asked_writes line.Empty = []
+asked_writes line.NotYet = []
+asked_writes (line.Wrong rule place) = []
+asked_writes (line.Asked asked) = writes_of asked.request
+
+-- whether one of the writes is of a name
+abbrev pub is_written : DocName → List Write → Bool
+is_written name [] = false
+is_written name (write ∷ writes) = eq_by_cmp name_cmp name (name_of write) || is_written name writes
+
+-- whether one of the lines writes a name
+abbrev pub is_written_in : DocName → State → List (List ℕ) → Bool
+is_written_in name s [] = false
+is_written_in name s (line ∷ lines) = is_written name (asked_writes (line_of s.root line)) || is_written_in name (after_line s line) lines
+
+-- the state after lines
+abbrev pub after_lines : State → List (List ℕ) → State
+after_lines s [] = s
+after_lines s (line ∷ lines) = after_lines (after_line s line) lines

@@ -1,0 +1,11 @@
+pub mod Batch
+pub mod Laws
+pub mod Line
+pub mod Reply
+pub mod Request
+pub mod Rules
+pub mod Run
+pub mod Step
+pub mod Stop
+pub mod Taken
+pub mod Transcript

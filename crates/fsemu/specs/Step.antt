@@ -1,0 +1,70 @@
+-- Where a script starts, and what a line does.
+use Rattle.std.specs.Prelude.{ℕ, ℤ, pos, ◌+ℤ◌, List, [], ◌∷◌, Option, Some, None, codes}
+use Rattle.std.specs.FinMap.{empty, get}
+use Rattle.serde_json.specs.Data.{Data}
+use Rattle.fs_path.specs.declared.place.Rule.{Rule}
+use Rattle.fs_value.specs.declared.document.Document.{Document}
+use Rattle.fs_status.specs.declared.code.Code.TheVariants.{Unimplemented}
+use Rattle.fs_status.specs.declared.reason.Reason.{Reason}
+use Rattle.fs_status.specs.declared.reason.Reason.TheVariants as reasons
+use Rattle.fs_status.specs.declared.reason.Line.TheVariants.{NotAnObject}
+use Rattle.fs_valjson.specs.Document.{document_json}
+use Rattle.fsemu.specs.Batch.{after_commit, all_reported}
+use Rattle.fsemu.specs.Line.{line_of}
+use Rattle.fsemu.specs.Reply.{error_json, refused_json, result_reply, error_reply, line_error, commit_json, json_line}
+use Rattle.fsemu.specs.declared.request.Line.{Line}
+use Rattle.fsemu.specs.declared.request.Line.TheVariants as line
+use Rattle.fsemu.specs.declared.request.Request.{Request}
+use Rattle.fsemu.specs.declared.request.Request.TheVariants.{Commit, GetDocument, Broken, Unbuilt}
+use Rattle.fsemu.specs.declared.state.State.{State}
+
+-- the start moment, 2024-01-01T00:00:00Z, and no documents
+abbrev pub start : State
+start = record { root = record { project = codes "demo"; database = codes "(default)" }; documents = empty; last = pos 1704067200000000 }
+
+-- the time of the next commit: one microsecond after the last
+abbrev pub next_time : State → ℤ
+next_time s = s.last +ℤ pos 1
+
+-- a commit changes the documents and uses its time; nothing else changes anything
+abbrev pub after_request : State → Request → State
+after_request s (Commit writes) = record { root = s.root; documents = after_commit s.documents writes (next_time s); last = next_time s }
+after_request s (GetDocument name) = s
+after_request s (Broken rule place) = s
+after_request s (Unbuilt name) = s
+
+-- a read shows the document as the last commit left it
+abbrev pub found_reply : State → List ℕ → Option (List ℕ) → Option Document → Data
+found_reply s session id None = error_reply session id (refused_json (reasons.NoDocument s.last))
+found_reply s session id (Some document) = result_reply session id (document_json document)
+
+abbrev pub reply : State → List ℕ → Option (List ℕ) → Request → Data
+reply s session id (Commit writes) = result_reply session id (commit_json (next_time s) (all_reported s.documents writes (next_time s)))
+reply s session id (GetDocument name) = found_reply s session id (get s.documents name)
+reply s session id (Broken rule place) = error_reply session id (refused_json (reasons.Rule rule place))
+reply s session id (Unbuilt name) = error_reply session id (refused_json (reasons.Method name))
+
+-- what is wrong with a line; one whose own place is at fault is no object of any form
+abbrev pub wrong_line : Rule → List ℕ → Reason
+wrong_line rule [] = reasons.Line NotAnObject
+wrong_line rule (b ∷ bs) = reasons.Rule rule (b ∷ bs)
+
+abbrev pub after_reading : State → Line → State
+after_reading s line.Empty = s
+after_reading s line.NotYet = s
+after_reading s (line.Wrong rule place) = s
+after_reading s (line.Asked asked) = after_request s asked.request
+
+abbrev pub output_of : State → ℕ → Line → List ℕ
+output_of s n line.Empty = []
+output_of s n line.NotYet = json_line (line_error (error_json Unimplemented (codes "line not read yet")) n)
+output_of s n (line.Wrong rule place) = json_line (line_error (refused_json (wrong_line rule place)) n)
+output_of s n (line.Asked asked) = json_line (reply s asked.session asked.id asked.request)
+
+-- the state after a line
+unfoldable pub after_line : State → List ℕ → State
+after_line s bytes = after_reading s (line_of s.root bytes)
+
+-- what is written for a line, which has this number
+unfoldable pub line_output : State → ℕ → List ℕ → List ℕ
+line_output s n bytes = output_of s n (line_of s.root bytes)

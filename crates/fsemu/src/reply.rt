@@ -1,0 +1,135 @@
+//! What is written for requests and lines.
+ghost use Rattle.std.specs.Prelude.{◌≡◌, ◌++◌, Some, IfOk, OnOk, codes, false};
+ghost use Rattle.serde_json.specs.Data.{object, member, no_members};
+ghost use Rattle.serde_json.specs.View.{items_view, view};
+ghost use Rattle.serde_json.specs.Written.{has_float};
+ghost use Rattle.fsemu.specs.Reply.{error_json, refused_json, result_reply, error_reply, line_error, write_result_json, write_results_json, commit_json, json_line};
+
+use crate::batch::Reported;
+use fs_json::write_time;
+use fs_path::Text;
+use fs_status::{Code, Reason, Refusal, message};
+use fs_time::Micros;
+use serde_json::{Value, json};
+use std::alloc::{AllocError, Global};
+
+/// An error as REST prints it.
+pub fn error_json(alloc: Global, code: Code, message: &str) -> Result<Value, AllocError>
+    ensures value { IfOk result (λ v. view v ≡ error_json code message.now) }
+    ensures no_float { IfOk result (λ v. has_float (view v) ≡ false) }
+{
+    json!(in alloc; {"code": code.http(), "message": message, "status": code.status()})
+}
+
+/// The error of a refusal.
+pub fn refused(alloc: Global, reason: Reason) -> Result<Value, AllocError>
+    ensures value { IfOk result (λ v. view v ≡ refused_json reason) }
+    ensures no_float { IfOk result (λ v. has_float (view v) ≡ false) }
+{
+    let refusal = Refusal::of(reason);
+    let text = message(alloc, &refusal)?;
+    error_json(alloc, refusal.code, text.as_str())
+}
+
+/// The reply to a request that was carried out.
+pub fn result_reply(
+    alloc: Global,
+    session: &str,
+    id: &Option<Text>,
+    answer: Value,
+) -> Result<Value, AllocError>
+    ensures value { IfOk result (λ v. view v ≡ result_reply session.now id.now (view answer)) }
+    ensures no_float { has_float (view answer) ≡ false → IfOk result (λ v. has_float (view v) ≡ false) }
+{
+    match id {
+        Some(id) => json!(in alloc; {"id": id.as_str(), "result": answer, "session": session}),
+        None => json!(in alloc; {"result": answer, "session": session}),
+    }
+}
+
+/// The reply to a request that was refused.
+pub fn error_reply(
+    alloc: Global,
+    session: &str,
+    id: &Option<Text>,
+    error: Value,
+) -> Result<Value, AllocError>
+    ensures value { IfOk result (λ v. view v ≡ error_reply session.now id.now (view error)) }
+    ensures no_float { has_float (view error) ≡ false → IfOk result (λ v. has_float (view v) ≡ false) }
+{
+    match id {
+        Some(id) => json!(in alloc; {"error": error, "id": id.as_str(), "session": session}),
+        None => json!(in alloc; {"error": error, "session": session}),
+    }
+}
+
+/// The answer to a line that is no request.
+pub fn line_error(alloc: Global, error: Value, number: u64) -> Result<Value, AllocError>
+    ensures value { IfOk result (λ v. view v ≡ line_error (view error) number) }
+    ensures no_float { has_float (view error) ≡ false → IfOk result (λ v. has_float (view v) ≡ false) }
+{
+    json!(in alloc; {"error": error, "line": number})
+}
+
+fn updated_json(alloc: Global, time: Micros) -> Result<Value, AllocError>
+    ensures { IfOk result (λ v. view v ≡ write_result_json (Some time)) }
+{
+    let time = write_time(alloc, time)?;
+    json!(in alloc; {"updateTime": time})
+}
+
+fn write_result_json(alloc: Global, reported: Option<Micros>) -> Result<Value, AllocError>
+    ensures { IfOk result (λ v. view v ≡ write_result_json reported) }
+{
+    match reported {
+        Some(time) => updated_json(alloc, time),
+        None => json!(in alloc; {}),
+    }
+}
+
+fn write_results_json(alloc: Global, reported: &Reported) -> Result<Vec<Value>, AllocError>
+    ensures { IfOk result (λ items. items_view items.items ≡ write_results_json reported.now) }
+{
+    let mut items = Vec::with_capacity(alloc, reported.as_slice().len())?;
+    for one in reported.as_slice() {
+        items.push(write_result_json(alloc, *one)?)?;
+    }
+    Ok(items)
+}
+
+fn timed(alloc: Global, time: Value) -> Result<Value, AllocError>
+    ensures { IfOk result (λ v. view v ≡ object (member (codes "commitTime") (view time) no_members)) }
+{
+    json!(in alloc; {"commitTime": time})
+}
+
+fn timed_with(alloc: Global, time: Value, results: Value) -> Result<Value, AllocError>
+    ensures { IfOk result (λ v. view v ≡ object (member (codes "commitTime") (view time)
+        (member (codes "writeResults") (view results) no_members))) }
+{
+    json!(in alloc; {"commitTime": time, "writeResults": results})
+}
+
+/// The answer to a commit.
+pub fn commit_json(alloc: Global, time: Micros, reported: &Reported) -> Result<Value, AllocError>
+    ensures value { IfOk result (λ v. view v ≡ commit_json time reported.now) }
+    ensures no_float { IfOk result (λ v. has_float (view v) ≡ false) }
+{
+    let time = write_time(alloc, time)?;
+    let results = write_results_json(alloc, reported)?;
+    if results.as_slice().is_empty() {
+        timed(alloc, time)
+    } else {
+        timed_with(alloc, time, Value::Array(results))
+    }
+}
+
+/// Adds a value on a line of its own.
+pub fn push_line(alloc: Global, out: &mut Vec<u8>, v: &Value) -> Result<(), AllocError>
+    requires { has_float (view v.now) ≡ false }
+    ensures { OnOk result (out.new.items ≡ out.old.items ++ json_line (view v.now)) }
+{
+    let mut text = v.to_string(alloc)?;
+    text.push('\n')?;
+    out.extend_from_slice(text.as_bytes())
+}

@@ -1,0 +1,93 @@
+//! The top call.
+ghost use Rattle.std.specs.Prelude.{◌≡◌, ◌≢◌, ◌↔◌, ◌⊎◌, ◌∷◌, [], ℕ, List, length, map, codes, string_bytes, IsTrue, IfOk, IfSome, OnErr};
+ghost use Rattle.fs_edge.specs.Count.{Rose};
+ghost use Rattle.fsemu.specs.Run.{IfTaken, Wrote};
+ghost use Rattle.fsemu.specs.Taken.{Gained, GainedFront};
+ghost use Rattle.fsemu.specs.Transcript.{transcript};
+ghost use Rattle.fsemu.specs.declared.gather.TheConstants.{INPUT_LIMIT};
+
+use crate::gather::gather;
+use crate::script::play;
+use fs_edge::{Clock, Doors, Sink, Source, Status};
+use std::alloc::{AllocError, Global};
+
+/// Runs the program on the words of its command line. `replay` reads a script from the source to its end, carries it
+/// out, and writes the transcript to the sink. All other words are no command: nothing is read or written then.
+pub fn run<Rt, S: Source, K: Sink, D: Doors, C: Clock>(
+    _rt: &Rt,
+    alloc: Global,
+    words: &[String],
+    source: &mut S,
+    sink: &mut K,
+    doors: &mut D,
+    _clock: &mut C,
+) -> Status
+    ensures usage { (result ≡ Status.Usage) ↔ ¬ (map string_bytes words.now ≡ codes "replay" ∷ []) }
+    ensures untouched { result ≡ Status.Usage → (source.new ≡ source.old) × (sink.new ≡ sink.old) }
+
+    // At status 0 the source told its end, and the sink has gained the transcript of all that the source had.
+    ensures ended { result ≡ Status.Ok → Rose (S.ends source.old) (S.ends source.new) }
+    ensures all_read { result ≡ Status.Ok → IfSome (S.left source.new) (λ rest. rest ≡ []) }
+    ensures transcript { result ≡ Status.Ok → IfSome (S.left source.old) (λ script.
+        Gained (K.given sink.old) (K.given sink.new) (transcript script)) }
+
+    // At each status, what the sink has gained of the bytes that were taken.
+    ensures written { IfTaken (S.left source.old) (S.left source.new) (λ taken.
+        Wrote result taken (K.given sink.old) (K.given sink.new)) }
+
+    // A fault has its cause in what was handed in.
+    ensures read_fault { result ≡ Status.ReadFault → Rose (S.faults source.old) (S.faults source.new) }
+    ensures write_fault { result ≡ Status.WriteFault → Rose (K.faults sink.old) (K.faults sink.new) }
+    ensures door_fault { result ≡ Status.DoorFault → Rose (D.faults doors.old) (D.faults doors.new) }
+
+    // The input limit is told exactly where so many bytes were taken, but for a write fault and want of memory.
+    ensures limit { result ≡ Status.InputLimit → IfTaken (S.left source.old) (S.left source.new) (λ taken.
+        length taken ≡ INPUT_LIMIT) }
+    ensures limit_told { IfTaken (S.left source.old) (S.left source.new) (λ taken. length taken ≡ INPUT_LIMIT
+        → (result ≡ Status.InputLimit) ⊎ ((result ≡ Status.WriteFault) ⊎ ((result ≡ Status.Memory) ⊎ (result ≡ Status.Usage)))) }
+{
+    if !is_replay(words) {
+        return Status::Usage;
+    }
+    match replay(alloc, source, sink) {
+        Ok(status) => status,
+        Err(_) => Status::Memory,
+    }
+}
+
+fn is_replay(words: &[String]) -> bool
+    ensures { IsTrue result ↔ (map string_bytes words.now ≡ codes "replay" ∷ []) }
+{
+    match words {
+        [word] => word.as_str() == "replay",
+        _ => false,
+    }
+}
+
+fn replay<S: Source, K: Sink>(
+    alloc: Global,
+    source: &mut S,
+    sink: &mut K,
+) -> Result<Status, AllocError>
+    ensures ended { IfOk result (λ status. status ≡ Status.Ok → Rose (S.ends source.old) (S.ends source.new)) }
+    ensures all_read { IfOk result (λ status. status ≡ Status.Ok → IfSome (S.left source.new) (λ rest. rest ≡ [])) }
+    ensures transcript { IfOk result (λ status. status ≡ Status.Ok → IfSome (S.left source.old) (λ script.
+        Gained (K.given sink.old) (K.given sink.new) (transcript script))) }
+    ensures written { IfOk result (λ status. IfTaken (S.left source.old) (S.left source.new) (λ taken.
+        Wrote status taken (K.given sink.old) (K.given sink.new))) }
+    ensures some { IfOk result (λ status. (status ≢ Status.Usage) × (status ≢ Status.DoorFault)) }
+    ensures read_fault { IfOk result (λ status. status ≡ Status.ReadFault → Rose (S.faults source.old) (S.faults source.new)) }
+    ensures write_fault { IfOk result (λ status. status ≡ Status.WriteFault → Rose (K.faults sink.old) (K.faults sink.new)) }
+    ensures limit { IfOk result (λ status. status ≡ Status.InputLimit → IfTaken (S.left source.old) (S.left source.new)
+        (λ taken. length taken ≡ INPUT_LIMIT)) }
+    ensures limit_told { IfOk result (λ status. IfTaken (S.left source.old) (S.left source.new) (λ taken.
+        length taken ≡ INPUT_LIMIT → (status ≡ Status.InputLimit) ⊎ (status ≡ Status.WriteFault))) }
+    ensures err { OnErr result (IfTaken (S.left source.old) (S.left source.new) (λ taken.
+        GainedFront (K.given sink.old) (K.given sink.new) (transcript taken))) }
+{
+    let input = gather(alloc, source)?;
+    if !play(alloc, &input.bytes, input.stop.is_whole(), sink)? {
+        return Ok(Status::WriteFault);
+    }
+    Ok(input.stop.status())
+}
