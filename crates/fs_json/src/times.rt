@@ -29,7 +29,5 @@ pub fn write_time(alloc: Global, t: Micros) -> Result<Value, AllocError>
     ensures value { IfOk result (λ v. view v ≡ time_json t) }
     ensures reads_back { IfOk result (λ v. (place : List ℕ) → time_at (view v) place ≡ Ok t) }
 {
-    // That it is in range, which `get` tells, is why it is read back.
-    let _ = t.get();
     Ok(Value::String(print(alloc, t)?))
 }

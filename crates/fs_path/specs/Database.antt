@@ -1,10 +1,22 @@
 -- The names of databases: `projects/{project}/databases/{database}`. (v1 reference, `CommitRequest`, `database`.)
-use Rattle.std.specs.Prelude.{ℕ, not, ◌&&◌, List, [], ◌∷◌, codes, Option, Some, None, Result, Ok, Err, if◌then◌else◌, ⊤}
+use Rattle.std.specs.Prelude.{ℕ, not, ◌&&◌, List, [], ◌∷◌, ◌++◌, codes, Option, Some, None, Result, Ok, Err, if◌then◌else◌, ⊤}
 use Rattle.fs_path.specs.declared.error.PathError.{PathError}
 use Rattle.fs_path.specs.declared.error.PathError.TheVariants.{BadPrefix, WrongDatabase}
 use Rattle.fs_path.specs.declared.name.Root.{Root}
 use Rattle.fs_path.specs.TextOrder.{text_eq}
 use Rattle.fs_path.specs.Segment.{segments, is_empty}
+use Rattle.fs_path.specs.Document.{IsLabel}
+
+-- a database's name
+abbrev pub database_text : Root → List ℕ
+database_text r = codes "projects/" ++ (r.project ++ (codes "/databases/" ++ r.database))
+
+-- what a database may be called
+pub record IsDatabase (r : Root) : Type 0 where
+  pub project : IsLabel r.project
+  pub database : IsLabel r.database
+
+-- ---- which database a text names, and why it names none
 
 -- the database that the parts of a text between its slashes name
 abbrev pub database_named : List (List ℕ) → Option Root

@@ -1,5 +1,5 @@
 -- What holds of document names and their texts.
-use Rattle.std.proofs.Common.{Err, ◌≡◌, ◌↔◌, ℕ, ◌<◌, ◌≤◌, ◌%◌, Bool, true, false, not, ◌||◌, eqb, ltb, Option, Some, None, Ok, List, [], ◌∷◌, ◌++◌, length, codes, refl, ap, sym, ◌∙◌, subst, arith}
+use Rattle.std.proofs.Common.{Err, ◌≡◌, ◌↔◌, ℕ, ◌<◌, ◌≤◌, ◌%◌, Bool, true, false, not, ◌||◌, eqb, ltb, Option, Some, None, Result, Ok, List, [], ◌∷◌, ◌++◌, length, codes, refl, ap, sym, ◌∙◌, subst, arith}
 use Rattle.std.proofs.lemmas.Bool.{or_parts, or_from, and_parts, eqb-true, ltb-false}
 use Rattle.std.proofs.lemmas.Bool.Decides.{nat_tests}
 use Rattle.std.proofs.lemmas.Option.{cond_some}
@@ -8,6 +8,7 @@ use Rattle.std.proofs.lemmas.List.Splits.{join_with_byte-slice_split}
 use Rattle.std.specs.List.{AllByRecursion, list_any, join_with_byte, flat_map}
 use Rattle.fs_path.specs.declared.name.Root.{Root}
 use Rattle.fs_path.specs.declared.name.DocName.{DocName}
+use Rattle.fs_path.specs.declared.error.PathError.{PathError}
 use Rattle.fs_path.specs.declared.error.PathError.TheVariants.{BadPrefix, WrongDatabase}
 use Rattle.fs_path.specs.RefusalLaws.{accepted, accepts, never_refused}
 use Rattle.fs_path.specs.TextOrder.{text_eq}
@@ -31,10 +32,10 @@ segments-document_text n p d ids =
 pub join-parts_of : (n : DocName) → join_with_byte 47 (parts_of n) ≡ document_text n
 join-parts_of n = ap (λ r. codes "projects/" ++ (n.project ++ (codes "/databases/" ++ (n.database ++ 47 ∷ r)))) (join_slashed (codes "documents") n.ids)
 
-text_same : (xs ys : List ℕ) → text_eq xs ys ≡ true → xs ≡ ys
+pub text_same : (xs ys : List ℕ) → text_eq xs ys ≡ true → xs ≡ ys
 text_same xs ys = (bytes_eq-Decides xs ys).0
 
-text_self : (xs ys : List ℕ) → xs ≡ ys → text_eq xs ys ≡ true
+pub text_self : (xs ys : List ℕ) → xs ≡ ys → text_eq xs ys ≡ true
 text_self xs ys = (bytes_eq-Decides xs ys).1
 
 -- what is spelled has the parts of a name
@@ -43,7 +44,7 @@ pub record Spells (parts : List (List ℕ)) (n : DocName) : Type 0 where
   pub project : is_empty n.project ≡ false
   pub database : is_empty n.database ≡ false
 
-not_true : (b : Bool) → not b ≡ true → b ≡ false
+pub not_true : (b : Bool) → not b ≡ true → b ≡ false
 not_true true h = sym h
 not_true false h = refl
 
@@ -250,19 +251,32 @@ spelled_at : (text : List ℕ) (o : Option DocName) → spelled (segments text) 
 spelled_at text None h never = h
 spelled_at text (Some n) h never = let r = reads text n h in absurd (never n (record { project = r.project; database = r.database; ids = r.ids }) r.text_is)
 
-refused_otherwise : (n : DocName) (ids : List (List ℕ)) (bytes : ℕ) → unless_refused n (document_refusals ids bytes) ≡ Err BadPrefix → ⊥
-refused_otherwise n ids bytes h = never_refused n BadPrefix (document_refusals ids bytes) (
-  (λ p. cc),
-  ((λ p. cc), ((λ p. cc), ((λ p. cc), ((λ p. cc), ((λ p. cc), ((λ p. cc), tt)))))),
-) h
+unspelled : {A : Type 0} (o : Option DocName) (f : DocName → Result A PathError) → ((n : DocName) → f n ≡ Err BadPrefix → ⊥) → if_spelled o f ≡ Err BadPrefix → o ≡ None
+unspelled None f other h = refl
+unspelled (Some n) f other h = absurd (other n h)
 
-reference_prefix_at : (text : List ℕ) (o : Option DocName) → spelled (segments text) ≡ o → if_spelled o (λ m. unless_refused m (document_refusals m.ids (length text))) ≡ Err BadPrefix → spelled (segments text) ≡ None
-reference_prefix_at text None e h = e
-reference_prefix_at text (Some m) e h = absurd (refused_otherwise m m.ids (length text) h)
+prefix_law : {A : Type 0} (text : List ℕ) (f : DocName → Result A PathError) → ((n : DocName) → f n ≡ Err BadPrefix → ⊥) → (if_spelled (spelled (segments text)) f ≡ Err BadPrefix) ↔ ((n : DocName) → IsSpelled n → text ≡ document_text n → ⊥)
+prefix_law text f other = (
+  λ h. no_prefix text (unspelled (spelled (segments text)) f other h),
+  λ never. ap (λ o. if_spelled o f) (spelled_at text (spelled (segments text)) refl never),
+)
+
+-- ids are refused for other reasons
+other_ids : (ids : List (List ℕ)) (bytes : ℕ) → AllByRecursion (λ t. t.1 ≡ BadPrefix → ⊥) (id_refusals ids bytes)
+other_ids ids bytes = ((λ p. cc), ((λ p. cc), ((λ p. cc), ((λ p. cc), ((λ p. cc), ((λ p. cc), tt))))))
 
 -- it is told exactly where the text is that of no name, whatever its ids are
-pub bad_prefix : (text : List ℕ) → (reference_of text ≡ Err BadPrefix) ↔ ((n : DocName) → IsSpelled n → text ≡ document_text n → ⊥)
-bad_prefix text = (
-  λ h. no_prefix text (reference_prefix_at text (spelled (segments text)) refl h),
-  λ never. rw (spelled_at text (spelled (segments text)) refl never) refl,
-)
+pub bad_reference : (text : List ℕ) → (reference_of text ≡ Err BadPrefix) ↔ ((n : DocName) → IsSpelled n → text ≡ document_text n → ⊥)
+bad_reference text =
+    let tests : DocName → List (Bool × PathError) = λ n. document_refusals n.ids (length text) in
+    prefix_law text (λ n. unless_refused n (tests n)) (λ n. never_refused n BadPrefix (tests n) ((λ p. cc), other_ids n.ids (length text)))
+
+pub bad_document : (root : Root) (text : List ℕ) → (document_of root text ≡ Err BadPrefix) ↔ ((n : DocName) → IsSpelled n → text ≡ document_text n → ⊥)
+bad_document root text =
+    let tests : DocName → List (Bool × PathError) = λ n. (not (is_of root n), WrongDatabase) ∷ document_refusals n.ids (length text) in
+    prefix_law text (λ n. unless_refused n (tests n)) (λ n. never_refused n BadPrefix (tests n) ((λ p. cc), ((λ p. cc), other_ids n.ids (length text))))
+
+pub bad_parent : (root : Root) (text : List ℕ) → (parent_of root text ≡ Err BadPrefix) ↔ ((n : DocName) → IsSpelled n → text ≡ document_text n → ⊥)
+bad_parent root text =
+    let tests : DocName → List (Bool × PathError) = λ n. (not (is_of root n), WrongDatabase) ∷ parent_refusals n.ids (length text) in
+    prefix_law text (λ n. unless_refused n.ids (tests n)) (λ n. never_refused n.ids BadPrefix (tests n) ((λ p. cc), ((λ p. cc), other_ids n.ids (length text))))

@@ -11,6 +11,7 @@ pub mod RefusalLaws
 pub mod SegmentLaws
 pub mod DocumentLaws
 pub mod Database
+pub mod DatabaseLaws
 pub mod FieldName
 pub mod Field
 pub mod FieldRun

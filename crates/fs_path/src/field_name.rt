@@ -1,12 +1,10 @@
-ghost use Rattle.std.specs.Prelude.{◌≡◌, ◌++◌, OnOk, IsTrue, ◌↔◌, string_bytes};
+ghost use Rattle.std.specs.Prelude.{◌≡◌};
 ghost use Rattle.std.specs.List.{list_all};
 ghost use Rattle.fs_path.specs.FieldName.{is_simple, is_bad_name, is_name_byte};
-ghost use Rattle.fs_path.specs.Field.{name_text, escaped};
 
 use crate::segment::is_reserved;
 use crate::stage::{is_name_byte, is_name_start};
 use crate::survey::MAX_ID;
-use std::alloc::AllocError;
 
 /// Whether a field name needs no backquotes in a field path: letters, digits and underscores, no digit first.
 pub fn is_simple_name(name: &str) -> bool

@@ -1,4 +1,4 @@
-ghost use Rattle.std.specs.Prelude.{◌≡◌, ◌↔◌, ◌∷◌, List, ℕ, length, IfOk, IfErr, Ok, Err};
+ghost use Rattle.std.specs.Prelude.{◌≡◌, ◌↔◌, List, ℕ, IfOk, IfErr, Ok, Err};
 ghost use Rattle.fs_path.specs.Refusal.{IsMemory, unless_refused};
 ghost use Rattle.fs_path.specs.declared.name.DocName.{DocName};
 ghost use Rattle.fs_path.specs.Document.{document_of, document_refusals, document_text, parent_of, parent_refusals, reference_of, under, IsDocument, IsDocumentOf, IsParentOf, IsSpelled};
@@ -23,6 +23,10 @@ pub fn parse_document(alloc: Global, root: &Root, text: &str) -> Result<DocName,
 
     // The text of such a name is refused only for want of memory.
     ensures only { (n : DocName) → IsDocumentOf root.now n → text.now ≡ document_text n → document_of root.now text.now ≡ Ok n }
+
+    // The first refusal comes exactly where the text isn't a database's documents, alone or with a path behind a slash.
+    ensures prefix { (document_of root.now text.now ≡ Err PathError.BadPrefix)
+        ↔ ((n : DocName) → IsSpelled n → text.now ≡ document_text n → ⊥) }
 {
     read_document(alloc, root, text)
 }
@@ -34,8 +38,6 @@ pub fn parse_reference(alloc: Global, text: &str) -> Result<DocName, PathError>
     ensures err { IfErr result (λ e. ¬ IsMemory e → reference_of text.now ≡ Err e) }
     ensures found { IfOk result (λ n. IsDocument n × (text.now ≡ document_text n)) }
     ensures only { (n : DocName) → IsDocument n → text.now ≡ document_text n → reference_of text.now ≡ Ok n }
-
-    // The first refusal comes exactly where the text isn't a database's documents, alone or with a path behind a slash.
     ensures prefix { (reference_of text.now ≡ Err PathError.BadPrefix)
         ↔ ((n : DocName) → IsSpelled n → text.now ≡ document_text n → ⊥) }
 {
@@ -49,6 +51,8 @@ pub fn parse_parent(alloc: Global, root: &Root, text: &str) -> Result<Ids, PathE
     ensures err { IfErr result (λ e. ¬ IsMemory e → parent_of root.now text.now ≡ Err e) }
     ensures found { IfOk result (λ ids. IsParentOf root.now ids × (text.now ≡ document_text (under root.now ids))) }
     ensures only { (ids : List (List ℕ)) → IsParentOf root.now ids → text.now ≡ document_text (under root.now ids) → parent_of root.now text.now ≡ Ok ids }
+    ensures prefix { (parent_of root.now text.now ≡ Err PathError.BadPrefix)
+        ↔ ((n : DocName) → IsSpelled n → text.now ≡ document_text n → ⊥) }
 {
     read_parent(alloc, root, text)
 }

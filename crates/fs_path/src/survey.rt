@@ -1,4 +1,4 @@
-ghost use Rattle.std.specs.Prelude.{◌≡◌, ◌↔◌, ◌+◌, ◌≤◌, ◌<◌, ◌^◌, IsTrue, IfOk, length};
+ghost use Rattle.std.specs.Prelude.{◌≡◌, ◌↔◌, ◌+◌, ◌<◌, ◌^◌, IsTrue, IfOk, length};
 ghost use Rattle.std.specs.Option.{option_copied};
 ghost use Rattle.fs_path.specs.Refusal.{unless_refused};
 ghost use Rattle.fs_path.specs.Cursor.{rest_segments};

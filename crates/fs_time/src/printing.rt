@@ -1,6 +1,6 @@
-ghost use Rattle.std.specs.Prelude.{◌≡◌, ◌-◌, ◌/◌, ◌^◌, ◌++◌, ◌<◌, ◌≤◌, All, length, IfOk, OnOk, string_bytes};
+ghost use Rattle.std.specs.Prelude.{◌≡◌, ◌-◌, ◌/◌, ◌^◌, ◌++◌, ◌<◌, ◌≤◌, All, length, IfOk, OnOk, Ok, string_bytes};
 ghost use Rattle.fs_time.specs.Moment.{IsMoment};
-ghost use Rattle.fs_time.specs.Rfc3339.{time_text, parts_text, date_text, clock_text, fraction_text, digits, decimals, parts_at, ShowsMoment};
+ghost use Rattle.fs_time.specs.Rfc3339.{time_of, time_text, parts_text, date_text, clock_text, fraction_text, digits, decimals, parts_at, ShowsMoment};
 
 use crate::micros::Micros;
 use crate::parts::{Offset, Parts};
@@ -15,6 +15,7 @@ pub const LONGEST_TEXT: usize = 27;
 pub fn print(alloc: Global, t: Micros) -> Result<String, AllocError>
     ensures text { IfOk result (λ s. string_bytes s ≡ time_text t) }
     ensures shows { IfOk result (λ s. ShowsMoment t (string_bytes s)) }
+    ensures again { IfOk result (λ s. time_of (string_bytes s) ≡ Ok t) }
     ensures ascii { IfOk result (λ s. All (λ b. b < 128) (string_bytes s)) }
     ensures longest { IfOk result (λ s. length (string_bytes s) ≤ LONGEST_TEXT) }
 {

@@ -1,4 +1,4 @@
-ghost use Rattle.std.specs.Prelude.{◌≡◌, ◌+◌, ◌-◌, ◌*◌, pos, neg_ℤ, nat_lt, ◌≤◌, ◌<◌, ◌^◌, if◌then◌else◌, ◌&&◌, ◌↔◌, ℤ, IsErrOf, IfOk, IfErr, IfSome, option_copied};
+ghost use Rattle.std.specs.Prelude.{◌≡◌, ◌+◌, ◌-◌, ◌*◌, pos, nat_lt, ◌≤◌, ◌<◌, ◌^◌, if◌then◌else◌, ◌&&◌, ◌↔◌, ℤ, IsErrOf, IfOk, IfErr, IfSome, option_copied};
 ghost use Rattle.std.specs.Char.{is_ascii_digit};
 ghost use Rattle.std.specs.List.{prefix_len};
 ghost use Rattle.jiff_core.specs.Calendar.{IsWithin};

@@ -1,5 +1,4 @@
 use Rattle.std.proofs.Common.{◌≡◌, ◌∙◌, string_bytes, ap, rules}
-use Rattle.fs_time.specs.RoundTrip.{time_of-time_text}
 use Rattle.serde_json.specs.Data.{string}
 use Rattle.serde_json.specs.View.{view}
 use Rattle.serde_json.specs.declared.value.Value.{String, the_lemmas}
@@ -9,4 +8,4 @@ use Rattle.fs_json.proofs.times.write_time.Goals as goal
 pub returns-clause-reads_back : goal.returns-clause-reads_back
 returns-clause-reads_back c = λ place.
     let seen : view (String c.in_ok-print.field-0) ≡ string (string_bytes c.in_ok-print.field-0) = search (rules, the_lemmas) in
-    ap (λ d. time_at d place) (seen ∙ ap string c.in_ok-print.ensures.text) ∙ ap (moment_at place) (time_of-time_text c.args.t c.get.ensures.range)
+    ap (λ d. time_at d place) seen ∙ ap (moment_at place) c.in_ok-print.ensures.again

@@ -1,5 +1,5 @@
 use Rattle.std.proofs.lemmas.Result.{IfOk-weaker}
-use Rattle.fs_path.specs.DocumentLaws.{document_found, document_only}
+use Rattle.fs_path.specs.DocumentLaws.{document_found, document_only, bad_document}
 use Rattle.fs_path.proofs.parse.parse_document.Goals as goal
 
 pub returns-clause-found : goal.returns-clause-found
@@ -7,3 +7,6 @@ returns-clause-found c = IfOk-weaker c.read_document.result _ _ (λ n h. documen
 
 pub returns-clause-only : goal.returns-clause-only
 returns-clause-only c = document_only c.args.root.now c.args.text.now
+
+pub returns-clause-prefix : goal.returns-clause-prefix
+returns-clause-prefix c = bad_document c.args.root.now c.args.text.now

@@ -1,5 +1,5 @@
 use Rattle.std.proofs.lemmas.Result.{IfOk-weaker}
-use Rattle.fs_path.specs.DocumentLaws.{reference_found, reference_only, bad_prefix}
+use Rattle.fs_path.specs.DocumentLaws.{reference_found, reference_only, bad_reference}
 use Rattle.fs_path.proofs.parse.parse_reference.Goals as goal
 
 pub returns-clause-found : goal.returns-clause-found
@@ -9,4 +9,4 @@ pub returns-clause-only : goal.returns-clause-only
 returns-clause-only c = reference_only c.args.text.now
 
 pub returns-clause-prefix : goal.returns-clause-prefix
-returns-clause-prefix c = bad_prefix c.args.text.now
+returns-clause-prefix c = bad_reference c.args.text.now

@@ -1,7 +1,7 @@
 use Rattle.std.proofs.Common.{◌≡◌, ◌++◌, drop, string_bytes}
 use Rattle.std.specs.List.{flat_map}
 use Rattle.fs_path.specs.Document.{document_text, slashed}
-use Rattle.fs_path.proofs.print.print_document.Given as goal
+use Rattle.fs_path.proofs.print.name_text.Given as goal
 
 -- the ids that are left complete the name
 abbrev pub invariant-loop-id : goal.invariant-loop-id
