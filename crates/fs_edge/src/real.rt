@@ -1,4 +1,4 @@
-ghost use Rattle.std.specs.Prelude.{◌≡◌, ℕ, None};
+ghost use Rattle.std.specs.Prelude.{None};
 
 use crate::count::count;
 use crate::sink::{Gave, Sink};

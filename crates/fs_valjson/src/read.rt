@@ -1,5 +1,5 @@
-ghost use Rattle.std.specs.Prelude.{◌≡◌, codes};
-ghost use Rattle.fs_value.specs.View.{view, field_view};
+ghost use Rattle.std.specs.Prelude.{codes};
+ghost use Rattle.fs_value.specs.View.{view};
 ghost use Rattle.serde_json.specs.View.{view as json, items_view, members_view};
 ghost use Rattle.fs_json.specs.Answer.{Gives};
 ghost use Rattle.fs_valjson.specs.Reading.{plain_at, list_at, items_at, fields_at, entries_at, value_at};

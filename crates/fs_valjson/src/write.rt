@@ -1,5 +1,4 @@
 ghost use Rattle.std.specs.Prelude.{◌≡◌, ℕ, List, false, Ok, IfOk, OnOk};
-ghost use Rattle.fs_path.specs.declared.place.Rule.TheVariants.{G};
 ghost use Rattle.fs_value.specs.Data.{items_of, members_of};
 ghost use Rattle.fs_value.specs.View.{view};
 ghost use Rattle.serde_json.specs.Written.{has_float};

@@ -1,17 +1,11 @@
 -- No reply has a float in it.
-use Rattle.std.proofs.Common.{◌≡◌, ℕ, ℤ, false, ◌||◌, List, [], ◌∷◌, Option, Some, None, map, codes, length, ◌==◌, Vec, Global, refl, sym}
-use Rattle.serde_json.specs.Data.{Data, string, array, object, Items, no_items, item, Members, no_members, member}
+use Rattle.std.proofs.Common.{◌≡◌, ℕ, ℤ, false, List, [], ◌∷◌, Option, Some, None, map, codes, length, ◌==◌, Vec, Global, refl, sym}
+use Rattle.serde_json.specs.Data.{Data, array, object, Items, no_items, item, no_members, member}
 use Rattle.serde_json.proofs.Views.{view-Array}
 use Rattle.serde_json.specs.View.{items_of, items_view, view}
 use Rattle.serde_json.specs.declared.value.Value.{Value, Array}
 use Rattle.serde_json.specs.Written.{has_float, items_have_float, members_have_float}
-use Rattle.fs_path.specs.Document.{document_text}
-use Rattle.fs_value.specs.Data as values
-use Rattle.fs_value.specs.Data.{members_of}
-use Rattle.fs_value.specs.declared.document.Document.{Document}
 use Rattle.fs_json.specs.Time.{time_json}
-use Rattle.fs_valjson.specs.Document.{document_json, with_fields}
-use Rattle.fs_valjson.specs.Writing.{json_of, items_json, members_json, list_content, fields_content}
 use Rattle.fs_status.specs.declared.reason.Reason.{Reason}
 use Rattle.fsemu.specs.Reply.{refused_json, result_reply, error_reply, line_error, write_result_json, write_results_json, with_results, commit_json}
 
@@ -43,45 +37,6 @@ commit_has_none time rs = rw (with_results_has_none (write_results_json rs) (all
 
 pub refused_has_none : (reason : Reason) → has_float (refused_json reason) ≡ false
 refused_has_none reason = refl
-
-list_has_none : (ds : Items) → items_have_float ds ≡ false → has_float (list_content ds) ≡ false
-list_has_none no_items h = refl
-list_has_none (item d ds) h = rw h refl
-
-map_has_none : (ms : Members) → members_have_float ms ≡ false → has_float (fields_content ms) ≡ false
-map_has_none no_members h = refl
-map_has_none (member k d ms) h = rw h refl
-
-mutual
-  value_has_none : (d : values.Data) → has_float (json_of d) ≡ false
-  value_has_none values.null = refl
-  value_has_none (values.boolean b) = refl
-  value_has_none (values.integer n) = refl
-  value_has_none (values.timestamp t) = refl
-  value_has_none (values.string s) = refl
-  value_has_none (values.bytes b) = refl
-  value_has_none (values.reference n) = refl
-  value_has_none (values.array ds) = rw (list_has_none (items_json ds) (items_have_none ds)) refl
-  value_has_none (values.object ms) = rw (map_has_none (members_json ms) (members_have_none ms)) refl
-
-  items_have_none : (ds : values.Items) → items_have_float (items_json ds) ≡ false
-  items_have_none values.no_items = refl
-  items_have_none (values.item d ds) = rw (value_has_none d, items_have_none ds) refl
-
-  members_have_none : (ms : values.Members) → members_have_float (members_json ms) ≡ false
-  members_have_none values.no_members = refl
-  members_have_none (values.member k d ms) = rw (value_has_none d, members_have_none ms) refl
-
-object_has_none : (d : Document) (k : List ℕ) (x : Data) (ms : Members) → (has_float x || members_have_float ms) ≡ false → has_float (object (member (codes "createTime") (time_json d.created) (with_fields (member k x ms) (member (codes "name") (string (document_text d.name)) (member (codes "updateTime") (time_json d.updated) no_members))))) ≡ false
-object_has_none d k x ms h = rw h refl
-
-with_fields_has_none : (d : Document) (ms : Members) → members_have_float ms ≡ false → has_float (object (member (codes "createTime") (time_json d.created) (with_fields ms (member (codes "name") (string (document_text d.name)) (member (codes "updateTime") (time_json d.updated) no_members))))) ≡ false
-with_fields_has_none d no_members h = refl
-with_fields_has_none d (member k x ms) h = object_has_none d k x ms h
-
-pub document_has_none : (d : Document) → has_float (document_json d) ≡ false
-unfolding document_json
-document_has_none d = with_fields_has_none d (members_json (members_of d.fields)) (members_have_none (members_of d.fields))
 
 -- ---- a commit's answer with results
 

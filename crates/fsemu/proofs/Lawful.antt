@@ -1,7 +1,6 @@
 -- What holds of all scripts.
 use Rattle.std.proofs.Common.{◌≡◌, ℕ, ◌+◌, ◌<◌, Bool, true, false, cond, eqb, List, [], ◌∷◌, ◌++◌, length, Option, Some, None, option_map, ℤ, pos, ◌+ℤ◌, refl, sym, ap, ◌∙◌, arith}
 use Rattle.std.proofs.lemmas.Cmp.{tied_itself}
-use Rattle.std.proofs.lemmas.List.{append-nil}
 use Rattle.std.proofs.lemmas.List.Splits.{length-slice_split}
 use Rattle.std.specs.Cmp.{Equal-is}
 use Rattle.std.specs.FinMap.{get, get-insert, get-remove}
@@ -9,7 +8,7 @@ use Rattle.std.specs.List.{onto_first}
 use Rattle.std.specs.Ordering.{eq_by_cmp}
 use Rattle.fs_path.specs.NameOrder.{name_cmp, name_cmp_total}
 use Rattle.fs_path.specs.declared.name.DocName.{DocName}
-use Rattle.fs_value.specs.Data.{members_of, fields_of}
+use Rattle.fs_value.specs.Data.{fields_of}
 use Rattle.fs_value.specs.DataLaws.{fields_of-members_of}
 use Rattle.fs_value.specs.ValueOrder.{members_same}
 use Rattle.fs_value.specs.declared.document.Document.{Document}

@@ -1,6 +1,5 @@
 //! Reading requests from JSON.
-ghost use Rattle.std.specs.Prelude.{◌≡◌, ℕ, List, map, option_map, codes};
-ghost use Rattle.serde_json.specs.Data.{Data};
+ghost use Rattle.std.specs.Prelude.{map, option_map};
 ghost use Rattle.serde_json.specs.View.{items_view, view};
 ghost use Rattle.fs_json.specs.Answer.{Gives};
 ghost use Rattle.fsemu.specs.Request.{unbuilt_at, all_unbuilt_at, database_at, act_at, write_at, writes_in, write_list_at, writes_at, commit_at, get_at};

@@ -1,5 +1,5 @@
 //! The top call.
-ghost use Rattle.std.specs.Prelude.{◌≡◌, ◌≢◌, ◌↔◌, ◌⊎◌, ◌∷◌, [], ℕ, List, length, map, codes, string_bytes, IsTrue, IfOk, IfSome, OnErr};
+ghost use Rattle.std.specs.Prelude.{◌≡◌, ◌≢◌, ◌↔◌, ◌⊎◌, ◌∷◌, [], length, map, codes, string_bytes, IsTrue, IfOk, IfSome, OnErr};
 ghost use Rattle.fs_edge.specs.Count.{Rose};
 ghost use Rattle.fsemu.specs.Run.{IfTaken, Wrote};
 ghost use Rattle.fsemu.specs.Taken.{Gained, GainedFront};

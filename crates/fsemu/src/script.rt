@@ -1,5 +1,5 @@
 //! Carrying out a script, line by line.
-ghost use Rattle.std.specs.Prelude.{◌≡◌, ◌+◌, ◌∷◌, ◌++◌, ◌<◌, ◌≤◌, ℕ, List, [], length, pos, ◌+ℤ◌, ◌<ℤ◌, ◌≤ℤ◌, IfOk, IfSome, IfNone, OnOk, OnErr, false};
+ghost use Rattle.std.specs.Prelude.{◌≡◌, ◌+◌, ◌∷◌, ◌++◌, ◌<◌, ◌≤◌, ℕ, List, [], length, pos, ◌+ℤ◌, ◌<ℤ◌, IfOk, IfSome, IfNone, OnOk, OnErr, false};
 ghost use Rattle.std.specs.Bool.{OnTrue, OnFalse};
 ghost use Rattle.fs_edge.specs.Count.{Rose};
 ghost use Rattle.serde_json.specs.View.{view};

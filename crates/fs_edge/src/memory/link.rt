@@ -1,4 +1,4 @@
-ghost use Rattle.std.specs.Prelude.{◌≡◌, [], ℕ, List, Some, IsTrue};
+ghost use Rattle.std.specs.Prelude.{◌≡◌, [], List, Some, IsTrue};
 ghost use Rattle.fs_edge.specs.Link.{hearings_of, none_fails};
 
 use crate::count::count;

@@ -1,4 +1,4 @@
-ghost use Rattle.std.specs.Prelude.{◌≡◌, [], ℕ, List, Some};
+ghost use Rattle.std.specs.Prelude.{◌≡◌, [], Some};
 
 use crate::count::count;
 use crate::memory::pace::Paces;
