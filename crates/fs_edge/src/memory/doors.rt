@@ -1,4 +1,5 @@
-ghost use Rattle.std.specs.Prelude.{◌≡◌, ℕ};
+ghost use Rattle.std.specs.Prelude.{◌≡◌, ◌≤◌, Ok};
+ghost use Rattle.fs_edge.specs.Count.{Rose};
 
 use crate::count::count;
 use crate::doors::{Door, Doors};
@@ -34,17 +35,29 @@ impl Doors for MemoryDoors {
 
     ghost faults = { λ d. d };
 
-    fn listen(&mut self, _port: u16) -> Result<Sent, AllocError> {
+    fn listen(&mut self, _port: u16) -> Result<Sent, AllocError>
+        ensures faults { self.old ≤ self.new }
+        ensures failed { result ≡ Ok Sent.Failed → Rose self.old self.new }
+        ensures fails { result ≡ Ok Sent.Failed }
+    {
         count(&mut self.faults);
         Ok(Sent::Failed)
     }
 
-    fn accept(&mut self) -> Result<Door<MemoryLink>, AllocError> {
+    fn accept(&mut self) -> Result<Door<MemoryLink>, AllocError>
+        ensures faults { self.old ≤ self.new }
+        ensures failed { result ≡ Ok Door.Failed → Rose self.old self.new }
+        ensures fails { result ≡ Ok Door.Failed }
+    {
         count(&mut self.faults);
         Ok(Door::Failed)
     }
 
-    fn dial(&mut self, _port: u16) -> Result<Door<MemoryLink>, AllocError> {
+    fn dial(&mut self, _port: u16) -> Result<Door<MemoryLink>, AllocError>
+        ensures faults { self.old ≤ self.new }
+        ensures failed { result ≡ Ok Door.Failed → Rose self.old self.new }
+        ensures fails { result ≡ Ok Door.Failed }
+    {
         count(&mut self.faults);
         Ok(Door::Failed)
     }
