@@ -18,3 +18,4 @@ pub mod FieldRun
 pub mod FieldLaws
 pub mod Scope
 pub mod ScopeLaws
+pub mod Way

@@ -19,6 +19,7 @@ mod survey;
 #[cfg(test)]
 mod tests;
 mod text;
+mod way;
 
 pub use database::check_database;
 pub use error::PathError;
@@ -33,3 +34,4 @@ pub use print::print_document;
 pub use scope::{Scope, covers, shard_of};
 pub use segment::is_reserved;
 pub use text::{Bytes, Text};
+pub use way::Way;

@@ -1,4 +1,4 @@
-ghost use Rattle.std.specs.Prelude.{◌≡◌, IfOk};
+ghost use Rattle.std.specs.Prelude.{◌≡◌, IfOk, string_bytes};
 ghost use Rattle.std.specs.Str.{IsUtf8};
 ghost use Rattle.fs_path.specs.Place.{member_place, item_place};
 
@@ -35,6 +35,12 @@ impl Model for Place {
 }
 
 impl Place {
+    pub(crate) fn of(text: String) -> Place
+        ensures { result ≡ string_bytes text }
+    {
+        Place { text }
+    }
+
     /// The place of a method, where every other place begins.
     pub fn method(alloc: Global, name: &str) -> Result<Place, AllocError>
         ensures { IfOk result (λ p. p ≡ name.now) }
