@@ -1,30 +1,37 @@
 #!/usr/bin/env python3
-"""Times `./fsemu replay` over lines of commits and reads, beside parsing and printing the same bytes as plain JSON.
+"""Times `./fsemu replay` over workloads, beside parsing and printing the same bytes as plain JSON.
 
-usage: bench/bench.py [lines [seed]]
+usage: bench/bench.py [lines [seed]], with FSEMU for another program than ./fsemu
 
-It makes the lines from a seed, so that two runs with the same words time the same bytes. Every second line is a commit
-of one document of ten fields of mixed kinds, and every other reads one that was committed before.
+The scripts are made from the seed, so that two runs with the same words time the same bytes:
+
+mixed    each second line commits a document of ten fields of mixed kinds, each other reads one that was committed
+commits  each line commits a document of one integer
+reads    a thousand documents of one integer are committed, and then each line reads one of them
+
+Then the memory of a document is measured: what a run that commits to so many names takes more at its peak than one that
+commits as many documents to one name.
 """
 import json
 import os
 import random
-import resource
 import subprocess
 import sys
 import tempfile
 import time
 
 TOP = os.path.dirname(os.path.dirname(os.path.abspath(__file__)))
+FSEMU = os.environ.get("FSEMU", os.path.join(TOP, "fsemu"))
 ROOT = "projects/demo/databases/(default)"
 DOCUMENTS = ROOT + "/documents"
+RUNS = 5
 
 
 def a_text(rand, size):
     return "".join(rand.choice("abcdefghijklmnopqrstuvwxyz äöüß") for _ in range(size))
 
 
-def fields(rand):
+def ten_fields(rand):
     return {
         "name": {"stringValue": a_text(rand, 24)},
         "text": {"stringValue": a_text(rand, 120)},
@@ -43,31 +50,75 @@ def fields(rand):
     }
 
 
-def make(lines, seed):
-    rand = random.Random(seed)
-    out = []
+def one_field(rand):
+    return {"n": {"integerValue": str(rand.randrange(100000))}}
+
+
+def commit(name, fields):
+    return {"commit": {"database": ROOT, "writes": [{"update": {"name": name, "fields": fields}}]}}
+
+
+def read(name):
+    return {"getDocument": {"name": name}}
+
+
+def message_name(rand, most):
+    return "%s/rooms/r%d/messages/m%d" % (DOCUMENTS, rand.randrange(20), rand.randrange(1, most))
+
+
+def mixed(lines, rand):
+    names = []
     for i in range(lines):
-        name = "%s/rooms/r%d/messages/m%d" % (DOCUMENTS, rand.randrange(20), rand.randrange(1, lines // 2 + 2))
         if i % 2 == 0:
-            request = {"commit": {"database": ROOT, "writes": [{"update": {"name": name, "fields": fields(rand)}}]}}
+            names.append(message_name(rand, lines // 2 + 2))
+            yield commit(names[-1], ten_fields(rand))
         else:
-            request = {"getDocument": {"name": name}}
-        out.append(json.dumps({"session": "s", "id": str(i), **request}, ensure_ascii=False, separators=(",", ":")))
-    return ("\n".join(out) + "\n").encode()
+            yield read(rand.choice(names))
+
+
+def commits(lines, rand):
+    for _ in range(lines):
+        yield commit(message_name(rand, lines), one_field(rand))
+
+
+def reads(lines, rand):
+    names = [message_name(rand, 1000) for _ in range(1000)]
+    for name in names:
+        yield commit(name, one_field(rand))
+    for _ in range(lines):
+        yield read(rand.choice(names))
+
+
+def documents(lines, rand, fields, names):
+    for i in range(lines):
+        yield commit("%s/c/d%07d" % (DOCUMENTS, i % names), fields(rand))
+
+
+def script_of(requests):
+    lines = [json.dumps({"session": "s", "id": str(i), **request}, ensure_ascii=False, separators=(",", ":"))
+             for i, request in enumerate(requests)]
+    return ("\n".join(lines) + "\n").encode()
+
+
+# A process begins with the peak of the one that it is forked from, so a small one starts the program.
+LAUNCH = """
+import os, sys, time
+start = time.perf_counter()
+child = os.posix_spawn(sys.argv[1], [sys.argv[1], "replay"], os.environ)
+_, status, usage = os.wait4(child, 0)
+print(time.perf_counter() - start, usage.ru_maxrss, os.waitstatus_to_exitcode(status), file=sys.stderr)
+"""
 
 
 def timed_fsemu(path):
     with open(path, "rb") as script, tempfile.TemporaryFile() as out:
-        before = resource.getrusage(resource.RUSAGE_CHILDREN)
-        start = time.perf_counter()
-        status = subprocess.run([os.path.join(TOP, "fsemu"), "replay"], stdin=script, stdout=out).returncode
-        seconds = time.perf_counter() - start
-        after = resource.getrusage(resource.RUSAGE_CHILDREN)
+        told = subprocess.run([sys.executable, "-c", LAUNCH, FSEMU], stdin=script, stdout=out, stderr=subprocess.PIPE)
+        seconds, peak, status = told.stderr.split()
         out.seek(0)
         written = out.read()
-    if status != 0:
-        sys.exit("fsemu ended with status %d" % status)
-    return seconds, after.ru_maxrss, before.ru_maxrss, written
+    if int(status) != 0:
+        sys.exit("fsemu ended with status %s" % status.decode())
+    return float(seconds), int(peak), written
 
 
 def timed_floor(loads, dumps, script, written):
@@ -80,28 +131,53 @@ def timed_floor(loads, dumps, script, written):
     return time.perf_counter() - start
 
 
-def main():
-    lines = int(sys.argv[1]) if len(sys.argv) > 1 else 20000
-    seed = int(sys.argv[2]) if len(sys.argv) > 2 else 1
-    script = make(lines, seed)
-    subprocess.run([os.path.join(TOP, "fsemu"), "replay"], stdin=subprocess.DEVNULL, check=True)
-    with tempfile.NamedTemporaryFile() as file:
-        file.write(script)
-        file.flush()
-        runs = [timed_fsemu(file.name) for _ in range(3)]
-    seconds, peak, _, written = min(runs)
-    print("lines %d, bytes in %d, bytes out %d" % (lines, len(script), len(written)))
-    print("fsemu        %.3f s  %8.0f lines/s  %6.1f MB/s in  peak %.0f MB" % (
-        seconds, lines / seconds, len(script) / seconds / 1e6, peak / 1024))
-    floor = timed_floor(json.loads, json.dumps, script, written)
-    print("json         %.3f s  fsemu takes %.1f times as long" % (floor, seconds / floor))
+def libraries():
+    yield "json", json.loads, json.dumps
     try:
         import orjson
     except ImportError:
-        print("orjson       isn't there")
+        print("orjson isn't there")
     else:
-        floor = timed_floor(orjson.loads, orjson.dumps, script, written)
-        print("orjson       %.3f s  fsemu takes %.1f times as long" % (floor, seconds / floor))
+        yield "orjson", orjson.loads, orjson.dumps
+
+
+def best_of(script, runs):
+    with tempfile.NamedTemporaryFile() as file:
+        file.write(script)
+        file.flush()
+        return min(timed_fsemu(file.name) for _ in range(runs))
+
+
+def measure(name, requests):
+    script = script_of(requests)
+    seconds, peak, written = best_of(script, RUNS)
+    count = script.count(b"\n")
+    print("%s: %d lines, %.1f MB in, %.1f MB out" % (name, count, len(script) / 1e6, len(written) / 1e6))
+    print("  fsemu   %.3f s  %8.0f lines/s  peak %.0f MB" % (seconds, count / seconds, peak / 1024))
+    for library, loads, dumps in libraries():
+        floor = min(timed_floor(loads, dumps, script, written) for _ in range(RUNS))
+        print("  %-7s %.3f s  %8.0f lines/s  fsemu takes %.1f times as long" % (
+            library, floor, count / floor, seconds / floor))
+
+
+def peak_of(lines, seed, fields, names):
+    return best_of(script_of(documents(lines, random.Random(seed), fields, names)), 1)[1] * 1024
+
+
+def measure_memory(name, lines, seed, fields):
+    more = peak_of(lines, seed, fields, lines) - peak_of(lines, seed, fields, 1)
+    print("%s: %d documents, %.0f bytes each" % (name, lines, more / lines))
+
+
+def main():
+    lines = int(sys.argv[1]) if len(sys.argv) > 1 else 20000
+    seed = int(sys.argv[2]) if len(sys.argv) > 2 else 1
+    # Builds it first, where it isn't built.
+    subprocess.run([FSEMU, "replay"], stdin=subprocess.DEVNULL, check=True)
+    for name, requests in (("mixed", mixed), ("commits", commits), ("reads", reads)):
+        measure(name, requests(lines, random.Random(seed)))
+    measure_memory("one integer", 5 * lines, seed, one_field)
+    measure_memory("ten fields", 5 * lines, seed, ten_fields)
 
 
 main()

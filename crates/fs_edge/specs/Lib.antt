@@ -2,6 +2,7 @@ pub mod Count
 pub mod Status
 pub mod Source
 pub mod Sink
+pub mod Real
 pub mod Link
 pub mod Paces
 pub mod Memory

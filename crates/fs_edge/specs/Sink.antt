@@ -9,6 +9,6 @@ Takes (Bytes n) piece = (n ≤ length piece) × (0 < length piece → 0 < n)
 Takes Failed piece = Unit {0}
 
 -- What it holds has grown by the bytes that it took. A failed write leaves it as it was.
-abbrev pub Writes : Gave → List ℕ → Option (List ℕ) → Option (List ℕ) → Type 0
-Writes (Bytes n) piece before after = after ≡ option_map (λ bytes. bytes ++ take n piece) before
-Writes Failed piece before after = after ≡ before
+abbrev pub WriteAdds : Gave → List ℕ → Option (List ℕ) → Option (List ℕ) → Type 0
+WriteAdds (Bytes n) piece before after = after ≡ option_map (λ bytes. bytes ++ take n piece) before
+WriteAdds Failed piece before after = after ≡ before

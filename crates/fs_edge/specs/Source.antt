@@ -11,7 +11,7 @@ Fills Failed buffer = Unit {0}
 
 -- What was left is the bytes that it took, which stand at the front of the buffer now, and then what is left. The end
 -- is told only where nothing is left. A failed read takes nothing.
-abbrev pub Reads : Took → List ℕ → Option (List ℕ) → Option (List ℕ) → Type 0
-Reads (Bytes n) buffer before after = before ≡ option_map (λ rest. take n buffer ++ rest) after
-Reads End buffer before after = (after ≡ before) × IfSome before (λ bytes. bytes ≡ [])
-Reads Failed buffer before after = after ≡ before
+abbrev pub ReadGives : Took → List ℕ → Option (List ℕ) → Option (List ℕ) → Type 0
+ReadGives (Bytes n) buffer before after = before ≡ option_map (λ rest. take n buffer ++ rest) after
+ReadGives End buffer before after = (after ≡ before) × IfSome before (λ bytes. bytes ≡ [])
+ReadGives Failed buffer before after = after ≡ before

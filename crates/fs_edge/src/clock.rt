@@ -1,3 +1,4 @@
+//! The time of day: a clock that may go back, and never fails.
 ghost use Rattle.std.specs.Prelude.{ℤ, List, Option};
 ghost use Rattle.fs_edge.specs.Clock.{Tells};
 

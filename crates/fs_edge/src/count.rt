@@ -1,3 +1,4 @@
+//! Counting faults and ends.
 ghost use Rattle.std.specs.Prelude.{◌≡◌, ◌≤◌};
 ghost use Rattle.fs_edge.specs.Count.{one_more, Rose};
 

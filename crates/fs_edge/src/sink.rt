@@ -1,6 +1,7 @@
-ghost use Rattle.std.specs.Prelude.{◌≡◌, ◌≤◌, ℕ, List, Option};
+//! Where bytes go: a write takes the front of a piece, or fails.
+ghost use Rattle.std.specs.Prelude.{◌≡◌, ◌≢◌, ◌≤◌, ℕ, List, Option};
 ghost use Rattle.fs_edge.specs.Count.{Rose};
-ghost use Rattle.fs_edge.specs.Sink.{Writes, Takes};
+ghost use Rattle.fs_edge.specs.Sink.{WriteAdds, Takes};
 
 /// What a write gave.
 #[derive(Clone, Copy, Debug, PartialEq, Eq)]
@@ -21,8 +22,11 @@ pub trait Sink {
 
     /// Gives the front of a piece. A sink that takes none of a piece that has bytes has failed.
     fn write(&mut self, from: &[u8]) -> Gave
-        ensures writes { Writes result from.now (given self.old) (given self.new) }
+        ensures writes { WriteAdds result from.now (given self.old) (given self.new) }
         ensures takes { Takes result from.now }
+
+        // A fault is counted exactly at a failure.
         ensures faults { faults self.old ≤ faults self.new }
-        ensures failed { result ≡ Gave.Failed → Rose (faults self.old) (faults self.new) };
+        ensures failed { result ≡ Gave.Failed → Rose (faults self.old) (faults self.new) }
+        ensures no_fault { result ≢ Gave.Failed → faults self.new ≡ faults self.old };
 }

@@ -1,6 +1,7 @@
-ghost use Rattle.std.specs.Prelude.{◌≡◌, ◌≤◌, ℕ, List, Option};
+//! Where bytes come from: a read gives some, tells the end, or fails.
+ghost use Rattle.std.specs.Prelude.{◌≡◌, ◌≢◌, ◌≤◌, ℕ, List, Option};
 ghost use Rattle.fs_edge.specs.Count.{Rose};
-ghost use Rattle.fs_edge.specs.Source.{Reads, Fills};
+ghost use Rattle.fs_edge.specs.Source.{ReadGives, Fills};
 
 /// What a read gave.
 #[derive(Clone, Copy, Debug, PartialEq, Eq)]
@@ -26,10 +27,14 @@ pub trait Source {
 
     /// Takes the next bytes: at least one into a buffer that isn't empty, unless the end has come or the read fails.
     fn read(&mut self, into: &mut [u8]) -> Took
-        ensures reads { Reads result into.new (left self.old) (left self.new) }
+        ensures reads { ReadGives result into.new (left self.old) (left self.new) }
         ensures fills { Fills result into.old }
+
+        // A fault is counted exactly at a failure, and an end where it is told.
         ensures faults { faults self.old ≤ faults self.new }
         ensures failed { result ≡ Took.Failed → Rose (faults self.old) (faults self.new) }
+        ensures no_fault { result ≢ Took.Failed → faults self.new ≡ faults self.old }
         ensures ends { ends self.old ≤ ends self.new }
-        ensures ended { result ≡ Took.End → Rose (ends self.old) (ends self.new) };
+        ensures ended { result ≡ Took.End → Rose (ends self.old) (ends self.new) }
+        ensures no_end { result ≢ Took.End → ends self.new ≡ ends self.old };
 }

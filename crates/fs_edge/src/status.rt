@@ -1,3 +1,4 @@
+//! How a run of the program ends, and the exit status that says so.
 ghost use Rattle.std.specs.Prelude.{◌≡◌};
 ghost use Rattle.fs_edge.specs.Status.{exit_code_of};
 

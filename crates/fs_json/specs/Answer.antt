@@ -1,5 +1,5 @@
 -- What a reader answers: the value that is there, or the rule that is broken and where.
-use Rattle.std.specs.Prelude.{◌≡◌, ℕ, List, Option, Some, None, Result, Ok, Err}
+use Rattle.std.specs.Prelude.{◌≡◌, ◌⊎◌, ℕ, List, Option, Some, None, Result, Ok, Err, alloc_error}
 use Rattle.fs_path.specs.declared.place.Rule.{Rule}
 use Rattle.fs_json.specs.declared.bad.Bad.{Bad}
 use Rattle.fs_json.specs.declared.bad.Bad.TheVariants.{At, Method, Memory}
@@ -21,3 +21,7 @@ Gives view (Ok x) reading = reading ≡ Ok (view x)
 Gives view (Err (At rule place)) reading = reading ≡ Err (At rule place)
 Gives view (Err (Method name)) reading = reading ≡ Err (Method name)
 Gives view (Err (Memory e)) reading = Unit {0}
+
+-- that the rule is broken at the place, or that there is no memory to tell it
+abbrev pub IsBadAt : Rule → List ℕ → Bad → Type 0
+IsBadAt rule place bad = (bad ≡ At rule place) ⊎ (bad ≡ Memory alloc_error)

@@ -10,24 +10,28 @@ use Rattle.serde_json.specs.Find.{as_i64}
 abbrev pub without_minus : List ℕ → List ℕ
 without_minus text = if starts_with_minus text then drop 1 text else text
 
--- an optional `-`, and 1 to 19 digits
+-- the most digits that an integer in a string may have: those of the largest one
+abbrev pub max_digits : ℕ
+max_digits = 19
+
+-- an optional `-`, and 1 to max_digits digits
 abbrev pub is_numeral : List ℕ → Bool
-is_numeral text = nat_le 1 (length (without_minus text)) && (nat_le (length (without_minus text)) 19 && all_ascii_digits (without_minus text))
+is_numeral text = nat_le 1 (length (without_minus text)) && (nat_le (length (without_minus text)) max_digits && all_ascii_digits (without_minus text))
 
 -- the number that it writes
 abbrev pub signed_value : List ℕ → ℤ
 signed_value text = if starts_with_minus text then neg_ℤ (pos (digits_value 10 (without_minus text))) else pos (digits_value 10 (without_minus text))
 
--- whether a number fits a signed type of so many bits beside its sign
-abbrev pub fits : ℕ → ℤ → Bool
-fits bits (pos n) = nat_lt n (2 ^ bits)
-fits bits (negsuc n) = nat_lt n (2 ^ bits)
+-- whether a number fits so many bits and its sign
+abbrev pub fits_bits : ℕ → ℤ → Bool
+fits_bits bits (pos n) = nat_lt n (2 ^ bits)
+fits_bits bits (negsuc n) = nat_lt n (2 ^ bits)
 
 -- the number, if it fits
 abbrev pub if_fits : ℕ → ℤ → Option ℤ
-if_fits bits z = if fits bits z then Some z else None
+if_fits bits z = if fits_bits bits z then Some z else None
 
--- what a numeral says, if it fits 64 bits
+-- what a numeral says, if it fits 64 bits, its sign included
 abbrev pub integer_in_text : List ℕ → Option ℤ
 integer_in_text text = if is_numeral text then if_fits 63 (signed_value text) else None
 
@@ -40,7 +44,7 @@ integer_of (string text) = integer_in_text text
 integer_of (array ds) = None
 integer_of (object ms) = None
 
--- a 32-bit integer is read the same way, in its own range
+-- an integer of 32 bits, its sign included, is read the same way
 abbrev pub small_of : Data → Option ℤ
 small_of d = option_and_then (if_fits 31) (integer_of d)
 

@@ -75,13 +75,13 @@ only_at names d place = or_fault G place (as_object d) >>= λ ms.
 -- ---- one of several members
 
 -- the first of the names that the key spells
-abbrev pub name_of : List (List ℕ) → List ℕ → Option (List ℕ)
-name_of [] key = None
-name_of (name ∷ names) key = if spells name key then Some name else name_of names key
+abbrev pub first_spelled : List (List ℕ) → List ℕ → Option (List ℕ)
+first_spelled [] key = None
+first_spelled (name ∷ names) key = if spells name key then Some name else first_spelled names key
 
 -- what is made of a member by its name, if it counts as there and is one of these
 abbrev pub if_chosen : {A : Type 0} → List (List ℕ) → (List ℕ → A) → List ℕ → Data → List A
-if_chosen names make key d = option_to_list (option_map make (if is_given key d then name_of names key else None))
+if_chosen names make key d = option_to_list (option_map make (if is_given key d then first_spelled names key else None))
 
 -- the members that are there of these names, in byte order of their keys, by name
 abbrev pub chosen : List (List ℕ) → Members → List (List ℕ × Data)

@@ -1,5 +1,9 @@
-use fs_path::{Place, Rule, Text};
-use std::alloc::{AllocError, AllocFailed};
+//! Why a request isn't read, and where in it.
+ghost use Rattle.fs_path.specs.Way.{place_of};
+ghost use Rattle.fs_json.specs.Answer.{IsBadAt};
+
+use fs_path::{Place, Rule, Text, Way};
+use std::alloc::{AllocError, AllocFailed, Global};
 
 /// Why a request isn't read.
 #[derive(Drop, Debug)]
@@ -9,6 +13,18 @@ pub enum Bad {
     /// It asks for this method or member of one, which isn't built.
     Method(Text),
     Memory(AllocError),
+}
+
+impl Bad {
+    /// The refusal that tells that this rule is broken where the way leads to. Only here a place is made of a way.
+    pub fn at(alloc: Global, rule: Rule, place: &Way<'_>) -> Bad
+        ensures { IsBadAt rule (place_of place.now) result }
+    {
+        match place.place(alloc) {
+            Ok(place) => Bad::At(rule, place),
+            Err(e) => Bad::Memory(e),
+        }
+    }
 }
 
 impl From<AllocError> for Bad {

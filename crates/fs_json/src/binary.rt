@@ -1,7 +1,9 @@
+//! Bytes, as strings of base64.
 ghost use Rattle.std.specs.Prelude.{◌≡◌, ◌↔◌, ℕ, List, Some, IfOk};
 ghost use Rattle.base64.specs.Engines.{standard, standard_no_pad, url_safe, url_safe_no_pad};
 ghost use Rattle.base64.specs.GeneralPurpose.{decoded_of, IsBytes};
 ghost use Rattle.fs_path.specs.declared.place.Rule.TheVariants.{G};
+ghost use Rattle.fs_path.specs.Way.{place_of};
 ghost use Rattle.serde_json.specs.View.{view};
 ghost use Rattle.fs_json.specs.Answer.{Gives, or_fault};
 ghost use Rattle.fs_json.specs.Base64.{bytes_of, decoded, IsBase64};
@@ -11,20 +13,20 @@ use base64::DecodeAllocError;
 use base64::engine::general_purpose::{
     GeneralPurpose, STANDARD, STANDARD_NO_PAD, URL_SAFE, URL_SAFE_NO_PAD,
 };
-use fs_path::{Bytes, Place, Rule};
+use fs_path::{Bytes, Rule, Way};
 use serde_json::Value;
 use std::alloc::{AllocError, Global};
 
 /// Bytes: a string of base64 in the standard or the URL alphabet, with all of its padding or none.
-pub fn bytes(alloc: Global, v: &Value, place: &Place) -> Result<Bytes, Bad>
-    ensures { Gives (λ b. b) result (or_fault G place.now (bytes_of (view v.now))) }
+pub fn bytes(alloc: Global, v: &Value, place: &Way<'_>) -> Result<Bytes, Bad>
+    ensures { Gives (λ b. b) result (or_fault G (place_of place.now) (bytes_of (view v.now))) }
 {
     if let Some(text) = v.as_str()
         && let Some(bytes) = decoded(alloc, text.as_bytes())?
     {
         return Ok(bytes);
     }
-    Err(Bad::At(Rule::G, place.copy(alloc)?))
+    Err(Bad::at(alloc, Rule::G, place))
 }
 
 /// Shows that just the texts of the four forms of base64 are read, and each as the bytes that it is of.

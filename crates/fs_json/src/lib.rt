@@ -14,7 +14,7 @@ mod write;
 
 pub use bad::Bad;
 pub use binary::{base64_forms, bytes};
-pub use members::{at_most_one_of, member, one_of, only, required};
+pub use members::{at_most_one_of, member, one_of, only, only_of_two, required};
 pub use paths::{document_name, reference, unless_refused};
 pub use scalars::{integer, list, small, text, truth};
 pub use times::{time, write_time};

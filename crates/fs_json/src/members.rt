@@ -1,28 +1,34 @@
-ghost use Rattle.std.specs.Prelude.{◌≡◌, ℕ, List, Option, map, None, option_map, IfSome, if◌then◌else◌};
+//! The members of an object: which may be there, which have to be, and in which spelling.
+ghost use Rattle.std.specs.Prelude.{◌≡◌, ◌++◌, ℕ, List, Option, map, None, option_map, IfSome, if◌then◌else◌};
 ghost use Rattle.std.specs.List.{list_any};
+ghost use Rattle.fs_path.specs.Way.{place_of};
 ghost use Rattle.fs_json.specs.Names.{snake_of, spells};
 ghost use Rattle.serde_json.specs.Data.{Data};
 ghost use Rattle.serde_json.specs.View.{view, members_view};
 ghost use Rattle.serde_json.specs.Find.{get_member};
 ghost use Rattle.fs_json.specs.Answer.{Gives};
-ghost use Rattle.fs_json.specs.Members.{at_most_one_at, chosen, first_twice, first_unknown, given_at, is_given, is_second, member_at, name_of, none_or_one, one_of_at, only_at, required_at};
+ghost use Rattle.fs_json.specs.Members.{at_most_one_at, chosen, first_twice, first_unknown, given_at, is_given, is_second, member_at, first_spelled, none_or_one, one_of_at, only_at, required_at};
 
 use crate::bad::Bad;
 use crate::names::{is_snake, spells};
-use fs_path::{Place, Rule};
+use fs_path::{Rule, Way};
 use serde_json::{Map, Value};
 use std::alloc::Global;
 
 /// The member of this name, which is given in lowerCamelCase and may stand in snake_case too. One whose value is null
-/// counts as absent, but for `nullValue`. Both spellings together are refused at the second.
+/// counts as absent, but for `nullValue`. Both spellings together are refused at the second. (proto3 JSON, "JSON
+/// Options".)
+///
+/// At the way `x` the member `aB` of `{"aB":2}` and of `{"a_b":2}` is 2, of `{"aB":null,"a_b":2}` too, and that of
+/// `{"aB":null}` and of `{"ab":2}` is none. `{"a_b":1,"aB":2}` is refused at `x.a_b`.
 pub fn member<'a>(
     alloc: Global,
     v: &'a Value,
     name: &str,
-    place: &Place,
+    place: &Way<'_>,
 ) -> Result<Option<&'a Value>, Bad>
     ensures { Gives (λ found. option_map (λ x. view x.now) found) result
-        (member_at name.now (view v.now) place.now) }
+        (member_at name.now (view v.now) (place_of place.now)) }
 {
     let Value::Object(members) = v else {
         return Ok(None);
@@ -32,7 +38,7 @@ pub fn member<'a>(
         return Ok(first);
     }
     match (first, given_in_snake_case(members, name)) {
-        (Some(_), Some((key, _))) => Err(Bad::At(Rule::G, place.member(alloc, key)?)),
+        (Some(_), Some((key, _))) => Err(Bad::at(alloc, Rule::G, &place.member(key))),
         (Some(found), None) => Ok(Some(found)),
         (None, Some((_, found))) => Ok(Some(found)),
         (None, None) => Ok(None),
@@ -44,14 +50,14 @@ pub fn required<'a>(
     alloc: Global,
     v: &'a Value,
     name: &str,
-    place: &Place,
+    place: &Way<'_>,
 ) -> Result<&'a Value, Bad>
     ensures { Gives (λ found. view found.now) result
-        (required_at name.now (view v.now) place.now) }
+        (required_at name.now (view v.now) (place_of place.now)) }
 {
     match member(alloc, v, name, place)? {
         Some(found) => Ok(found),
-        None => Err(Bad::At(Rule::G, place.member(alloc, name)?)),
+        None => Err(Bad::at(alloc, Rule::G, &place.member(name))),
     }
 }
 
@@ -61,14 +67,14 @@ pub fn one_of<'a, 'n>(
     alloc: Global,
     v: &'a Value,
     names: &[&'n str],
-    place: &Place,
+    place: &Way<'_>,
 ) -> Result<(&'n str, &'a Value), Bad>
     ensures { Gives {Y = List ℕ × Data} (λ one. (one.0.now, view one.1.now)) result
-        (one_of_at (map (λ n. n.now) names.now) (view v.now) place.now) }
+        (one_of_at (map (λ n. n.now) names.now) (view v.now) (place_of place.now)) }
 {
     match at_most_one_of(alloc, v, names, place)? {
         Some(one) => Ok(one),
-        None => Err(Bad::At(Rule::G, place.copy(alloc)?)),
+        None => Err(Bad::at(alloc, Rule::G, place)),
     }
 }
 
@@ -78,29 +84,47 @@ pub fn at_most_one_of<'a, 'n>(
     alloc: Global,
     v: &'a Value,
     names: &[&'n str],
-    place: &Place,
+    place: &Way<'_>,
 ) -> Result<Option<(&'n str, &'a Value)>, Bad>
     ensures { Gives {Y = Option (List ℕ × Data)}
         (λ found. option_map (λ one. (one.0.now, view one.1.now)) found) result
-        (at_most_one_at (map (λ n. n.now) names.now) (view v.now) place.now) }
+        (at_most_one_at (map (λ n. n.now) names.now) (view v.now) (place_of place.now)) }
 {
     if let Value::Object(members) = v
         && let Some(found) = chosen(members, names)
     {
         return Ok(found);
     }
-    Err(Bad::At(Rule::G, place.copy(alloc)?))
+    Err(Bad::at(alloc, Rule::G, place))
 }
 
-/// Refuses a value that isn't an object, a member of none of these names, and a member that is given in both spellings.
-pub fn only(alloc: Global, v: &Value, names: &[&str], place: &Place) -> Result<(), Bad>
-    ensures { Gives (λ u. u) result (only_at (map (λ n. n.now) names.now) (view v.now) place.now) }
+/// Refuses a value that isn't an object, a member of none of these names, and a member that is given in both spellings,
+/// in this order and at the first such key in the order of bytes.
+///
+/// With the one name `aB` at the way `x`, `{"a_b":null}` passes, `{"a_b":1,"aB":2}` is refused at `x.a_b`, and
+/// `{"a_b":1,"aB":2,"c":null}` at `x.c`.
+pub fn only(alloc: Global, v: &Value, names: &[&str], place: &Way<'_>) -> Result<(), Bad>
+    ensures { Gives (λ u. u) result (only_at (map (λ n. n.now) names.now) (view v.now) (place_of place.now)) }
+{
+    only_of_two(alloc, v, names, &[], place)
+}
+
+/// The same where the names stand in two lists.
+pub fn only_of_two(
+    alloc: Global,
+    v: &Value,
+    these: &[&str],
+    those: &[&str],
+    place: &Way<'_>,
+) -> Result<(), Bad>
+    ensures { Gives (λ u. u) result (only_at (map (λ n. n.now) these.now ++ map (λ n. n.now) those.now)
+        (view v.now) (place_of place.now)) }
 {
     let Value::Object(members) = v else {
-        return Err(Bad::At(Rule::G, place.copy(alloc)?));
+        return Err(Bad::at(alloc, Rule::G, place));
     };
-    match first_unknown(members, names).or(first_twice(members, names)) {
-        Some(key) => Err(Bad::At(Rule::G, place.member(alloc, key)?)),
+    match first_unknown(members, these, those).or(first_twice(members, these, those)) {
+        Some(key) => Err(Bad::at(alloc, Rule::G, &place.member(key))),
         None => Ok(()),
     }
 }
@@ -168,16 +192,26 @@ fn found_in_snake_case<'a>(
     None
 }
 
-fn first_unknown<'a>(members: &'a Map<String, Value>, names: &[&str]) -> Option<&'a str>
+fn first_unknown<'a>(
+    members: &'a Map<String, Value>,
+    these: &[&str],
+    those: &[&str],
+) -> Option<&'a str>
     ensures { option_map (λ key. key.now) result
-        ≡ first_unknown (map (λ n. n.now) names.now) (members_view members.now.entries) }
+        ≡ first_unknown (map (λ n. n.now) these.now ++ map (λ n. n.now) those.now) (members_view members.now.entries) }
 {
     for (key, _) in members.iter() {
-        if !is_known(names, key.as_str()) {
+        if !is_known_of_two(these, those, key.as_str()) {
             return Some(key.as_str());
         }
     }
     None
+}
+
+fn is_known_of_two(these: &[&str], those: &[&str], key: &str) -> bool
+    ensures { result ≡ list_any (λ name. spells name key.now) (map (λ n. n.now) these.now ++ map (λ n. n.now) those.now) }
+{
+    is_known(these, key) || is_known(those, key)
 }
 
 fn is_known(names: &[&str], key: &str) -> bool
@@ -191,16 +225,26 @@ fn is_known(names: &[&str], key: &str) -> bool
     false
 }
 
-fn first_twice<'a>(members: &'a Map<String, Value>, names: &[&str]) -> Option<&'a str>
+fn first_twice<'a>(
+    members: &'a Map<String, Value>,
+    these: &[&str],
+    those: &[&str],
+) -> Option<&'a str>
     ensures { let all = members_view members.now.entries in
-        option_map (λ key. key.now) result ≡ first_twice (map (λ n. n.now) names.now) all all }
+        option_map (λ key. key.now) result ≡ first_twice (map (λ n. n.now) these.now ++ map (λ n. n.now) those.now) all all }
 {
     for (key, v) in members.iter() {
-        if is_given(key.as_str(), v) && is_second(members, names, key.as_str()) {
+        if is_given(key.as_str(), v) && is_second_of_two(members, these, those, key.as_str()) {
             return Some(key.as_str());
         }
     }
     None
+}
+
+fn is_second_of_two(members: &Map<String, Value>, these: &[&str], those: &[&str], key: &str) -> bool
+    ensures { result ≡ is_second (map (λ n. n.now) these.now ++ map (λ n. n.now) those.now) (members_view members.now.entries) key.now }
+{
+    is_second(members, these, key) || is_second(members, those, key)
 }
 
 fn is_second(members: &Map<String, Value>, names: &[&str], key: &str) -> bool
@@ -241,18 +285,18 @@ fn chosen<'a, 'n>(
 /// The name that the key spells, if the member counts as there.
 fn chosen_by<'n>(names: &[&'n str], key: &str, v: &Value) -> Option<&'n str>
     ensures { option_map (λ name. name.now) result
-        ≡ (if is_given key.now (view v.now) then name_of (map (λ n. n.now) names.now) key.now else None) }
+        ≡ (if is_given key.now (view v.now) then first_spelled (map (λ n. n.now) names.now) key.now else None) }
 {
     if is_given(key, v) {
-        name_of(names, key)
+        first_spelled(names, key)
     } else {
         None
     }
 }
 
-fn name_of<'n>(names: &[&'n str], key: &str) -> Option<&'n str>
+fn first_spelled<'n>(names: &[&'n str], key: &str) -> Option<&'n str>
     ensures { option_map (λ name. name.now) result
-        ≡ name_of (map (λ n. n.now) names.now) key.now }
+        ≡ first_spelled (map (λ n. n.now) names.now) key.now }
 {
     for name in names {
         if spells(name, key) {

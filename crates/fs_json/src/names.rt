@@ -1,3 +1,4 @@
+//! The two spellings of a member's name: `readTime` may stand as `read_time`.
 ghost use Rattle.std.specs.Prelude.{◌≡◌};
 ghost use Rattle.std.specs.Str.{bytes_eq};
 ghost use Rattle.fs_json.specs.Names.{snake_of, spells};
@@ -17,7 +18,7 @@ pub(crate) fn is_snake(name: &[u8], key: &[u8]) -> bool
         [] => key.is_empty(),
         [c, name @ ..] => if c.is_ascii_uppercase() {
             match key {
-                [b'_', k, key @ ..] => *k == *c + 32 && is_snake(name, key),
+                [b'_', k, key @ ..] => *k == c.to_ascii_lowercase() && is_snake(name, key),
                 _ => false,
             }
         } else {

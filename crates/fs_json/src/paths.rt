@@ -1,29 +1,31 @@
+//! Names of documents, as strings.
+ghost use Rattle.fs_path.specs.Way.{place_of};
 ghost use Rattle.serde_json.specs.View.{view};
 ghost use Rattle.fs_json.specs.Answer.{Gives};
 ghost use Rattle.fs_json.specs.Paths.{document_name_at, path_at, reference_at};
 
 use crate::bad::Bad;
-use fs_path::{DocName, PathError, Place, Root, Rule, parse_document, parse_reference};
+use fs_path::{DocName, PathError, Root, Rule, Way, parse_document, parse_reference};
 use serde_json::Value;
 use std::alloc::{AllocError, Global};
 
 /// The name of a document of any project and database. A string that is none breaks a rule of names.
-pub fn reference(alloc: Global, v: &Value, place: &Place) -> Result<DocName, Bad>
-    ensures { Gives (λ n. n) result (reference_at (view v.now) place.now) }
+pub fn reference(alloc: Global, v: &Value, place: &Way<'_>) -> Result<DocName, Bad>
+    ensures { Gives (λ n. n) result (reference_at (view v.now) (place_of place.now)) }
 {
     match v.as_str() {
         Some(text) => unless_refused(alloc, parse_reference(alloc, text), place),
-        None => Err(Bad::At(Rule::G, place.copy(alloc)?)),
+        None => Err(Bad::at(alloc, Rule::G, place)),
     }
 }
 
 /// The name of a document of this root.
-pub fn document_name(alloc: Global, root: &Root, v: &Value, place: &Place) -> Result<DocName, Bad>
-    ensures { Gives (λ n. n) result (document_name_at root.now (view v.now) place.now) }
+pub fn document_name(alloc: Global, root: &Root, v: &Value, place: &Way<'_>) -> Result<DocName, Bad>
+    ensures { Gives (λ n. n) result (document_name_at root.now (view v.now) (place_of place.now)) }
 {
     match v.as_str() {
         Some(text) => unless_refused(alloc, parse_document(alloc, root, text), place),
-        None => Err(Bad::At(Rule::G, place.copy(alloc)?)),
+        None => Err(Bad::at(alloc, Rule::G, place)),
     }
 }
 
@@ -31,14 +33,14 @@ pub fn document_name(alloc: Global, root: &Root, v: &Value, place: &Place) -> Re
 pub fn unless_refused<T: Drop>(
     alloc: Global,
     read: Result<T, PathError>,
-    place: &Place,
+    place: &Way<'_>,
 ) -> Result<T, Bad>
-    ensures { Gives (λ x. x) result (path_at place.now read) }
+    ensures { Gives (λ x. x) result (path_at (place_of place.now) read) }
 {
     match read {
         Ok(x) => Ok(x),
         Err(e) => match e.rule() {
-            Some(rule) => Err(Bad::At(rule, place.copy(alloc)?)),
+            Some(rule) => Err(Bad::at(alloc, rule, place)),
             None => Err(Bad::Memory(AllocError)),
         },
     }

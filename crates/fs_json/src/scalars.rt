@@ -1,5 +1,7 @@
+//! Strings, truth values, lists and integers.
 ghost use Rattle.std.specs.Prelude.{◌≡◌};
 ghost use Rattle.fs_path.specs.declared.place.Rule.TheVariants.{G};
+ghost use Rattle.fs_path.specs.Way.{place_of};
 ghost use Rattle.serde_json.specs.Find.{as_array, as_bool, as_str};
 ghost use Rattle.serde_json.specs.View.{items_view, view};
 ghost use Rattle.fs_json.specs.Answer.{Gives, or_fault};
@@ -7,58 +9,58 @@ ghost use Rattle.std.specs.Str.{all_ascii_digits};
 ghost use Rattle.fs_json.specs.Integer.{integer_in_text, integer_of, is_numeral, small_of};
 
 use crate::bad::Bad;
-use fs_path::{Place, Rule, Text};
+use fs_path::{Rule, Text, Way};
 use serde_json::Value;
 use std::alloc::Global;
 
 /// A string.
-pub fn text(alloc: Global, v: &Value, place: &Place) -> Result<Text, Bad>
-    ensures { Gives (λ t. t) result (or_fault G place.now (as_str (view v.now))) }
+pub fn text(alloc: Global, v: &Value, place: &Way<'_>) -> Result<Text, Bad>
+    ensures { Gives (λ t. t) result (or_fault G (place_of place.now) (as_str (view v.now))) }
 {
     match v.as_str() {
         Some(text) => Ok(Text::from_str(alloc, text)?),
-        None => Err(Bad::At(Rule::G, place.copy(alloc)?)),
+        None => Err(Bad::at(alloc, Rule::G, place)),
     }
 }
 
 /// A truth value.
-pub fn truth(alloc: Global, v: &Value, place: &Place) -> Result<bool, Bad>
-    ensures { Gives (λ b. b) result (or_fault G place.now (as_bool (view v.now))) }
+pub fn truth(alloc: Global, v: &Value, place: &Way<'_>) -> Result<bool, Bad>
+    ensures { Gives (λ b. b) result (or_fault G (place_of place.now) (as_bool (view v.now))) }
 {
     match v.as_bool() {
         Some(b) => Ok(b),
-        None => Err(Bad::At(Rule::G, place.copy(alloc)?)),
+        None => Err(Bad::at(alloc, Rule::G, place)),
     }
 }
 
 /// A list.
-pub fn list<'a>(alloc: Global, v: &'a Value, place: &Place) -> Result<&'a Vec<Value>, Bad>
+pub fn list<'a>(alloc: Global, v: &'a Value, place: &Way<'_>) -> Result<&'a Vec<Value>, Bad>
     ensures { Gives (λ l. items_view l.now.items) result
-        (or_fault G place.now (as_array (view v.now))) }
+        (or_fault G (place_of place.now) (as_array (view v.now))) }
 {
     match v.as_array() {
         Some(items) => Ok(items),
-        None => Err(Bad::At(Rule::G, place.copy(alloc)?)),
+        None => Err(Bad::at(alloc, Rule::G, place)),
     }
 }
 
 /// A 64-bit integer: a string of an optional `-` and 1 to 19 digits, or a JSON number.
-pub fn integer(alloc: Global, v: &Value, place: &Place) -> Result<i64, Bad>
-    ensures { Gives (λ n. n) result (or_fault G place.now (integer_of (view v.now))) }
+pub fn integer(alloc: Global, v: &Value, place: &Way<'_>) -> Result<i64, Bad>
+    ensures { Gives (λ n. n) result (or_fault G (place_of place.now) (integer_of (view v.now))) }
 {
     match integer_in(v) {
         Some(n) => Ok(n),
-        None => Err(Bad::At(Rule::G, place.copy(alloc)?)),
+        None => Err(Bad::at(alloc, Rule::G, place)),
     }
 }
 
 /// A 32-bit integer, which is read as a 64-bit one is.
-pub fn small(alloc: Global, v: &Value, place: &Place) -> Result<i32, Bad>
-    ensures { Gives (λ n. n) result (or_fault G place.now (small_of (view v.now))) }
+pub fn small(alloc: Global, v: &Value, place: &Way<'_>) -> Result<i32, Bad>
+    ensures { Gives (λ n. n) result (or_fault G (place_of place.now) (small_of (view v.now))) }
 {
     match integer_in(v).and_then(|n| i32::try_from(n).ok()) {
         Some(n) => Ok(n),
-        None => Err(Bad::At(Rule::G, place.copy(alloc)?)),
+        None => Err(Bad::at(alloc, Rule::G, place)),
     }
 }
 
@@ -81,7 +83,10 @@ fn integer_text(text: &str) -> Option<i64>
     text.parse::<i64>().ok()
 }
 
-/// Whether a text is an optional `-` and 1 to 19 digits.
+/// The most digits that an integer in a string may have: those of the largest one.
+const MAX_DIGITS: usize = 19;
+
+/// Whether a text is an optional `-` and 1 to `MAX_DIGITS` digits.
 fn is_numeral(text: &[u8]) -> bool
     ensures { result ≡ is_numeral text.now }
 {
@@ -89,7 +94,7 @@ fn is_numeral(text: &[u8]) -> bool
         [b'-', digits @ ..] => digits,
         _ => text,
     };
-    1 <= digits.len() && digits.len() <= 19 && all_digits(digits)
+    1 <= digits.len() && digits.len() <= MAX_DIGITS && all_digits(digits)
 }
 
 fn all_digits(text: &[u8]) -> bool

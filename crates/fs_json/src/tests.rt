@@ -1,91 +1,79 @@
 use crate::{
-    Bad, at_most_one_of, bytes, document_name, integer, list, member, one_of, only, reference,
-    required, small, text, time, truth, write_bytes, write_integer, write_text, write_time,
+    Bad, at_most_one_of, base64_forms, bytes, document_name, integer, list, member, one_of, only,
+    reference, required, small, text, time, truth, write_bytes, write_integer, write_text,
+    write_time,
 };
-use fs_path::{Bytes, DocName, Place, Root, Rule, Text, print_document};
+use fs_path::{Bytes, Root, Text, Way, print_document};
 use fs_time::Micros;
 use serde_json::Value;
 use std::alloc::Global;
-use std::fmt::Display;
 use std::test::Fail;
 
-// What was read, or the refusal.
-fn shown<T: Display + Drop>(alloc: Global, answer: Result<T, Bad>) -> Result<String, Fail> {
-    match answer {
-        Ok(value) => Ok(value.to_string(alloc)?),
-        Err(Bad::At(Rule::G, place)) => {
+// What was read, or the refusal with its place.
+fn shown(alloc: Global, read: Result<String, Bad>) -> Result<String, Fail> {
+    match read {
+        Ok(value) => Ok(value),
+        Err(Bad::At(rule, place)) => {
             let place = place.as_str();
-            Ok(format!(in alloc; "G at {place}")?)
-        }
-        Err(Bad::At(Rule::T(n), place)) => {
-            let place = place.as_str();
-            Ok(format!(in alloc; "T{n} at {place}")?)
-        }
-        Err(Bad::At(Rule::P(n, None), place)) => {
-            let place = place.as_str();
-            Ok(format!(in alloc; "P{n} at {place}")?)
+            Ok(format!(in alloc; "{rule:?} at {place}")?)
         }
         Err(bad) => Err(Fail::from(bad)),
     }
 }
 
-fn shown_name(alloc: Global, answer: Result<DocName, Bad>) -> Result<String, Fail> {
-    match answer {
-        Ok(name) => Ok(print_document(alloc, &name)?.into_string()),
-        Err(bad) => shown(alloc, Err::<u8, Bad>(bad)),
+// What the reader of this name gives.
+fn scalar(alloc: Global, reader: &str, v: &Value, here: &Way<'_>) -> Result<String, Bad> {
+    match reader {
+        "integer" => Ok(integer(alloc, v, here)?.to_string(alloc)?),
+        "small" => Ok(small(alloc, v, here)?.to_string(alloc)?),
+        "truth" => Ok(truth(alloc, v, here)?.to_string(alloc)?),
+        "text" => Ok(text(alloc, v, here)?.into_string()),
+        "bytes" => Ok(format!(in alloc; "{:?}", bytes(alloc, v, here)?.as_slice())?),
+        "time" => Ok(time(alloc, v, here)?.get().to_string(alloc)?),
+        "list" => Ok(list(alloc, v, here)?.len().to_string(alloc)?),
+        _ => name(alloc, reader, v, here),
     }
 }
 
-// What the reader of this name answers at `x`. The words after the name are the names of members.
-fn answer(alloc: Global, reader: &str, v: &Value) -> Result<String, Fail> {
-    let place = Place::method(alloc, "x")?;
+fn name(alloc: Global, reader: &str, v: &Value, here: &Way<'_>) -> Result<String, Bad> {
+    let root = Root {
+        project: Text::from_str(alloc, "demo")?,
+        database: Text::from_str(alloc, "(default)")?,
+    };
+    let name = if reader == "reference" {
+        reference(alloc, v, here)?
+    } else {
+        document_name(alloc, &root, v, here)?
+    };
+    Ok(print_document(alloc, &name)?.into_string())
+}
+
+// The same of a reader of members, with the names that it is given.
+fn members(alloc: Global, reader: &str, v: &Value, here: &Way<'_>) -> Result<String, Bad> {
     let names = ["delete", "readTime", "updateTime", "nullValue"];
     match reader {
-        "integer" => shown(alloc, integer(alloc, v, &place)),
-        "small" => shown(alloc, small(alloc, v, &place)),
-        "truth" => shown(alloc, truth(alloc, v, &place)),
-        "text" => shown(alloc, text(alloc, v, &place).map(Text::into_string)),
-        "bytes" => match bytes(alloc, v, &place) {
-            Ok(read) => Ok(format!(in alloc; "{:?}", read.as_slice())?),
-            Err(bad) => shown(alloc, Err::<u8, Bad>(bad)),
+        "member" => match member(alloc, v, "readTime", here)? {
+            Some(found) => Ok(found.to_string(alloc)?),
+            None => Ok(String::from_str(alloc, "none")?),
         },
-        "time" => shown(alloc, time(alloc, v, &place).map(Micros::get)),
-        "reference" => shown_name(alloc, reference(alloc, v, &place)),
-        "document_name" => {
-            let root = Root {
-                project: Text::from_str(alloc, "demo")?,
-                database: Text::from_str(alloc, "(default)")?,
-            };
-            shown_name(alloc, document_name(alloc, &root, v, &place))
+        "required" => Ok(required(alloc, v, "readTime", here)?.to_string(alloc)?),
+        "only" => {
+            only(alloc, v, &names, here)?;
+            Ok(String::from_str(alloc, "only these")?)
         }
-        "list" => shown(alloc, list(alloc, v, &place).map(|l: &Vec<Value>| l.len())),
-        "member" => match member(alloc, v, "readTime", &place) {
-            Ok(Some(found)) => Ok(found.to_string(alloc)?),
-            Ok(None) => Ok(String::from_str(alloc, "none")?),
-            Err(bad) => shown(alloc, Err::<u8, Bad>(bad)),
+        "one_of" => {
+            let (name, found) = one_of(alloc, v, &names, here)?;
+            let found = found.to_string(alloc)?;
+            Ok(format!(in alloc; "{name} {found}")?)
+        }
+        _ => match at_most_one_of(alloc, v, &names, here)? {
+            Some((name, _)) => Ok(String::from_str(alloc, name)?),
+            None => Ok(String::from_str(alloc, "none")?),
         },
-        "required" => match required(alloc, v, "readTime", &place) {
-            Ok(found) => Ok(found.to_string(alloc)?),
-            Err(bad) => shown(alloc, Err::<u8, Bad>(bad)),
-        },
-        "only" => shown(alloc, only(alloc, v, &names, &place).map(|_| "only these")),
-        "one_of" => match one_of(alloc, v, &names, &place) {
-            Ok((name, found)) => {
-                let found = found.to_string(alloc)?;
-                Ok(format!(in alloc; "{name} {found}")?)
-            }
-            Err(bad) => shown(alloc, Err::<u8, Bad>(bad)),
-        },
-        "at_most_one_of" => match at_most_one_of(alloc, v, &names, &place) {
-            Ok(Some((name, _))) => Ok(String::from_str(alloc, name)?),
-            Ok(None) => Ok(String::from_str(alloc, "none")?),
-            Err(bad) => shown(alloc, Err::<u8, Bad>(bad)),
-        },
-        _ => Err(Fail::new("no such reader")),
     }
 }
 
-const READINGS: &str = r#"integer "0" => 0
+const SCALARS: &str = r#"integer "0" => 0
 integer "-0" => 0
 integer "007" => 7
 integer "9223372036854775807" => 9223372036854775807
@@ -149,18 +137,19 @@ bytes 12 => G at x
 time "2024-01-01T00:00:00Z" => 1704067200000000
 time "2024-01-01T01:00:00.1234567+01:00" => 1704067200123456
 time "9999-12-31T23:59:59.9999999Z" => 253402300799999999
-time "0000-12-31T23:59:59Z" => T2 at x
-time "2024-02-30T00:00:00Z" => T1 at x
-time "2024-01-01t00:00:00Z" => T1 at x
+time "0000-12-31T23:59:59Z" => T(2) at x
+time "2024-02-30T00:00:00Z" => T(1) at x
+time "2024-01-01t00:00:00Z" => T(1) at x
 time 1704067200 => G at x
 reference "projects/p/databases/d/documents/c/a" => projects/p/databases/d/documents/c/a
-reference "projects/p/databases/d/documents/c" => P3 at x
-reference "c/a" => P1 at x
+reference "projects/p/databases/d/documents/c" => P(3, None) at x
+reference "c/a" => P(1, None) at x
 reference null => G at x
 document_name "projects/demo/databases/(default)/documents/c/a" => projects/demo/databases/(default)/documents/c/a
-document_name "projects/x/databases/(default)/documents/c/a" => P2 at x
-document_name 1 => G at x
-member {"readTime":1} => 1
+document_name "projects/x/databases/(default)/documents/c/a" => P(2, None) at x
+document_name 1 => G at x"#;
+
+const MEMBERS: &str = r#"member {"readTime":1} => 1
 member {"read_time":2} => 2
 member {"readTime":null,"read_time":2} => 2
 member {"readTime":1,"read_time":null} => 1
@@ -199,18 +188,38 @@ at_most_one_of {"read_time":1} => readTime
 at_most_one_of {"delete":1,"readTime":1} => G at x
 at_most_one_of [] => G at x"#;
 
+// A line's reader, its value and the answer.
+fn parts(line: &str) -> Option<(&str, &str, &str)> {
+    let (asked, want) = line.split_once(" => ")?;
+    let (reader, json) = asked.split_once(" ")?;
+    Some((reader, json, want))
+}
+
 #[test]
-fn readers_answer(rt: HostRuntime) -> Result<(), Fail> {
-    for line in READINGS.lines() {
-        let Some((asked, want)) = line.split_once(" => ") else {
-            return Err(Fail::new("a line without an answer"));
+fn scalars_are_read(rt: HostRuntime) -> Result<(), Fail> {
+    let alloc = rt.alloc();
+    for line in SCALARS.lines() {
+        let Some((reader, json, want)) = parts(line) else {
+            return Err(Fail::new("no such line"));
         };
-        let Some((reader, json)) = asked.split_once(" ") else {
-            return Err(Fail::new("a line without a value"));
+        let v = Value::from_str(alloc, json)?;
+        let read = shown(alloc, scalar(alloc, reader, &v, &Way::method("x")))?;
+        assert!(rt; read.as_str() == want, "{line} gives {read}");
+    }
+    base64_forms();
+    Ok(())
+}
+
+#[test]
+fn members_are_found(rt: HostRuntime) -> Result<(), Fail> {
+    let alloc = rt.alloc();
+    for line in MEMBERS.lines() {
+        let Some((reader, json, want)) = parts(line) else {
+            return Err(Fail::new("no such line"));
         };
-        let v = Value::from_str(rt.alloc(), json)?;
-        let read = answer(rt.alloc(), reader, &v)?;
-        assert!(rt; read.as_str() == want, "{asked} gives {read}");
+        let v = Value::from_str(alloc, json)?;
+        let read = shown(alloc, members(alloc, reader, &v, &Way::method("x")))?;
+        assert!(rt; read.as_str() == want, "{line} gives {read}");
     }
     Ok(())
 }
@@ -218,18 +227,21 @@ fn readers_answer(rt: HostRuntime) -> Result<(), Fail> {
 #[test]
 fn what_is_written(rt: HostRuntime) -> Result<(), Fail> {
     let alloc = rt.alloc();
-    let most = write_integer(alloc, i64::MAX)?.to_string(alloc)?;
-    assert!(rt; most.as_str() == "\"9223372036854775807\"");
-    let least = write_integer(alloc, i64::MIN)?.to_string(alloc)?;
-    assert!(rt; least.as_str() == "\"-9223372036854775808\"");
-    let quoted = write_text(alloc, &Text::from_str(alloc, "a\"é")?)?.to_string(alloc)?;
-    assert!(rt; quoted.as_str() == "\"a\\\"é\"");
+    for (n, want) in [
+        (i64::MAX, r#""9223372036854775807""#),
+        (i64::MIN, r#""-9223372036854775808""#),
+    ] {
+        let written = write_integer(alloc, n)?.to_string(alloc)?;
+        assert!(rt; written.as_str() == want);
+    }
+    let quoted = write_text(alloc, &Text::from_str(alloc, r#"a"é"#)?)?.to_string(alloc)?;
+    assert!(rt; quoted.as_str() == r#""a\"é""#);
     let padded = write_bytes(alloc, &Bytes::from_slice(alloc, b"\xff\xef")?)?.to_string(alloc)?;
-    assert!(rt; padded.as_str() == "\"/+8=\"");
+    assert!(rt; padded.as_str() == r#""/+8=""#);
     let Some(t) = Micros::new(1_704_067_200_123_000) else {
         return Err(Fail::new("no such moment"));
     };
     let shortest = write_time(alloc, t)?.to_string(alloc)?;
-    assert!(rt; shortest.as_str() == "\"2024-01-01T00:00:00.123Z\"");
+    assert!(rt; shortest.as_str() == r#""2024-01-01T00:00:00.123Z""#);
     Ok(())
 }

@@ -5,7 +5,7 @@ use Rattle.std.proofs.lemmas.Bool.Decides.{eqb_tells}
 use Rattle.std.proofs.lemmas.List.{take_more, append_assoc, map-append, length-take-le}
 use Rattle.std.specs.List.{flat_map, join_with_byte}
 use Rattle.fs_path.specs.Field.{escaped, name_text, field_text}
-use Rattle.fs_path.specs.FieldLaws.{escaped_more, plain, marked}
+use Rattle.fs_path.proofs.Fields.{escaped_more, plain, marked}
 use Rattle.fs_path.proofs.Readings.{longer}
 
 -- the escapes of a name, one byte longer

@@ -1,5 +1,15 @@
 pub mod Segments
-pub mod Surveyed
+pub mod Reserved
+pub mod PathOrder
+pub mod Names
+pub mod Refusals
+pub mod Spellings
+pub mod Documents
 pub mod Databases
+pub mod Surveyed
+pub mod Scopes
+pub mod FieldRuns
+pub mod Fields
+pub mod FieldReads
 pub mod Readings
 pub mod Escapes

@@ -7,7 +7,7 @@ use Rattle.std.specs.Option.{option_map}
 use Rattle.fs_path.specs.FieldName.{is_name_start, is_name_byte}
 use Rattle.fs_path.specs.declared.stage.Stage.{Stage}
 use Rattle.fs_path.specs.declared.stage.Stage.TheVariants.{Opening, Simple, Quoted, Escaped, Closed}
-use Rattle.fs_path.specs.Field.{Reading, stage_after, takes, is_opening, gathered, moved, goes_on, field_from}
+use Rattle.fs_path.specs.FieldReader.{Reading, stage_after, takes, is_opening, gathered, moved, goes_on, field_from}
 
 -- one byte is read
 pub read_on : (r : Reading) (next : Stage) (text : List ℕ) (at b : ℕ) → at < length text → b ≡ get_or text at 0 → Some next ≡ stage_after r.stage b → field_from r at (drop at text) ≡ field_from (moved r b next) (at + 1) (drop (at + 1) text)

@@ -1,6 +1,33 @@
 -- Texts and their parts between slashes.
-use Rattle.std.proofs.Common.{◌≡◌, ℕ, Bool, true, false, List, [], ◌∷◌, length, refl, arith}
-use Rattle.std.specs.List.{slice_split, position_or_len}
+use Rattle.std.proofs.Common.{◌≡◌, ℕ, ◌+◌, zero, suc, Bool, true, false, cond, eqb, Some, List, [], ◌∷◌, ◌++◌, length, drop, slice_get, refl, ap, sym, ◌∙◌, arith}
+use Rattle.std.proofs.lemmas.List.{append-nil}
+use Rattle.std.specs.List.{AllByRecursion, onto_first, join_with_byte, flat_map, slice_split, position_or_len}
+use Rattle.fs_path.specs.Segment.{segments, has_slash}
+use Rattle.fs_path.specs.Spelling.{slashed}
+
+-- ---- the parts of a text that was joined from parts
+
+-- ---- the text that was cut into parts
+
+-- no part has a slash in it
+onto_whole : (x : ℕ) (parts : List (List ℕ)) → eqb x 47 ≡ false → AllByRecursion (λ id. has_slash id ≡ false) parts → AllByRecursion (λ id. has_slash id ≡ false) (onto_first x parts)
+onto_whole x [] e all = (rw e refl, tt)
+onto_whole x (part ∷ parts) e all = (rw e all.0, all.1)
+
+whole_parts_at : (x : ℕ) (xs : List ℕ) (b : Bool) → eqb x 47 ≡ b → AllByRecursion (λ id. has_slash id ≡ false) (segments xs) → AllByRecursion (λ id. has_slash id ≡ false) (cond b ([] ∷ segments xs) (onto_first x (segments xs)))
+whole_parts_at x xs true e all = (refl, all)
+whole_parts_at x xs false e all = onto_whole x (segments xs) e all
+
+pub whole_parts : (xs : List ℕ) → AllByRecursion (λ id. has_slash id ≡ false) (segments xs)
+whole_parts [] = (refl, tt)
+whole_parts (x ∷ xs) = whole_parts_at x xs (eqb x 47) refl (whole_parts xs)
+
+-- a join, and each later part after its slash
+pub join_slashed : (x : List ℕ) (ids : List (List ℕ)) → join_with_byte 47 (x ∷ ids) ≡ x ++ flat_map slashed ids
+join_slashed x [] = sym (append-nil x)
+join_slashed x (id ∷ ids) = ap (λ r. x ++ (47 ∷ r)) (join_slashed id ids)
+
+-- ---- a text with no slash, and what is left of segments
 
 -- a text with no separator is one part
 whole_at : (p : ℕ → Bool) (x : ℕ) (xs : List ℕ) (b : Bool) → p x ≡ b → (position_or_len p xs ≡ length xs → slice_split p xs ≡ xs ∷ []) → position_or_len p (x ∷ xs) ≡ length (x ∷ xs) → slice_split p (x ∷ xs) ≡ (x ∷ xs) ∷ []
@@ -10,3 +37,17 @@ whole_at p x xs false e more h = let rest : position_or_len p xs ≡ length xs =
 pub whole : (p : ℕ → Bool) (xs : List ℕ) → position_or_len p xs ≡ length xs → slice_split p xs ≡ xs ∷ []
 whole p [] h = refl
 whole p (x ∷ xs) h = whole_at p x xs (p x) refl (whole p xs) h
+
+-- ---- what is left of segments behind the first so many
+
+pub there : {A : Type 0} (n : ℕ) (xs : List A) (y : A) (ys : List A) → drop n xs ≡ y ∷ ys → slice_get xs n ≡ Some y
+there zero [] y ys h = cc
+there zero (x ∷ xs) y ys h = cc
+there (suc n) [] y ys h = cc
+there (suc n) (x ∷ xs) y ys h = there n xs y ys h
+
+pub next_left : {A : Type 0} (n : ℕ) (xs : List A) (y : A) (ys : List A) → drop n xs ≡ y ∷ ys → drop (n + 1) xs ≡ ys
+next_left zero [] y ys h = cc
+next_left zero (x ∷ xs) y ys h = cc
+next_left (suc n) [] y ys h = cc
+next_left (suc n) (x ∷ xs) y ys h = let place : suc n + 1 ≡ suc (n + 1) = omega arith in ap (λ k. drop k (x ∷ xs)) place ∙ next_left n xs y ys h

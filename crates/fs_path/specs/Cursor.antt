@@ -1,5 +1,5 @@
 -- A text that is read from slash to slash.
-use Rattle.std.specs.Prelude.{ℕ, ◌+◌, List, [], Option, Some, None, length}
+use Rattle.std.specs.Prelude.{ℕ, ◌+◌, List, [], ◌∷◌, Option, Some, None, length}
 use Rattle.fs_path.specs.Segment.{segments}
 
 -- the segments that are left: after the last there is no text
@@ -11,3 +11,8 @@ rest_segments (Some text) = segments text
 abbrev pub left : Option (List ℕ) → ℕ
 left None = 0
 left (Some text) = length text + 1
+
+-- what is left, behind its slash
+abbrev pub after_slash : Option (List ℕ) → List ℕ
+after_slash None = []
+after_slash (Some text) = 47 ∷ text

@@ -1,6 +1,7 @@
 -- Names of fields. (Cloud Firestore documentation, "Usage and limits": constraints on field names.)
 use Rattle.std.specs.Prelude.{ℕ, Bool, false, ◌&&◌, ◌||◌, List, [], ◌∷◌, length, ◌==◌, nat_le, nat_lt}
 use Rattle.std.specs.List.{list_all}
+use Rattle.fs_path.specs.Limits.{max_field_name}
 use Rattle.fs_path.specs.Segment.{is_empty, is_reserved}
 
 -- a to z, A to Z and the underscore
@@ -16,6 +17,6 @@ abbrev pub is_simple : List ℕ → Bool
 is_simple [] = false
 is_simple (b ∷ bs) = is_name_start b && list_all is_name_byte bs
 
--- a name that no document may have: empty, above 1,500 bytes, or kept by Firestore for itself
+-- a name that no document may have: empty, too long, or kept by Firestore for itself
 abbrev pub is_bad_name : List ℕ → Bool
-is_bad_name name = is_empty name || nat_lt 1500 (length name) || is_reserved name
+is_bad_name name = is_empty name || nat_lt max_field_name (length name) || is_reserved name

@@ -1,16 +1,19 @@
 -- Document names go segment by segment: project, database, and then the ids. A name that begins another comes first.
 -- (Cloud Firestore documentation, "Data types": references are ordered by path elements.)
-use Rattle.std.specs.Prelude.{◌≡◌, refl}
+use Rattle.std.specs.Prelude.{◌≡◌, Bool, refl}
 use Rattle.std.specs.declared.cmp.Ordering.{Ordering}
 use Rattle.std.specs.declared.cmp.Ordering.TheVariants.{Less, Equal, Greater}
-use Rattle.std.specs.Ordering.{ordering_then, then_cmp, on}
-use Rattle.std.specs.Cmp.{IsTotalOrder}
-use Rattle.std.proofs.lemmas.Cmp.{then_total, on_total}
+use Rattle.std.specs.Ordering.{ordering_then, then_cmp, on, eq_by_cmp, as_partial_cmp}
+use Rattle.std.specs.Cmp.{IsTotalOrder, IsEquivalence, IsPartialEquivalence, IsPartialOrder, partial_equiv_from_equiv, partial_order_from_agreeing_total}
+use Rattle.std.proofs.lemmas.Cmp.{then_total, on_total, eq_by_cmp_equiv}
 use Rattle.fs_path.specs.declared.name.DocName.{DocName}
 use Rattle.fs_path.specs.TextOrder.{text_cmp, ids_cmp, text_cmp_total, text_same, ids_cmp_total, ids_same}
 
 abbrev pub name_cmp : DocName → DocName → Ordering
 name_cmp = then_cmp (on (λ n. n.project) text_cmp) (then_cmp (on (λ n. n.database) text_cmp) (on (λ n. n.ids) ids_cmp))
+
+abbrev pub name_eq : DocName → DocName → Bool
+name_eq = eq_by_cmp name_cmp
 
 -- ---- the laws of this order
 
@@ -29,3 +32,12 @@ name_same a b h =
     let first = both_equal (text_cmp a.project b.project) (ordering_then (text_cmp a.database b.database) (ids_cmp a.ids b.ids)) h in
     let rest = both_equal (text_cmp a.database b.database) (ids_cmp a.ids b.ids) first.1 in
     λ i. record { project = text_same a.project b.project first.0 i; database = text_same a.database b.database rest.0 i; ids = ids_same a.ids b.ids rest.1 i }
+
+pub name_eq_equiv : IsEquivalence name_eq
+name_eq_equiv = eq_by_cmp_equiv name_cmp_total
+
+pub name_eq_partial : IsPartialEquivalence name_eq
+name_eq_partial = partial_equiv_from_equiv name_eq_equiv
+
+pub name_po : IsPartialOrder name_eq (as_partial_cmp name_cmp)
+name_po = partial_order_from_agreeing_total name_cmp name_cmp_total (λ _ _. refl) (λ _ _. refl)

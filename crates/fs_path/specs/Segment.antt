@@ -2,6 +2,7 @@
 -- (Cloud Firestore documentation, "Usage and limits": collections, documents, and fields.)
 use Rattle.std.specs.Prelude.{◌++◌, ◌≡◌, ℕ, ◌≤◌, Bool, false, ◌&&◌, ◌||◌, List, length, codes, nat_eq, nat_lt, nat_le, ◌==◌}
 use Rattle.std.specs.List.{list_any, slice_split, starts_with, ends_with}
+use Rattle.fs_path.specs.Limits.{max_id}
 use Rattle.fs_path.specs.TextOrder.{text_eq}
 
 -- the parts of a text between its slashes
@@ -26,9 +27,9 @@ IsReserved text = (middle : List ℕ) × (text ≡ codes "__" ++ (middle ++ code
 abbrev pub is_dots : List ℕ → Bool
 is_dots text = text_eq text (codes ".") || text_eq text (codes "..")
 
--- above the 1,500 bytes that an id may have
+-- longer than an id may be
 abbrev pub is_long : List ℕ → Bool
-is_long text = nat_lt 1500 (length text)
+is_long text = nat_lt max_id (length text)
 
 -- what an id may be
 pub record IsId (id : List ℕ) : Type 0 where
@@ -36,4 +37,4 @@ pub record IsId (id : List ℕ) : Type 0 where
   pub whole : has_slash id ≡ false
   pub free : is_reserved id ≡ false
   pub no_dots : is_dots id ≡ false
-  pub short : length id ≤ 1500
+  pub short : length id ≤ max_id

@@ -1,7 +1,7 @@
 -- Texts and bytes go by bytes, as Firestore orders strings and bytes: the first byte that differs decides, and a
 -- text that begins another comes first. Lists of texts, as the ids of a path, go the same way, text by text.
-use Rattle.std.specs.Prelude.{◌≡◌, ℕ, List, Bool, Option, Some, refl, nat_eq}
-use Rattle.std.specs.Ordering.{nat_cmp, eq_by_cmp}
+use Rattle.std.specs.Prelude.{◌≡◌, ℕ, List, Bool, refl, nat_eq}
+use Rattle.std.specs.Ordering.{nat_cmp, eq_by_cmp, as_partial_cmp}
 use Rattle.std.specs.declared.cmp.Ordering.{Ordering}
 use Rattle.std.specs.declared.cmp.Ordering.TheVariants.{Equal}
 use Rattle.std.specs.Cmp.{IsTotalOrder, IsEquivalence, IsPartialEquivalence, IsPartialOrder, partial_order_from_agreeing_total, partial_equiv_from_equiv}
@@ -14,17 +14,11 @@ text_cmp = slice_cmp nat_cmp
 abbrev pub text_eq : List ℕ → List ℕ → Bool
 text_eq = pointwise nat_eq
 
-abbrev pub text_partial_cmp : List ℕ → List ℕ → Option Ordering
-text_partial_cmp = λ a b. Some (text_cmp a b)
-
 abbrev pub ids_cmp : List (List ℕ) → List (List ℕ) → Ordering
 ids_cmp = slice_cmp text_cmp
 
 abbrev pub ids_eq : List (List ℕ) → List (List ℕ) → Bool
 ids_eq = pointwise text_eq
-
-abbrev pub ids_partial_cmp : List (List ℕ) → List (List ℕ) → Option Ordering
-ids_partial_cmp = λ a b. Some (ids_cmp a b)
 
 -- ---- the laws of these orders
 
@@ -40,7 +34,7 @@ text_eq_partial = partial_equiv_from_equiv text_eq_equiv
 pub text_ties : (a b : List ℕ) → text_eq a b ≡ eq_by_cmp text_cmp a b
 text_ties = texts_ties
 
-pub text_po : IsPartialOrder text_eq text_partial_cmp
+pub text_po : IsPartialOrder text_eq (as_partial_cmp text_cmp)
 text_po = partial_order_from_agreeing_total text_cmp text_cmp_total (λ _ _. refl) text_ties
 
 -- texts that compare alike are one
@@ -59,7 +53,7 @@ ids_eq_partial = partial_equiv_from_equiv ids_eq_equiv
 pub ids_ties : (a b : List (List ℕ)) → ids_eq a b ≡ eq_by_cmp ids_cmp a b
 ids_ties = lists_ties text_cmp text_ties
 
-pub ids_po : IsPartialOrder ids_eq ids_partial_cmp
+pub ids_po : IsPartialOrder ids_eq (as_partial_cmp ids_cmp)
 ids_po = partial_order_from_agreeing_total ids_cmp ids_cmp_total (λ _ _. refl) ids_ties
 
 -- lists of texts that compare alike are one

@@ -1,12 +1,11 @@
+//! Names of databases.
 ghost use Rattle.std.specs.Prelude.{◌≡◌, ◌↔◌, Ok, Err};
-ghost use Rattle.std.specs.Option.{option_map};
-ghost use Rattle.fs_path.specs.Database.{database_of, database_named, database_text, IsDatabase};
-ghost use Rattle.fs_path.specs.Segment.{segments};
+ghost use Rattle.fs_path.specs.Database.{database_of, database_text, IsDatabase};
 ghost use Rattle.fs_path.specs.declared.name.Root.{Root};
 
 use crate::error::PathError;
+use crate::head::Head;
 use crate::name::Root;
-use crate::segment::first_segment;
 
 /// Whether a text names the root's database: `projects/{project}/databases/{database}`. Another form is `BadPrefix`, and
 /// another database `WrongDatabase`. (v1 reference, `CommitRequest`, `database`.)
@@ -25,34 +24,14 @@ pub fn check_database(root: &Root, text: &str) -> Result<(), PathError>
 fn check_named(root: &Root, text: &str) -> Result<(), PathError>
     ensures { result ≡ database_of root.now text.now }
 {
-    match parts_of(text) {
-        None => Err(PathError::BadPrefix),
-        Some((project, database)) => {
-            if project == root.project.as_str() && database == root.database.as_str() {
-                Ok(())
-            } else {
-                Err(PathError::WrongDatabase)
-            }
-        }
+    let Some(head) = Head::of_database(text) else {
+        return Err(PathError::BadPrefix);
+    };
+    if let Some(_) = head.ids {
+        return Err(PathError::BadPrefix);
     }
-}
-
-#[tactic(auto, using(crate::proofs::Databases::five_parts))]
-fn parts_of(text: &str) -> Option<(&str, &str)>
-    ensures { option_map (λ p. record { project = p.0.now; database = p.1.now }) result ≡ database_named (segments text.now) }
-{
-    let (projects, rest) = first_segment(text);
-    let (project, rest) = first_segment(rest?);
-    let (databases, rest) = first_segment(rest?);
-    let (database, rest) = first_segment(rest?);
-    if let Some(_) = rest {
-        return None;
+    if !head.is_of(root) {
+        return Err(PathError::WrongDatabase);
     }
-    if projects != "projects" || databases != "databases" {
-        return None;
-    }
-    if project.is_empty() || database.is_empty() {
-        return None;
-    }
-    Some((project, database))
+    Ok(())
 }

@@ -1,3 +1,4 @@
+//! Why a text is no name or path.
 ghost use Rattle.std.specs.Prelude.{◌≡◌};
 ghost use Rattle.fs_path.specs.declared.error.PathError.TheVariants.{Memory};
 ghost use Rattle.fs_path.specs.Refusal.{rule_of};

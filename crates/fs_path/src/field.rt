@@ -1,7 +1,9 @@
+//! Field paths, and how they are read.
 ghost use Rattle.std.specs.Prelude.{◌≡◌, ◌<◌, List, ℕ, IfOk, IfErr, Ok, Err, length};
 ghost use Rattle.fs_path.specs.Refusal.{IsMemory};
 ghost use Rattle.fs_path.specs.declared.error.PathError.TheVariants.{BadQuote};
 ghost use Rattle.fs_path.specs.Field.{field_of, IsFieldText, IsLongestFront};
+ghost use Rattle.fs_path.specs.FieldReader.{read_of};
 
 use crate::error::PathError;
 use crate::ids::Ids;
@@ -51,8 +53,8 @@ pub fn parse_field(alloc: Global, text: &str) -> Result<FieldPath, PathError>
 
 /// The names that a field path has.
 fn read_names(alloc: Global, text: &str) -> Result<Ids, PathError>
-    ensures ok { IfOk result (λ names. field_of text.now ≡ Ok names) }
-    ensures err { IfErr result (λ e. ¬ IsMemory e → field_of text.now ≡ Err e) }
+    ensures ok { IfOk result (λ names. read_of text.now ≡ Ok names) }
+    ensures err { IfErr result (λ e. ¬ IsMemory e → read_of text.now ≡ Err e) }
 {
     let bytes = text.as_bytes();
     let mut names = Ids::new(alloc);

@@ -1,10 +1,11 @@
+//! Names of fields.
 ghost use Rattle.std.specs.Prelude.{◌≡◌};
 ghost use Rattle.std.specs.List.{list_all};
 ghost use Rattle.fs_path.specs.FieldName.{is_simple, is_bad_name, is_name_byte};
 
+use crate::limits::MAX_FIELD_NAME;
 use crate::segment::is_reserved;
 use crate::stage::{is_name_byte, is_name_start};
-use crate::survey::MAX_ID;
 
 /// Whether a field name needs no backquotes in a field path: letters, digits and underscores, no digit first.
 pub fn is_simple_name(name: &str) -> bool
@@ -26,5 +27,5 @@ fn all_name_bytes(bytes: &[u8]) -> bool
 pub fn is_bad_field_name(name: &str) -> bool
     ensures { result ≡ is_bad_name name.now }
 {
-    name.is_empty() || name.len() > MAX_ID || is_reserved(name)
+    name.is_empty() || name.len() > MAX_FIELD_NAME || is_reserved(name)
 }

@@ -1,3 +1,4 @@
+//! Printing of field paths.
 ghost use Rattle.std.specs.Prelude.{◌≡◌, ◌++◌, ◌==◌, ◌||◌, IfOk, OnOk, Ok, string_bytes};
 ghost use Rattle.std.specs.List.{flat_map};
 ghost use Rattle.fs_path.specs.Field.{field_of, field_text, name_text, escaped};

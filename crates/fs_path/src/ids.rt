@@ -1,6 +1,10 @@
+//! Lists of texts.
 ghost use Rattle.std.specs.Prelude.{◌≡◌, ◌↔◌, ◌<◌, ◌∷◌, ◌++◌, IfOk, OnOk, OnErr, IsTrue, Some, [], length, slice_get};
+ghost use Rattle.std.specs.Option.{option_copied};
+ghost use Rattle.fs_path.specs.Cursor.{rest_segments};
 ghost use Rattle.fs_path.specs.TextOrder.{ids_cmp, ids_eq};
 
+use crate::segment::first_segment;
 use crate::text::Text;
 use std::alloc::{AllocError, Global};
 use std::cmp::Ordering;
@@ -38,6 +42,20 @@ impl Ids {
         ensures { result ≡ items.items }
     {
         Ids { items }
+    }
+
+    /// The ids of a path, which are none where there is no text.
+    pub(crate) fn split(alloc: Global, path: Option<&str>) -> Result<Ids, AllocError>
+        ensures { IfOk result (λ l. l ≡ rest_segments (option_copied path.entry)) }
+    {
+        let mut items = Vec::new(alloc);
+        let mut rest = path;
+        while let Some(text) = rest {
+            let (id, more) = first_segment(text);
+            items.push(Text::from_str(alloc, id)?)?;
+            rest = more;
+        }
+        Ok(Ids { items })
     }
 
     /// The ids as a `Vec`, without a copy.
@@ -110,9 +128,10 @@ impl Eq for Ids {
 }
 
 impl PartialOrd for Ids {
-    ghost use Rattle.fs_path.specs.TextOrder.{ids_partial_cmp, ids_po};
+    ghost use Rattle.std.specs.Ordering.{as_partial_cmp};
+    ghost use Rattle.fs_path.specs.TextOrder.{ids_cmp, ids_po};
 
-    ghost partial_cmp = { ids_partial_cmp };
+    ghost partial_cmp = { as_partial_cmp ids_cmp };
 
     ghost laws = { ids_po };
 

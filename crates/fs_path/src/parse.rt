@@ -1,15 +1,16 @@
+//! Reading of names.
 ghost use Rattle.std.specs.Prelude.{◌≡◌, ◌↔◌, List, ℕ, IfOk, IfErr, Ok, Err};
 ghost use Rattle.fs_path.specs.Refusal.{IsMemory, unless_refused};
 ghost use Rattle.fs_path.specs.declared.name.DocName.{DocName};
-ghost use Rattle.fs_path.specs.Document.{document_of, document_refusals, document_text, parent_of, parent_refusals, reference_of, under, IsDocument, IsDocumentOf, IsParentOf, IsSpelled};
+ghost use Rattle.fs_path.specs.Document.{document_of, document_text, parent_of, reference_of, under, IsDocument, IsDocumentOf, IsParentOf, IsSpelled};
+ghost use Rattle.fs_path.specs.Findings.{findings, document_refusals, parent_refusals};
 ghost use Rattle.fs_path.specs.Head.{head_name};
 
 use crate::error::PathError;
-use crate::head::{Head, head_of};
+use crate::head::Head;
 use crate::ids::Ids;
 use crate::name::{DocName, Root};
-use crate::survey::read_path;
-use crate::text::Text;
+use crate::survey::survey_of;
 use std::alloc::Global;
 
 /// Reads the name of a document of the server's root. A refusal is the first in the order of `PathError` that holds.
@@ -28,7 +29,7 @@ pub fn parse_document(alloc: Global, root: &Root, text: &str) -> Result<DocName,
     ensures prefix { (document_of root.now text.now ≡ Err PathError.BadPrefix)
         ↔ ((n : DocName) → IsSpelled n → text.now ≡ document_text n → ⊥) }
 {
-    read_document(alloc, root, text)
+    read_own(alloc, root, text)
 }
 
 /// Reads the name of a document of any project and database, as in a reference value. (v1 reference, "Value",
@@ -57,11 +58,11 @@ pub fn parse_parent(alloc: Global, root: &Root, text: &str) -> Result<Ids, PathE
     read_parent(alloc, root, text)
 }
 
-fn read_document(alloc: Global, root: &Root, text: &str) -> Result<DocName, PathError>
+fn read_own(alloc: Global, root: &Root, text: &str) -> Result<DocName, PathError>
     ensures ok { IfOk result (λ n. document_of root.now text.now ≡ Ok n) }
     ensures err { IfErr result (λ e. ¬ IsMemory e → document_of root.now text.now ≡ Err e) }
 {
-    let Some(head) = head_of(text) else {
+    let Some(head) = Head::of_text(text) else {
         return Err(PathError::BadPrefix);
     };
     if !head.is_of(root) {
@@ -74,7 +75,7 @@ fn read_reference(alloc: Global, text: &str) -> Result<DocName, PathError>
     ensures ok { IfOk result (λ n. reference_of text.now ≡ Ok n) }
     ensures err { IfErr result (λ e. ¬ IsMemory e → reference_of text.now ≡ Err e) }
 {
-    let Some(head) = head_of(text) else {
+    let Some(head) = Head::of_text(text) else {
         return Err(PathError::BadPrefix);
     };
     read_name(alloc, head, text.len())
@@ -84,7 +85,7 @@ fn read_parent(alloc: Global, root: &Root, text: &str) -> Result<Ids, PathError>
     ensures ok { IfOk result (λ ids. parent_of root.now text.now ≡ Ok ids) }
     ensures err { IfErr result (λ e. ¬ IsMemory e → parent_of root.now text.now ≡ Err e) }
 {
-    let Some(head) = head_of(text) else {
+    let Some(head) = Head::of_text(text) else {
         return Err(PathError::BadPrefix);
     };
     if !head.is_of(root) {
@@ -95,26 +96,18 @@ fn read_parent(alloc: Global, root: &Root, text: &str) -> Result<Ids, PathError>
 
 /// The name that a text of so many bytes has, if its path is a document's.
 fn read_name(alloc: Global, head: Head<'_>, bytes: usize) -> Result<DocName, PathError>
-    ensures ok { IfOk result (λ n. unless_refused (head_name head.entry) (document_refusals (head_name head.entry).ids bytes) ≡ Ok n) }
-    ensures err { IfErr result (λ e. ¬ IsMemory e → unless_refused (head_name head.entry) (document_refusals (head_name head.entry).ids bytes) ≡ Err e) }
+    ensures ok { IfOk result (λ n. unless_refused (head_name head.entry) (document_refusals (findings (head_name head.entry).ids) bytes) ≡ Ok n) }
+    ensures err { IfErr result (λ e. ¬ IsMemory e → unless_refused (head_name head.entry) (document_refusals (findings (head_name head.entry).ids) bytes) ≡ Err e) }
 {
-    let (seen, ids) = read_path(alloc, head.path)?;
-    seen.check_document(bytes)?;
-    let project = Text::from_str(alloc, head.project)?;
-    let database = Text::from_str(alloc, head.database)?;
-    Ok(DocName {
-        project,
-        database,
-        ids,
-    })
+    survey_of(head.ids).check_document(bytes)?;
+    Ok(DocName::of_head(alloc, head)?)
 }
 
 /// The ids that a text of so many bytes has, if they are a parent's path.
 fn read_ids(alloc: Global, head: Head<'_>, bytes: usize) -> Result<Ids, PathError>
-    ensures ok { IfOk result (λ ids. unless_refused (head_name head.entry).ids (parent_refusals (head_name head.entry).ids bytes) ≡ Ok ids) }
-    ensures err { IfErr result (λ e. ¬ IsMemory e → unless_refused (head_name head.entry).ids (parent_refusals (head_name head.entry).ids bytes) ≡ Err e) }
+    ensures ok { IfOk result (λ ids. unless_refused (head_name head.entry).ids (parent_refusals (findings (head_name head.entry).ids) bytes) ≡ Ok ids) }
+    ensures err { IfErr result (λ e. ¬ IsMemory e → unless_refused (head_name head.entry).ids (parent_refusals (findings (head_name head.entry).ids) bytes) ≡ Err e) }
 {
-    let (seen, ids) = read_path(alloc, head.path)?;
-    seen.check_parent(bytes)?;
-    Ok(ids)
+    survey_of(head.ids).check_parent(bytes)?;
+    Ok(Ids::split(alloc, head.ids)?)
 }

@@ -1,3 +1,4 @@
+//! Rules that a request may break, and places in it.
 ghost use Rattle.std.specs.Prelude.{◌≡◌, IfOk, string_bytes};
 ghost use Rattle.std.specs.Str.{IsUtf8};
 ghost use Rattle.fs_path.specs.Place.{member_place, item_place};

@@ -1,4 +1,5 @@
-ghost use Rattle.std.specs.Prelude.{◌≡◌, ◌-◌, ◌^◌, IfOk, Ok, length, min};
+//! Printing of names.
+ghost use Rattle.std.specs.Prelude.{◌≡◌, IfOk, Ok};
 ghost use Rattle.fs_path.specs.Document.{document_of, document_text, reference_of, IsDocument, IsDocumentOf};
 ghost use Rattle.fs_path.specs.declared.name.Root.{Root};
 
@@ -20,29 +21,14 @@ pub fn print_document(alloc: Global, name: &DocName) -> Result<Text, AllocError>
 fn name_text(alloc: Global, name: &DocName) -> Result<Text, AllocError>
     ensures { IfOk result (λ t. t ≡ document_text name.now) }
 {
-    let mut text = String::with_capacity(alloc, text_len(name))?;
+    let head = name.head();
+    let spelled = "projects//databases//documents".len() - 1;
+    let mut text = String::with_capacity(alloc, head.path_len().saturating_add(spelled))?;
     text.push_str("projects/")?;
-    text.push_str(name.project.as_str())?;
+    text.push_str(head.project)?;
     text.push_str("/databases/")?;
-    text.push_str(name.database.as_str())?;
+    text.push_str(head.database)?;
     text.push_str("/documents")?;
-    for id in name.ids.as_slice() {
-        text.push_str("/")?;
-        text.push_str(id.as_str())?;
-    }
+    head.push_ids(&mut text)?;
     Ok(Text::of(text))
-}
-
-/// The number of bytes of a name's text, or the last number where there are more.
-fn text_len(name: &DocName) -> usize
-    ensures { result ≡ min (length (document_text name.now)) (2 ^ 64 - 1) }
-{
-    let mut len = "projects//databases//documents"
-        .len()
-        .saturating_add(name.project.len())
-        .saturating_add(name.database.len());
-    for id in name.ids.as_slice() {
-        len = len.saturating_add("/".len()).saturating_add(id.len());
-    }
-    len
 }

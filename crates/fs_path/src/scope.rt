@@ -1,8 +1,14 @@
+//! The documents that a query goes over, and the shards of collections.
 ghost use Rattle.std.specs.Prelude.{◌≡◌, ◌↔◌, ◌<◌, ◌≤◌, ◌%◌, IfOk, IsTrue, sum};
+ghost use Rattle.std.specs.List.{starts_with};
+ghost use Rattle.std.specs.Option.{option_copied};
+ghost use Rattle.fs_path.specs.Cursor.{rest_segments};
 ghost use Rattle.fs_path.specs.Scope.{covers, lies_in, Covers};
+ghost use Rattle.fs_path.specs.TextOrder.{text_eq};
 
 use crate::ids::Ids;
 use crate::name::DocName;
+use crate::segment::first_segment;
 use crate::text::Text;
 use std::alloc::{AllocError, Global};
 
@@ -45,22 +51,39 @@ fn is_in(scope: &Scope, name: &DocName) -> bool
 {
     match scope {
         Scope::Collection { parent, id } => {
-            lies_in(parent, id, &name.ids) && name.ids.len() - parent.len() == 2
+            lies_in(parent, id, name) && name.len() - parent.len() == 2
         }
-        Scope::Group { parent, id } => lies_in(parent, id, &name.ids),
+        Scope::Group { parent, id } => lies_in(parent, id, name),
     }
 }
 
 /// Whether ids begin with a parent's, and the last two are of a document in a collection with this id.
-fn lies_in(parent: &Ids, id: &Text, ids: &Ids) -> bool
-    ensures { result ≡ lies_in parent.now id.now ids.now }
+fn lies_in(parent: &Ids, id: &Text, name: &DocName) -> bool
+    ensures { result ≡ lies_in parent.now id.now name.now.ids }
 {
-    let ids = ids.as_slice();
-    let parent = parent.as_slice();
-    ids.len() >= 2
-        && ids.len() - 2 >= parent.len()
-        && ids.starts_with(parent)
-        && ids[ids.len() - 2] == *id
+    let count = name.len();
+    count >= 2
+        && count - 2 >= parent.len()
+        && begins_with(name.ids(), parent.as_slice())
+        && name.id(count - 2) == id.as_str()
+}
+
+/// Whether the ids of a path begin with these.
+fn begins_with(path: Option<&str>, parent: &[Text]) -> bool
+    ensures { result ≡ starts_with text_eq (rest_segments (option_copied path.entry)) parent.now }
+{
+    let mut rest = path;
+    for id in parent {
+        let Some(text) = rest else {
+            return false;
+        };
+        let (first, more) = first_segment(text);
+        if id.as_str() != first {
+            return false;
+        }
+        rest = more;
+    }
+    true
 }
 
 /// The shard that a collection belongs to, of a number of shards from 1 to 16: the sum of its id's bytes modulo their

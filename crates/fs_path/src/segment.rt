@@ -1,17 +1,50 @@
-ghost use Rattle.std.specs.Prelude.{◌≡◌, ◌↔◌, ◌∷◌, IsTrue, ◌<◌, length, IfSome};
+//! The segments of a path.
+ghost use Rattle.std.specs.Prelude.{◌≡◌, ◌↔◌, ◌∷◌, IsTrue, ◌<◌, false, length, slice_get, IfSome, Some};
 ghost use Rattle.std.specs.Option.{option_copied};
-ghost use Rattle.fs_path.specs.Segment.{segments, is_reserved, is_dots, IsReserved};
+ghost use Rattle.fs_path.specs.Segment.{segments, has_slash, is_reserved, is_dots, IsReserved};
 ghost use Rattle.fs_path.specs.Cursor.{rest_segments};
 
-/// The text before the first slash, and the text after it where there is one.
-pub(crate) fn first_segment(text: &str) -> (&str, Option<&str>)
+/// The text before the first slash, and the text after it where there is one: of `c/a/x/b` it gives `c` and `a/x/b`.
+pub fn first_segment(text: &str) -> (&str, Option<&str>)
     ensures parts { segments text.now ≡ result.0.now ∷ rest_segments (option_copied result.1) }
+    ensures whole { has_slash result.0.now ≡ false }
     ensures shorter { IfSome result.1 (λ rest. length rest.now < length text.now) }
 {
     match text.split_once('/') {
         Some((first, rest)) => (first, Some(rest)),
         None => (text, None),
     }
+}
+
+/// The number of segments of a path, which has none where there is no text.
+pub(crate) fn count_of(path: Option<&str>) -> usize
+    ensures { result ≡ length (rest_segments (option_copied path.entry)) }
+{
+    let mut count = 0;
+    let mut rest = path;
+    while let Some(text) = rest {
+        count += 1;
+        rest = first_segment(text).1;
+    }
+    count
+}
+
+/// The segment of a path at a place, counted from 0.
+pub(crate) fn segment_at(path: Option<&str>, i: usize) -> &str
+    requires { i < length (rest_segments (option_copied path)) }
+    ensures { slice_get (rest_segments (option_copied path.entry)) i ≡ Some result.now }
+{
+    let mut passed = 0;
+    let mut rest = path;
+    while let Some(text) = rest {
+        let (first, more) = first_segment(text);
+        if passed == i {
+            return first;
+        }
+        passed += 1;
+        rest = more;
+    }
+    ""
 }
 
 /// Whether a text matches `__.*__`: Firestore keeps such names for itself.

@@ -1,6 +1,7 @@
+//! The stages of the reader of field paths.
 ghost use Rattle.std.specs.Prelude.{◌≡◌};
 ghost use Rattle.fs_path.specs.FieldName.{is_name_start, is_name_byte};
-ghost use Rattle.fs_path.specs.Field.{stage_after, takes, is_opening};
+ghost use Rattle.fs_path.specs.FieldReader.{stage_after, takes, is_opening};
 
 /// Where a reader of a field path stands: at the beginning of a name, inside a simple one, between backquotes, behind a
 /// backslash there, or behind the closing backquote.

@@ -1,26 +1,18 @@
-ghost use Rattle.std.specs.Prelude.{◌≡◌, ◌↔◌, ◌+◌, ◌<◌, ◌^◌, IsTrue, IfOk, length};
+//! What is wrong with the ids of a path.
+ghost use Rattle.std.specs.Prelude.{◌≡◌, ◌+◌, ◌<◌, ◌^◌, length};
 ghost use Rattle.std.specs.Option.{option_copied};
 ghost use Rattle.fs_path.specs.Refusal.{unless_refused};
 ghost use Rattle.fs_path.specs.Cursor.{rest_segments};
-ghost use Rattle.fs_path.specs.Survey.{before_all, surveyed, IsClean};
+ghost use Rattle.fs_path.specs.Findings.{findings, id_refusals, document_refusals, parent_refusals};
+ghost use Rattle.fs_path.specs.Survey.{before_all, noted};
 
 use crate::error::PathError;
-use crate::ids::Ids;
+use crate::limits::{MAX_ID, MAX_NAME, MAX_SEGMENTS};
 use crate::segment::{first_segment, is_dots, is_reserved};
-use crate::text::Text;
-use std::alloc::{AllocError, Global};
-
-/// The longest id that Firestore takes, in bytes.
-pub(crate) const MAX_ID: usize = 1_500;
-
-/// The longest name of a document, in bytes.
-pub(crate) const MAX_NAME: usize = 6_144;
-
-/// The longest path, in segments.
-pub(crate) const MAX_SEGMENTS: usize = 200;
+use std::marker::Model;
 
 /// What the ids of a path break, as far as they were read.
-#[derive(Clone, Copy)]
+#[derive(Drop)]
 pub(crate) struct Survey {
     count: usize,
     empty: bool,
@@ -30,9 +22,15 @@ pub(crate) struct Survey {
     long: Option<usize>,
 }
 
-impl Survey {
-    ghost use Rattle.fs_path.specs.Survey.{noted, before_all, IsClean, seen_refusals, seen_document_refusals, seen_parent_refusals};
+impl Model for Survey {
+    ghost use Rattle.fs_path.specs.Findings.{Findings};
 
+    ghost Value = { Findings };
+
+    ghost view = { λ s. record { count = s.count; empty = s.empty; reserved = s.reserved; dots = s.dots; long = s.long } };
+}
+
+impl Survey {
     /// Before any id.
     pub fn new() -> Survey
         ensures { result ≡ before_all }
@@ -64,20 +62,9 @@ impl Survey {
         }
     }
 
-    /// Whether nothing is broken so far.
-    pub fn is_clean(&self) -> bool
-        ensures { IsTrue result ↔ IsClean self.now }
-    {
-        !self.empty
-            && !self.reserved
-            && !self.dots
-            && self.long.is_none()
-            && self.count <= MAX_SEGMENTS
-    }
-
     /// What is wrong first with the path of a document, in a text of so many bytes.
     pub fn check_document(&self, bytes: usize) -> Result<(), PathError>
-        ensures { result ≡ unless_refused tt (seen_document_refusals self.now bytes) }
+        ensures { result ≡ unless_refused tt (document_refusals self.now bytes) }
     {
         if self.count % 2 != 0 || self.count == 0 {
             return Err(PathError::Parity);
@@ -87,7 +74,7 @@ impl Survey {
 
     /// What is wrong first with the path of a parent, in a text of so many bytes.
     pub fn check_parent(&self, bytes: usize) -> Result<(), PathError>
-        ensures { result ≡ unless_refused tt (seen_parent_refusals self.now bytes) }
+        ensures { result ≡ unless_refused tt (parent_refusals self.now bytes) }
     {
         if self.count % 2 != 0 {
             return Err(PathError::Parity);
@@ -97,7 +84,7 @@ impl Survey {
 
     /// What is wrong first with the ids, whatever their number, in a text of so many bytes.
     fn check(&self, bytes: usize) -> Result<(), PathError>
-        ensures { result ≡ unless_refused tt (seen_refusals self.now bytes) }
+        ensures { result ≡ unless_refused tt (id_refusals self.now bytes) }
     {
         if self.empty {
             return Err(PathError::Empty);
@@ -121,21 +108,16 @@ impl Survey {
     }
 }
 
-/// The ids of a path, which are whole where they break nothing, and what they break.
-pub(crate) fn read_path(alloc: Global, path: Option<&str>) -> Result<(Survey, Ids), AllocError>
-    ensures seen { IfOk result (λ r. r.0 ≡ surveyed before_all (rest_segments (option_copied path.entry))) }
-    ensures ids { IfOk result (λ r. IsClean r.0 → r.1 ≡ rest_segments (option_copied path.entry)) }
+/// What the ids of a path break, where there are any.
+pub(crate) fn survey_of(ids: Option<&str>) -> Survey
+    ensures { result ≡ findings (rest_segments (option_copied ids.entry)) }
 {
     let mut seen = Survey::new();
-    let mut ids = Ids::new(alloc);
-    let mut rest = path;
+    let mut rest = ids;
     while let Some(text) = rest {
         let (id, more) = first_segment(text);
         seen = seen.with(id);
-        if seen.is_clean() {
-            ids.push(Text::from_str(alloc, id)?)?;
-        }
         rest = more;
     }
-    Ok((seen, ids))
+    seen
 }

@@ -1,13 +1,21 @@
+//! Tests of names, field paths, scopes and ways.
+ghost use Rattle.std.specs.Prelude.{◌≡◌, IfOk, false};
+ghost use Rattle.fs_path.specs.Segment.{has_slash};
+
 mod tables;
 
 use crate::*;
 use std::alloc::{AllocError, Global};
+use std::cmp::Ordering;
 use std::test::Fail;
-use tables::{DOCUMENTS, FIELDS, LIMITS, NAMES, PARENTS, PRINTED, REFERENCES, SCOPES, SHARDS};
+use tables::{Kind, LIMITS, NAMES, PARTS, RISING, SCOPES, SHARDS, TEXTS, WAYS};
 
 const ROOT: &str = "projects/demo/databases/(default)/documents";
 
-fn demo(alloc: Global) -> Result<Root, AllocError> {
+fn demo(alloc: Global) -> Result<Root, AllocError>
+    ensures project { IfOk result (λ r. has_slash r.project ≡ false) }
+    ensures database { IfOk result (λ r. has_slash r.database ≡ false) }
+{
     Ok(Root {
         project: Text::from_str(alloc, "demo")?,
         database: Text::from_str(alloc, "(default)")?,
@@ -29,11 +37,11 @@ fn refusal(alloc: Global, e: PathError) -> Result<String, AllocError> {
     }
 }
 
-fn joined(alloc: Global, ids: &Ids) -> Result<String, AllocError> {
+fn joined(alloc: Global, ids: &Ids, between: &str) -> Result<String, AllocError> {
     let mut text = String::new(alloc);
     for (i, id) in ids.as_slice().iter().enumerate() {
         if i > 0 {
-            text.push_str("|")?;
+            text.push_str(between)?;
         }
         text.push_str(id.as_str())?;
     }
@@ -48,15 +56,9 @@ fn ids_of(alloc: Global, ids: &[&str]) -> Result<Ids, AllocError> {
     Ok(all)
 }
 
-fn name_of(alloc: Global, ids: &[&str]) -> Result<DocName, AllocError> {
-    let root = demo(alloc)?;
-    let ids = ids_of(alloc, ids)?;
-    let Root { project, database } = root;
-    Ok(DocName {
-        project,
-        database,
-        ids,
-    })
+fn name_of(alloc: Global, path: &str) -> Result<DocName, PathError> {
+    let path = String::from_str(alloc, path)?;
+    DocName::of_path(path).ok_or(PathError::Parity)
 }
 
 fn repeated(alloc: Global, part: &str, count: usize) -> Result<String, AllocError> {
@@ -71,142 +73,142 @@ fn path_of(alloc: Global, ids: &[(&str, usize)]) -> Result<String, AllocError> {
     let mut text = String::from_str(alloc, ROOT)?;
     for (part, count) in ids {
         text.push_str("/")?;
-        let id = repeated(alloc, part, *count)?;
-        text.push_str(id.as_str())?;
+        text.push_str(repeated(alloc, part, *count)?.as_str())?;
     }
     Ok(text)
 }
 
 // What is read of a text, as the tables say it.
 
-fn document(alloc: Global, text: &str) -> Result<String, AllocError> {
+fn read(alloc: Global, kind: Kind, text: &str) -> Result<String, PathError> {
     let root = demo(alloc)?;
-    let text = whole(alloc, text)?;
-    match parse_document(alloc, &root, text.as_str()) {
-        Ok(name) => joined(alloc, &name.ids),
-        Err(e) => refusal(alloc, e),
-    }
-}
-
-fn reference(alloc: Global, text: &str) -> Result<String, AllocError> {
-    let text = whole(alloc, text)?;
-    match parse_reference(alloc, text.as_str()) {
-        Ok(name) => {
-            let ids = joined(alloc, &name.ids)?;
-            let project = name.project.as_str();
-            let database = name.database.as_str();
-            format!(in alloc; "{project} {database} {ids}")
+    match kind {
+        Kind::Document => {
+            let name = parse_document(alloc, &root, text)?;
+            Ok(String::from_str(alloc, name.ids().unwrap_or(""))?)
         }
+        Kind::Reference => {
+            let name = parse_reference(alloc, text)?;
+            let ids = name.ids().unwrap_or("");
+            let project = name.project();
+            let database = name.database();
+            Ok(format!(in alloc; "{project} {database} {ids}")?)
+        }
+        Kind::Parent => Ok(joined(alloc, &parse_parent(alloc, &root, text)?, "/")?),
+        Kind::Database => {
+            check_database(&root, text)?;
+            Ok(String::from_str(alloc, "the root's")?)
+        }
+        Kind::Field => Ok(joined(alloc, &parse_field(alloc, text)?.parts, "|")?),
+        Kind::Printed => {
+            let path = parse_field(alloc, text)?.copy(alloc)?;
+            Ok(print_field(alloc, &path)?.into_string())
+        }
+    }
+}
+
+fn told(alloc: Global, kind: Kind, text: &str) -> Result<String, AllocError> {
+    match read(alloc, kind, text) {
+        Ok(text) => Ok(text),
         Err(e) => refusal(alloc, e),
     }
 }
 
-fn parent(alloc: Global, text: &str) -> Result<String, AllocError> {
-    let root = demo(alloc)?;
-    let text = whole(alloc, text)?;
-    match parse_parent(alloc, &root, text.as_str()) {
-        Ok(ids) => joined(alloc, &ids),
-        Err(e) => refusal(alloc, e),
+#[test]
+fn texts_of_names_and_field_paths(rt: HostRuntime) -> Result<(), Fail> {
+    let alloc = rt.alloc();
+    for (kind, rows) in &TEXTS {
+        for (text, want) in *rows {
+            let text = whole(alloc, text)?;
+            let told = told(alloc, *kind, text.as_str())?;
+            assert_eq!(rt; told.as_str(), *want, "at {text}");
+        }
     }
-}
-
-fn field(alloc: Global, text: &str) -> Result<String, AllocError> {
-    match parse_field(alloc, text) {
-        Ok(path) => joined(alloc, &path.parts),
-        Err(e) => refusal(alloc, e),
-    }
+    Ok(())
 }
 
 fn limit(alloc: Global, ids: &[(&str, usize)]) -> Result<String, AllocError> {
-    let root = demo(alloc)?;
     let text = path_of(alloc, ids)?;
-    match parse_document(alloc, &root, text.as_str()) {
+    match parse_document(alloc, &demo(alloc)?, text.as_str()) {
         Ok(_) => String::from_str(alloc, "read"),
         Err(e) => refusal(alloc, e),
     }
 }
 
-fn printed(alloc: Global, text: &str) -> Result<Text, PathError> {
-    let path = parse_field(alloc, text)?;
-    let copy = path.copy(alloc)?;
-    Ok(print_field(alloc, &copy)?)
-}
-
-#[test]
-fn document_names_of_the_root(rt: HostRuntime) -> Result<(), Fail> {
-    for (text, want) in &DOCUMENTS {
-        let told = document(rt.alloc(), text)?;
-        assert_eq!(rt; told.as_str(), *want, "at {text}");
-    }
-    Ok(())
-}
-
-#[test]
-fn references_to_any_database(rt: HostRuntime) -> Result<(), Fail> {
-    for (text, want) in &REFERENCES {
-        let told = reference(rt.alloc(), text)?;
-        assert_eq!(rt; told.as_str(), *want, "at {text}");
-    }
-    Ok(())
-}
-
-#[test]
-fn parents_in_the_root(rt: HostRuntime) -> Result<(), Fail> {
-    for (text, want) in &PARENTS {
-        let told = parent(rt.alloc(), text)?;
-        assert_eq!(rt; told.as_str(), *want, "at {text}");
-    }
-    Ok(())
-}
-
-#[test]
-fn field_paths_and_how_far_a_text_is_one(rt: HostRuntime) -> Result<(), Fail> {
-    for (text, want) in &FIELDS {
-        let told = field(rt.alloc(), text)?;
-        assert_eq!(rt; told.as_str(), *want, "at {text}");
-    }
-    Ok(())
-}
-
 #[test]
 fn limits_in_bytes_and_segments(rt: HostRuntime) -> Result<(), Fail> {
+    let alloc = rt.alloc();
     for (ids, want) in &LIMITS {
-        let told = limit(rt.alloc(), ids)?;
+        let told = limit(alloc, ids)?;
         assert_eq!(rt; told.as_str(), *want);
     }
-    Ok(())
-}
-
-#[test]
-fn a_printed_name_is_read_back(rt: HostRuntime) -> Result<(), Fail> {
-    let alloc = rt.alloc();
-    let name = name_of(alloc, &["c", "a", "d", "b"])?;
-    let text = print_document(alloc, &name)?;
-    assert_eq!(rt;
-        text.as_str(),
-        "projects/demo/databases/(default)/documents/c/a/d/b"
-    );
-    let read = parse_reference(alloc, text.as_str())?;
-    let copy = name.copy(alloc)?;
-    assert!(rt; read == copy);
-    Ok(())
-}
-
-#[test]
-fn backquotes_only_where_they_are_needed(rt: HostRuntime) -> Result<(), Fail> {
-    for (text, want) in &PRINTED {
-        let told = printed(rt.alloc(), text)?;
-        assert_eq!(rt; told.as_str(), *want, "at {text}");
+    for (part, count, simple, bad) in &NAMES {
+        let name = repeated(alloc, part, *count)?;
+        let told = (
+            is_simple_name(name.as_str()),
+            is_bad_field_name(name.as_str()),
+        );
+        assert_eq!(rt; told, (*simple, *bad), "at {name}");
     }
     Ok(())
 }
 
 #[test]
-fn simple_and_forbidden_field_names(rt: HostRuntime) -> Result<(), Fail> {
-    for (part, count, simple, bad) in &NAMES {
-        let name = repeated(rt.alloc(), part, *count)?;
-        assert_eq!(rt; is_simple_name(name.as_str()), *simple, "at {name}");
-        assert_eq!(rt; is_bad_field_name(name.as_str()), *bad, "at {name}");
+fn names_go_segment_by_segment(rt: HostRuntime) -> Result<(), Fail> {
+    let alloc = rt.alloc();
+    for (lower, upper) in RISING.iter().zip(&RISING[1..]) {
+        let a = name_of(alloc, lower)?;
+        let b = name_of(alloc, upper)?;
+        let orders = (a.cmp(&b), b.cmp(&a), a == b, a == a.copy(alloc)?);
+        let rise = (Ordering::Less, Ordering::Greater, false, true);
+        assert_eq!(rt; orders, rise, "{lower} before {upper}");
+    }
+    Ok(())
+}
+
+fn parts(name: &DocName) -> (&str, usize, &str, usize) {
+    let count = name.len();
+    let last = if count > 0 { name.id(count - 1) } else { "" };
+    (name.ids().unwrap_or(""), count, last, name.ids_size())
+}
+
+fn made(alloc: Global) -> Result<DocName, AllocError> {
+    let root = demo(alloc)?.copy(alloc)?;
+    DocName::new(alloc, &root, &Ids::new(alloc))
+}
+
+#[test]
+fn a_name_lends_its_parts(rt: HostRuntime) -> Result<(), Fail> {
+    let alloc = rt.alloc();
+    for (path, ids, count, last, size) in &PARTS {
+        let name = name_of(alloc, path)?;
+        assert_eq!(rt; parts(&name), (*ids, *count, *last, *size), "of {path}");
+    }
+    assert!(rt; name_of(alloc, "demo").is_err());
+    let name = made(alloc)?;
+    let text = print_document(alloc, &name)?;
+    assert_eq!(rt; text.as_str(), ROOT);
+    Ok(())
+}
+
+fn places(alloc: Global, method: &str, member: &str, i: u64) -> Result<String, AllocError> {
+    let first = Way::method(method);
+    let second = first.member(member);
+    let third = second.item(i);
+    let fourth = third.member(member);
+    let a = first.place(alloc)?;
+    let b = second.place(alloc)?;
+    let c = third.place(alloc)?;
+    let d = fourth.place(alloc)?;
+    let (a, b, c, d) = (a.as_str(), b.as_str(), c.as_str(), d.as_str());
+    format!(in alloc; "{a} {b} {c} {d}")
+}
+
+#[test]
+fn a_way_is_printed_as_a_place(rt: HostRuntime) -> Result<(), Fail> {
+    for (method, member, i, want) in &WAYS {
+        let told = places(rt.alloc(), method, member, *i)?;
+        assert_eq!(rt; told.as_str(), *want);
     }
     Ok(())
 }
@@ -215,9 +217,8 @@ fn covered(
     alloc: Global,
     parent: &[&str],
     id: &str,
-    ids: &[&str],
-) -> Result<(bool, bool), AllocError> {
-    let name = name_of(alloc, ids)?;
+    name: &DocName,
+) -> Result<(bool, bool, bool), AllocError> {
     let one = Scope::Collection {
         parent: ids_of(alloc, parent)?,
         id: Text::from_str(alloc, id)?,
@@ -226,26 +227,27 @@ fn covered(
         parent: ids_of(alloc, parent)?,
         id: Text::from_str(alloc, id)?,
     };
-    let copy = all.copy(alloc)?;
-    Ok((covers(&one, &name), covers(&copy, &name)))
+    let same = one.copy(alloc)? == one && all.copy(alloc)? == all;
+    Ok((covers(&one, name), covers(&all, name), same))
 }
 
 #[test]
-fn a_group_covers_every_depth(rt: HostRuntime) -> Result<(), Fail> {
+fn scopes_and_shards(rt: HostRuntime) -> Result<(), Fail> {
+    let alloc = rt.alloc();
     let below = ["c", "a", "m", "1", "m", "2"];
-    for (parent, id, ids, collection, group) in &SCOPES {
-        if *parent <= below.len() && *ids <= below.len() {
-            let told = covered(rt.alloc(), &below[..*parent], id, &below[..*ids])?;
-            assert_eq!(rt; told, (*collection, *group), "{id} below {parent} of {ids}");
+    for (parent, id, path, collection, group) in &SCOPES {
+        let name = name_of(alloc, path)?;
+        if *parent <= below.len() {
+            let told = covered(alloc, &below[..*parent], id, &name)?;
+            assert_eq!(rt;
+                told,
+                (*collection, *group, true),
+                "{id} below {parent} of {path}"
+            );
         }
     }
-    Ok(())
-}
-
-#[test]
-fn a_shard_is_the_sum_of_bytes(rt: HostRuntime) -> Result<(), Fail> {
     for (id, shards, want) in &SHARDS {
-        let text = Text::from_str(rt.alloc(), id)?;
+        let text = Text::from_str(alloc, id)?;
         if 1 <= *shards && *shards <= 16 {
             assert_eq!(rt; shard_of(&text, *shards), *want, "{id} of {shards}");
         }

@@ -1,3 +1,4 @@
+//! Texts and bytes.
 ghost use Rattle.std.specs.Prelude.{◌≡◌, ◌↔◌, ◌++◌, IfOk, OnOk, OnErr, IsTrue, [], length, string_bytes};
 ghost use Rattle.std.specs.Str.{IsUtf8};
 ghost use Rattle.fs_path.specs.TextOrder.{text_cmp, text_eq};
@@ -90,9 +91,10 @@ impl Eq for Text {
 }
 
 impl PartialOrd for Text {
-    ghost use Rattle.fs_path.specs.TextOrder.{text_partial_cmp, text_po};
+    ghost use Rattle.std.specs.Ordering.{as_partial_cmp};
+    ghost use Rattle.fs_path.specs.TextOrder.{text_cmp, text_po};
 
-    ghost partial_cmp = { text_partial_cmp };
+    ghost partial_cmp = { as_partial_cmp text_cmp };
 
     ghost laws = { text_po };
 
@@ -217,9 +219,10 @@ impl Eq for Bytes {
 }
 
 impl PartialOrd for Bytes {
-    ghost use Rattle.fs_path.specs.TextOrder.{text_partial_cmp, text_po};
+    ghost use Rattle.std.specs.Ordering.{as_partial_cmp};
+    ghost use Rattle.fs_path.specs.TextOrder.{text_cmp, text_po};
 
-    ghost partial_cmp = { text_partial_cmp };
+    ghost partial_cmp = { as_partial_cmp text_cmp };
 
     ghost laws = { text_po };
 

@@ -29,17 +29,17 @@ impl<'a> Way<'a> {
     }
 
     /// One step on, to a member of the object here.
-    pub fn member(&'a self, name: &'a str) -> Way<'a>
+    pub fn member<'b>(&'b self, name: &'b str) -> Way<'b>
         ensures { place_of result ≡ member_place (place_of self.now) name.now }
     {
-        Way::Member(self, name)
+        Way::Member(&*self, name)
     }
 
     /// One step on, to an item of the list here, counted from 0.
-    pub fn item(&'a self, i: u64) -> Way<'a>
+    pub fn item<'b>(&'b self, i: u64) -> Way<'b>
         ensures { place_of result ≡ item_place (place_of self.now) i }
     {
-        Way::Item(self, i)
+        Way::Item(&*self, i)
     }
 
     /// The place that the way leads to.

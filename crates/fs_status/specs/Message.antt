@@ -1,10 +1,10 @@
 -- The messages of refusals.
-use Rattle.std.specs.Prelude.{ℕ, Some, None, List, ◌++◌, codes, decimal}
+use Rattle.std.specs.Prelude.{ℕ, ℤ, Option, Some, None, List, ◌++◌, codes, decimal}
 use Rattle.fs_path.specs.declared.place.Rule.{Rule}
 use Rattle.fs_path.specs.declared.place.Rule.TheVariants.{G, T, P, E, Q}
 use Rattle.fs_time.specs.Rfc3339.{time_text}
-use Rattle.fs_status.specs.declared.reason.Line.{Line}
-use Rattle.fs_status.specs.declared.reason.Line.TheVariants.{NotAnObject, DoesNotApply, HasBytes}
+use Rattle.fs_status.specs.declared.reason.LineFault.{LineFault}
+use Rattle.fs_status.specs.declared.reason.LineFault.TheVariants.{NotAnObject, DoesNotApply, HasBytes}
 use Rattle.fs_status.specs.declared.reason.Reason.{Reason}
 use Rattle.fs_status.specs.declared.reason.Reason.TheVariants as reasons
 
@@ -18,14 +18,25 @@ rule_text (E n) = codes "E" ++ decimal n
 rule_text (Q n None) = codes "Q" ++ decimal n
 rule_text (Q n (Some carried)) = codes "Q" ++ decimal n ++ (codes " " ++ decimal carried)
 
-abbrev pub line_text : Line → List ℕ
+abbrev pub line_text : LineFault → List ℕ
 line_text NotAnObject = codes "line is not a JSON object"
 line_text DoesNotApply = codes "line does not apply"
 line_text (HasBytes n) = codes "line has " ++ decimal n ++ codes " bytes"
 
+-- the update time that a write found, or that there was none
+abbrev pub update_time_text : ℕ → Option ℤ → List ℕ
+update_time_text write (Some time) = codes "write " ++ decimal write ++ (codes ": update time is " ++ time_text time)
+update_time_text write None = codes "write " ++ decimal write ++ codes ": update time is none"
+
 abbrev pub message_text : Reason → List ℕ
 message_text (reasons.Rule rule place) = rule_text rule ++ (codes " at " ++ place)
+message_text (reasons.Missing write) = codes "write " ++ decimal write ++ codes ": document missing"
+message_text (reasons.Exists write) = codes "write " ++ decimal write ++ codes ": document exists"
+message_text (reasons.OtherTime write time) = update_time_text write time
+message_text (reasons.DeepAfter write) = codes "write " ++ decimal write ++ codes ": E6"
+message_text (reasons.LargeAfter write bytes) = codes "write " ++ decimal write ++ (codes ": document has " ++ decimal bytes ++ codes " bytes")
 message_text (reasons.NoDocument time) = codes "no document at " ++ time_text time
+message_text (reasons.AtLimit name number) = codes "limit " ++ name ++ (codes " " ++ decimal number)
 message_text (reasons.Method name) = codes "method " ++ name
 message_text (reasons.Line line) = line_text line
 message_text reasons.Memory = codes "out of memory"

@@ -1,12 +1,28 @@
--- The status of each reason.
+-- The status of each reason, and the write that it names.
+use Rattle.std.specs.Prelude.{ℕ, Option, Some, None}
 use Rattle.fs_status.specs.declared.code.Code.{Code}
-use Rattle.fs_status.specs.declared.code.Code.TheVariants.{InvalidArgument, NotFound, Unimplemented, OutOfMemory}
+use Rattle.fs_status.specs.declared.code.Code.TheVariants.{InvalidArgument, FailedPrecondition, NotFound, AlreadyExists, ResourceExhausted, Unimplemented, OutOfMemory}
 use Rattle.fs_status.specs.declared.reason.Reason.{Reason}
-use Rattle.fs_status.specs.declared.reason.Reason.TheVariants.{Rule, NoDocument, Method, Line, Memory}
+use Rattle.fs_status.specs.declared.reason.Reason.TheVariants.{Rule, Missing, Exists, OtherTime, DeepAfter, LargeAfter, NoDocument, AtLimit, Method, Line, Memory}
 
 abbrev pub code_of : Reason → Code
 code_of (Rule rule place) = InvalidArgument
+code_of (Missing write) = NotFound
+code_of (Exists write) = AlreadyExists
+code_of (OtherTime write time) = FailedPrecondition
+code_of (DeepAfter write) = InvalidArgument
+code_of (LargeAfter write bytes) = InvalidArgument
 code_of (NoDocument time) = NotFound
+code_of (AtLimit name number) = ResourceExhausted
 code_of (Method name) = Unimplemented
 code_of (Line line) = InvalidArgument
 code_of Memory = OutOfMemory
+
+-- the write that a reason names, counted from 0
+abbrev pub index_of : Reason → Option ℕ
+index_of (Missing write) = Some write
+index_of (Exists write) = Some write
+index_of (OtherTime write time) = Some write
+index_of (DeepAfter write) = Some write
+index_of (LargeAfter write bytes) = Some write
+index_of _ = None

@@ -1,9 +1,20 @@
 -- The refusal for a reason.
-use Rattle.std.specs.Prelude.{None}
+use Rattle.std.specs.Prelude.{ℕ, List, Some, None}
 use Rattle.fs_status.specs.declared.reason.Reason.{Reason}
+use Rattle.fs_status.specs.declared.reason.Reason.TheVariants.{AtLimit}
 use Rattle.fs_status.specs.declared.refusal.Refusal.{Refusal}
-use Rattle.fs_status.specs.Reason.{code_of}
+use Rattle.fs_status.specs.Reason.{code_of, index_of}
 
--- with the reason's status, and nothing else that it names
+-- with the reason's status, the write that it names, and nothing else
 abbrev pub refusal_of : Reason → Refusal
-refusal_of reason = record { code = code_of reason; reason = reason; index = None; conflict = None; limit = None }
+refusal_of reason = record { code = code_of reason; reason = reason; index = index_of reason; conflict = None; limit = None }
+
+-- a request that would pass a limit: its refusal names the limit too
+abbrev pub at_limit : List ℕ → ℕ → Refusal
+at_limit name number = record {
+  code = code_of (AtLimit name number);
+  reason = AtLimit name number;
+  index = None;
+  conflict = None;
+  limit = Some (record { name = name; number = number });
+}

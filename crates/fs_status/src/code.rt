@@ -1,3 +1,4 @@
+//! The status of a refusal, with its numbers in HTTP and in gRPC.
 ghost use Rattle.std.specs.Prelude.{◌≡◌};
 ghost use Rattle.fs_status.specs.Status.{http_of, rpc_of, status_text};
 

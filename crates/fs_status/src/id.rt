@@ -1,3 +1,4 @@
+//! The numbers of commits and transactions.
 ghost use Rattle.std.specs.Prelude.{◌≡◌, ◌<◌, ◌^◌};
 
 use std::marker::Model;

@@ -12,5 +12,5 @@ mod tests;
 pub use code::Code;
 pub use id::Id;
 pub use printing::message;
-pub use reason::{Line, Reason};
+pub use reason::{LineFault, Reason};
 pub use refusal::{Limit, Refusal};

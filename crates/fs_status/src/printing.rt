@@ -1,10 +1,11 @@
+//! The messages of refusals.
 ghost use Rattle.std.specs.Prelude.{◌≡◌, IfOk, string_bytes};
-ghost use Rattle.fs_status.specs.Message.{message_text, line_text, rule_text};
+ghost use Rattle.fs_status.specs.Message.{message_text, line_text, rule_text, update_time_text};
 
-use crate::reason::{Line, Reason};
+use crate::reason::{LineFault, Reason};
 use crate::refusal::Refusal;
 use fs_path::{Rule, Text};
-use fs_time::print;
+use fs_time::{Micros, print};
 use std::alloc::{AllocError, Global};
 
 /// The message of a refusal, for a person: `no document at 2024-01-01T00:00:00Z`.
@@ -23,10 +24,21 @@ fn reason_text(alloc: Global, reason: &Reason) -> Result<String, AllocError>
             let (rule, place) = (rule.as_str(), place.as_str());
             format!(in alloc; "{rule} at {place}")
         }
+        Reason::Missing(write) => format!(in alloc; "write {write}: document missing"),
+        Reason::Exists(write) => format!(in alloc; "write {write}: document exists"),
+        Reason::OtherTime(write, time) => update_time_text(alloc, *write, *time),
+        Reason::DeepAfter(write) => format!(in alloc; "write {write}: E6"),
+        Reason::LargeAfter(write, bytes) => {
+            format!(in alloc; "write {write}: document has {bytes} bytes")
+        }
         Reason::NoDocument(time) => {
             let time = print(alloc, *time)?;
             let time = time.as_str();
             format!(in alloc; "no document at {time}")
+        }
+        Reason::AtLimit(name, number) => {
+            let name = name.as_str();
+            format!(in alloc; "limit {name} {number}")
         }
         Reason::Method(name) => {
             let name = name.as_str();
@@ -34,6 +46,20 @@ fn reason_text(alloc: Global, reason: &Reason) -> Result<String, AllocError>
         }
         Reason::Line(line) => line_text(alloc, *line),
         Reason::Memory => String::from_str(alloc, "out of memory"),
+    }
+}
+
+// The update time that a write found, or that there was none.
+fn update_time_text(alloc: Global, write: u32, time: Option<Micros>) -> Result<String, AllocError>
+    ensures { IfOk result (λ s. string_bytes s ≡ update_time_text write time) }
+{
+    match time {
+        Some(time) => {
+            let time = print(alloc, time)?;
+            let time = time.as_str();
+            format!(in alloc; "write {write}: update time is {time}")
+        }
+        None => format!(in alloc; "write {write}: update time is none"),
     }
 }
 
@@ -52,12 +78,12 @@ fn rule_text(alloc: Global, rule: Rule) -> Result<String, AllocError>
     }
 }
 
-fn line_text(alloc: Global, line: Line) -> Result<String, AllocError>
+fn line_text(alloc: Global, line: LineFault) -> Result<String, AllocError>
     ensures { IfOk result (λ s. string_bytes s ≡ line_text line) }
 {
     match line {
-        Line::NotAnObject => String::from_str(alloc, "line is not a JSON object"),
-        Line::DoesNotApply => String::from_str(alloc, "line does not apply"),
-        Line::HasBytes(n) => format!(in alloc; "line has {n} bytes"),
+        LineFault::NotAnObject => String::from_str(alloc, "line is not a JSON object"),
+        LineFault::DoesNotApply => String::from_str(alloc, "line does not apply"),
+        LineFault::HasBytes(n) => format!(in alloc; "line has {n} bytes"),
     }
 }

@@ -1,5 +1,6 @@
+//! Why a request is refused.
 ghost use Rattle.std.specs.Prelude.{◌≡◌, IfOk};
-ghost use Rattle.fs_status.specs.Reason.{code_of};
+ghost use Rattle.fs_status.specs.Reason.{code_of, index_of};
 
 use crate::code::Code;
 use fs_path::{Place, Rule, Text};
@@ -11,19 +12,31 @@ use std::alloc::{AllocError, Global};
 pub enum Reason {
     /// The request breaks a rule at a place: `P3 at getDocument.name`.
     Rule(Rule, Place),
+    /// The write of this index, counted from 0, wants a document that is there, and there is none.
+    Missing(u32),
+    /// The write of this index wants no document, and there is one.
+    Exists(u32),
+    /// The write of this index wants a document with another update time than this one, or than none.
+    OtherTime(u32, Option<Micros>),
+    /// The write of this index leaves a document that nests too deep.
+    DeepAfter(u32),
+    /// The write of this index leaves a document that is too large, at this number of counted bytes.
+    LargeAfter(u32, u128),
     /// No document has the name at the time of the read.
     NoDocument(Micros),
+    /// A limit by its name, with the number that it allows.
+    AtLimit(Text, u64),
     /// A method or a member that isn't served, by its name.
     Method(Text),
     /// A line of a script or a message isn't a request.
-    Line(Line),
+    Line(LineFault),
     /// No memory was left.
     Memory,
 }
 
 /// What is wrong with a line as a whole.
 #[derive(Clone, Copy, Debug, PartialEq, Eq)]
-pub enum Line {
+pub enum LineFault {
     NotAnObject,
     DoesNotApply,
     /// It is too long, at this number of bytes.
@@ -37,10 +50,30 @@ impl Reason {
     {
         match self {
             Reason::Rule(_, _) => Code::InvalidArgument,
+            Reason::Missing(_) => Code::NotFound,
+            Reason::Exists(_) => Code::AlreadyExists,
+            Reason::OtherTime(_, _) => Code::FailedPrecondition,
+            Reason::DeepAfter(_) => Code::InvalidArgument,
+            Reason::LargeAfter(_, _) => Code::InvalidArgument,
             Reason::NoDocument(_) => Code::NotFound,
+            Reason::AtLimit(_, _) => Code::ResourceExhausted,
             Reason::Method(_) => Code::Unimplemented,
             Reason::Line(_) => Code::InvalidArgument,
             Reason::Memory => Code::OutOfMemory,
+        }
+    }
+
+    /// The write that this reason names, counted from 0.
+    pub fn index(&self) -> Option<u32>
+        ensures { result ≡ index_of self.now }
+    {
+        match self {
+            Reason::Missing(write) => Some(*write),
+            Reason::Exists(write) => Some(*write),
+            Reason::OtherTime(write, _) => Some(*write),
+            Reason::DeepAfter(write) => Some(*write),
+            Reason::LargeAfter(write, _) => Some(*write),
+            _ => None,
         }
     }
 
@@ -49,7 +82,13 @@ impl Reason {
     {
         Ok(match self {
             Reason::Rule(rule, place) => Reason::Rule(*rule, place.copy(alloc)?),
+            Reason::Missing(write) => Reason::Missing(*write),
+            Reason::Exists(write) => Reason::Exists(*write),
+            Reason::OtherTime(write, time) => Reason::OtherTime(*write, *time),
+            Reason::DeepAfter(write) => Reason::DeepAfter(*write),
+            Reason::LargeAfter(write, bytes) => Reason::LargeAfter(*write, *bytes),
             Reason::NoDocument(time) => Reason::NoDocument(*time),
+            Reason::AtLimit(name, number) => Reason::AtLimit(name.copy(alloc)?, *number),
             Reason::Method(name) => Reason::Method(name.copy(alloc)?),
             Reason::Line(line) => Reason::Line(*line),
             Reason::Memory => Reason::Memory,

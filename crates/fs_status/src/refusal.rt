@@ -1,5 +1,6 @@
+//! The answer to a request that is refused.
 ghost use Rattle.std.specs.Prelude.{◌≡◌, IfOk};
-ghost use Rattle.fs_status.specs.Refusal.{refusal_of};
+ghost use Rattle.fs_status.specs.Refusal.{refusal_of, at_limit};
 
 use crate::code::Code;
 use crate::id::Id;
@@ -28,17 +29,32 @@ pub struct Limit {
 }
 
 impl Refusal {
-    /// The refusal for a reason, with the reason's status.
+    /// The refusal for a reason, with the reason's status and the write that it names.
     pub fn of(reason: Reason) -> Refusal
         ensures { result ≡ refusal_of reason }
     {
         Refusal {
             code: reason.code(),
+            index: reason.index(),
             reason,
-            index: None,
             conflict: None,
             limit: None,
         }
+    }
+
+    /// The refusal of a request that would pass a limit: the limit by its name, and the number that it allows.
+    pub fn at_limit(alloc: Global, name: &str, number: u64) -> Result<Refusal, AllocError>
+        ensures { IfOk result (λ r. r ≡ at_limit name.now number) }
+    {
+        let limit = Limit {
+            name: Text::from_str(alloc, name)?,
+            number,
+        };
+        let reason = Reason::AtLimit(Text::from_str(alloc, name)?, number);
+        Ok(Refusal {
+            limit: Some(limit),
+            ..Refusal::of(reason)
+        })
     }
 
     pub fn copy(&self, alloc: Global) -> Result<Refusal, AllocError>

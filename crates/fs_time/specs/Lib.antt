@@ -1,11 +1,6 @@
 pub mod Calendar
-pub mod Grammar
-pub mod GrammarLaws
-pub mod CalendarLaws
+pub mod Inner
 pub mod Moment
-pub mod ReadingLaws
+pub mod Pieces
 pub mod Rfc3339
-pub mod RoundTrip
-pub mod TextLaws
-pub mod TextReadLaws
-pub mod TimeLaws
+pub mod Shown

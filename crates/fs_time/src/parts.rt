@@ -1,4 +1,9 @@
-/// What a text of RFC 3339 shows, before anybody asks whether the calendar has it.
+//! What a text of RFC 3339 shows, part by part.
+
+/// What a text shows, before anybody asks whether the calendar has it.
+///
+/// `2024-02-30T01:00:00.120+01:00` shows the year 2024, the month 2, the day 30, the time of day 1, 0, 0 with the 3 decimals
+/// 120, and a clock that is `Ahead(1, 0)`.
 #[derive(Clone, Copy, Debug)]
 pub struct Parts {
     pub year: u16,

@@ -1,42 +1,49 @@
+//! The text that is printed of a moment.
+
 ghost use Rattle.std.specs.Prelude.{◌≡◌, ◌-◌, ◌/◌, ◌^◌, ◌++◌, ◌<◌, ◌≤◌, All, length, IfOk, OnOk, Ok, string_bytes};
 ghost use Rattle.fs_time.specs.Moment.{IsMoment};
-ghost use Rattle.fs_time.specs.Rfc3339.{time_of, time_text, parts_text, date_text, clock_text, fraction_text, digits, decimals, parts_at, ShowsMoment};
+ghost use Rattle.fs_time.specs.Pieces.{digits};
+ghost use Rattle.fs_time.specs.Shown.{text_of};
+ghost use Rattle.fs_time.specs.Rfc3339.{time_of, time_text, shown_at, decimals, longest_text, ShowsMoment};
+ghost use Rattle.fs_time.specs.Inner as Inner;
 
 use crate::micros::Micros;
 use crate::parts::{Offset, Parts};
 use jiff_core::civil::DateTime;
 use std::alloc::{AllocError, Global};
 
-/// How many bytes the longest text has, as `2024-01-01T00:00:00.000001Z`.
+/// How many bytes the longest printed text has, as `2024-01-01T00:00:00.000001Z`.
 pub const LONGEST_TEXT: usize = 27;
 
 /// The text of a moment in RFC 3339, as Firestore prints a `google.protobuf.Timestamp` in JSON: in UTC, with 0, 3 or 6
-/// decimals, the least that are exact.
+/// decimals, the least that are exact. The moment 1,704,067,200,120,000 prints as `2024-01-01T00:00:00.120Z`.
 pub fn print(alloc: Global, t: Micros) -> Result<String, AllocError>
     ensures text { IfOk result (λ s. string_bytes s ≡ time_text t) }
     ensures shows { IfOk result (λ s. ShowsMoment t (string_bytes s)) }
     ensures again { IfOk result (λ s. time_of (string_bytes s) ≡ Ok t) }
     ensures ascii { IfOk result (λ s. All (λ b. b < 128) (string_bytes s)) }
-    ensures longest { IfOk result (λ s. length (string_bytes s) ≤ LONGEST_TEXT) }
+    ensures longest { IfOk result (λ s. length (string_bytes s) ≤ longest_text) }
+    ensures limit { LONGEST_TEXT ≡ longest_text }
 {
-    utc_text(alloc, parts_of(t))
+    utc_text(alloc, parts_at(t))
 }
 
 fn utc_text(alloc: Global, parts: Parts) -> Result<String, AllocError>
     requires { parts.offset ≡ Offset.Utc }
-    ensures { IfOk result (λ s. string_bytes s ≡ parts_text parts) }
+    ensures { IfOk result (λ s. string_bytes s ≡ text_of (Inner.shown_by parts)) }
 {
     let mut text = String::with_capacity(alloc, LONGEST_TEXT)?;
-    push_date(&mut text, parts)?;
-    text.push('T')?;
-    push_clock(&mut text, parts)?;
-    push_fraction(&mut text, parts)?;
+    push_date_time(&mut text, parts)?;
+    push_decimals(&mut text, parts)?;
     text.push('Z')?;
     Ok(text)
 }
 
-fn parts_of(t: Micros) -> Parts
-    ensures value { result ≡ parts_at t }
+// What a moment shows in UTC.
+fn parts_at(t: Micros) -> Parts
+    ensures value { Inner.shown_by result ≡ shown_at t }
+    ensures shows { ShowsMoment t (text_of (Inner.shown_by result)) }
+    ensures utc { result.offset ≡ Offset.Utc }
     ensures range { IsMoment t }
 {
     let DateTime { date, time } = DateTime::from_nanosecond_in_range(t.get() as i128 * 1000);
@@ -69,28 +76,30 @@ fn shortened(micros: u32) -> (u8, u32)
     }
 }
 
-fn push_date(text: &mut String, parts: Parts) -> Result<(), AllocError>
-    ensures { OnOk result (string_bytes text.new ≡ string_bytes text.old ++ date_text parts) }
+// `2024-01-01T00:00:00`
+fn push_date_time(text: &mut String, parts: Parts) -> Result<(), AllocError>
+    ensures { OnOk result (string_bytes text.new ≡ string_bytes text.old ++ Inner.date_time_text parts) }
 {
     push_digits(text, parts.year as u32, 4)?;
-    text.push('-')?;
-    push_digits(text, parts.month as u32, 2)?;
-    text.push('-')?;
-    push_digits(text, parts.day as u32, 2)
+    push_after(text, "-", parts.month)?;
+    push_after(text, "-", parts.day)?;
+    push_after(text, "T", parts.hour)?;
+    push_after(text, ":", parts.minute)?;
+    push_after(text, ":", parts.second)?;
+    Ok(())
 }
 
-fn push_clock(text: &mut String, parts: Parts) -> Result<(), AllocError>
-    ensures { OnOk result (string_bytes text.new ≡ string_bytes text.old ++ clock_text parts) }
+// A mark, and then a number of two digits.
+fn push_after(text: &mut String, mark: &str, number: u8) -> Result<(), AllocError>
+    ensures { OnOk result (string_bytes text.new ≡ string_bytes text.old ++ mark.now ++ digits 2 number) }
 {
-    push_digits(text, parts.hour as u32, 2)?;
-    text.push(':')?;
-    push_digits(text, parts.minute as u32, 2)?;
-    text.push(':')?;
-    push_digits(text, parts.second as u32, 2)
+    text.push_str(mark)?;
+    push_digits(text, number as u32, 2)
 }
 
-fn push_fraction(text: &mut String, parts: Parts) -> Result<(), AllocError>
-    ensures { OnOk result (string_bytes text.new ≡ string_bytes text.old ++ fraction_text parts) }
+// `.000001`, or nothing.
+fn push_decimals(text: &mut String, parts: Parts) -> Result<(), AllocError>
+    ensures { OnOk result (string_bytes text.new ≡ string_bytes text.old ++ Inner.decimals_text parts) }
 {
     if parts.places == 0 {
         return Ok(());

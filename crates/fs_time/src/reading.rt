@@ -1,12 +1,16 @@
-ghost use Rattle.std.specs.Prelude.{◌≡◌, ◌+◌, ◌-◌, ◌*◌, pos, nat_lt, ◌≤◌, ◌<◌, ◌^◌, if◌then◌else◌, ◌&&◌, ◌↔◌, ℤ, IsErrOf, IfOk, IfErr, IfSome, option_copied};
+//! A text of RFC 3339 read as a moment: what it shows piece by piece, then the calendar, then the range.
+
+ghost use Rattle.std.specs.Prelude.{◌≡◌, ◌+◌, ◌-◌, ◌*◌, ◌≤◌, ◌<◌, ◌^◌, [], ◌∷◌, if◌then◌else◌, ◌&&◌, ◌↔◌, nat_lt, pos, ℕ, ℤ, Some, None, IsErrOf, IfOk, IfErr, IfSome, option_map, option_copied};
 ghost use Rattle.std.specs.Char.{is_ascii_digit};
 ghost use Rattle.std.specs.List.{prefix_len};
 ghost use Rattle.jiff_core.specs.Calendar.{IsWithin};
 ghost use Rattle.jiff_core.specs.DateTime.{IsCivilNanos};
 ghost use Rattle.fs_time.specs.Moment.{IsMoment};
-ghost use Rattle.fs_time.specs.Grammar as Grammar;
-ghost use Rattle.fs_time.specs.Rfc3339.{time_of, time_text, micros_in, nanos_if_time, offset_minutes, shown_nanos, is_on_calendar, is_offset, Fits, IsMemory, IsTimeText, IsRoundedDown, ShowsMoment};
-ghost use Rattle.fs_time.specs.declared.parts.Parts.{Parts};
+ghost use Rattle.fs_time.specs.Pieces as Pieces;
+ghost use Rattle.fs_time.specs.Shown as Shown;
+ghost use Rattle.fs_time.specs.Shown.{IsTimeText, IsRoundedDown, clock_nanos, is_on_calendar, is_offset, minutes_ahead, most_decimals};
+ghost use Rattle.fs_time.specs.Rfc3339.{time_of, time_text, shown_in, micros_in, nanos_if_time, IsMemory, ShowsMoment};
+ghost use Rattle.fs_time.specs.Inner as Inner;
 
 use crate::error::TimeError;
 use crate::micros::Micros;
@@ -14,18 +18,24 @@ use crate::parts::{Offset, Parts};
 use jiff::civil::DateTime;
 use std::alloc::Global;
 
+// The most decimals that a second has.
+const MOST_DECIMALS: usize = 9;
+
 /// The moment that a text of RFC 3339 shows, rounded down to microseconds, as Firestore reads a
 /// `google.protobuf.Timestamp` in JSON. `T` and `Z` are upper case, and a second has at most 9 decimals.
+///
+/// `2024-01-01T01:00:00.1234567+01:00` reads as 1,704,067,200,123,456. `BadText` is for what isn't such a text, and for a
+/// day or a time of day that doesn't exist; `OutOfRange` is for a time before the first moment or after the last.
 pub fn read_rfc3339(_alloc: Global, text: &str) -> Result<Micros, TimeError>
     ensures ok { IfOk result (λ t. time_of text.now ≡ Ok t) }
     ensures err { IfErr result (λ e. ¬ IsMemory e → time_of text.now ≡ Err e) }
     ensures memory { IfErr result (λ e. ¬ IsMemory e) }
 
     // The text shows that time, rounded down.
-    ensures found { IfOk result (λ t. (p : Parts) × IsTimeText text.now p × IsRoundedDown p t) }
-    ensures bad_text { IsErrOf result TimeError.BadText ↔ ((p : Parts) → ¬ (IsTimeText text.now p)) }
+    ensures found { IfOk result (λ t. (p : Shown.Shown) × IsTimeText text.now p × IsRoundedDown p t) }
+    ensures bad_text { IsErrOf result TimeError.BadText ↔ ((p : Shown.Shown) → ¬ (IsTimeText text.now p)) }
     ensures out_of_range { IsErrOf result TimeError.OutOfRange
-        ↔ ((p : Parts) × (z : ℤ) × IsTimeText text.now p × IsRoundedDown p z × ¬ (IsMoment z)) }
+        ↔ ((p : Shown.Shown) × (z : ℤ) × IsTimeText text.now p × IsRoundedDown p z × ¬ (IsMoment z)) }
 
     // What was printed is read again, and no other text of its form shows that time.
     ensures again { (z : ℤ) → IsMoment z → time_of (time_text z) ≡ Ok z }
@@ -58,19 +68,19 @@ fn micros_in(text: &[u8]) -> Option<i64>
 
 // The nanoseconds since 1970-01-01T00:00:00Z, if there is such a day and such a time of day.
 fn nanos_of(parts: Parts) -> Option<i128>
-    requires { Fits parts }
-    ensures value { result ≡ nanos_if_time parts }
+    requires { Inner.AreRead parts }
+    ensures value { result ≡ nanos_if_time (Inner.shown_by parts) }
     ensures range { IfSome result (IsWithin (10 ^ 21)) }
 {
-    let shown = shown_nanos(parts)?;
-    let minutes = offset_minutes(parts.offset)?;
+    let shown = clock_nanos(parts)?;
+    let minutes = minutes_ahead(parts.offset)?;
     Some(shown - minutes as i128 * 60_000_000_000)
 }
 
 // The same on the clock that is shown.
-fn shown_nanos(parts: Parts) -> Option<i128>
-    requires { Fits parts }
-    ensures value { result ≡ (if is_on_calendar parts then Some (shown_nanos parts) else None) }
+fn clock_nanos(parts: Parts) -> Option<i128>
+    requires { Inner.AreRead parts }
+    ensures value { result ≡ (if is_on_calendar (Inner.shown_by parts) then Some (clock_nanos (Inner.shown_by parts)) else None) }
     ensures range { IfSome result IsCivilNanos }
 {
     let subsec = subsec_of(parts) as i32;
@@ -90,16 +100,16 @@ fn shown_nanos(parts: Parts) -> Option<i128>
 
 // The nanoseconds of the decimals.
 fn subsec_of(parts: Parts) -> u32
-    requires { Fits parts }
-    ensures value { result ≡ parts.fraction * 10 ^ (9 - parts.places) }
+    requires { Inner.AreRead parts }
+    ensures value { result ≡ parts.fraction * 10 ^ (most_decimals - parts.places) }
     ensures bound { result < 10 ^ 9 }
 {
-    parts.fraction * 10_u32.pow(9 - parts.places as u32)
+    parts.fraction * 10_u32.pow(MOST_DECIMALS as u32 - parts.places as u32)
 }
 
 // How many minutes the clock is ahead of UTC, if it is less than a day.
-fn offset_minutes(offset: Offset) -> Option<i32>
-    ensures { result ≡ (if is_offset offset then Some (offset_minutes offset) else None) }
+fn minutes_ahead(offset: Offset) -> Option<i32>
+    ensures { result ≡ (if is_offset (Inner.offset_by offset) then Some (minutes_ahead (Inner.offset_by offset)) else None) }
 {
     match offset {
         Offset::Utc => Some(0),
@@ -121,20 +131,24 @@ fn minutes_of(hours: u8, minutes: u8) -> Option<i32>
     }
 }
 
-// `2024-01-01T00:00:00.000001Z`, all of the text.
-#[tactic(auto, unfolding(crate::specs::Grammar::parts_in))]
+// What all of a text shows, as `2024-01-01T00:00:00.000001Z`.
+#[tactic(auto, unfolding(crate::specs::Rfc3339::shown_in))]
 fn parts_in(text: &[u8]) -> Option<Parts>
-    ensures { result ≡ Grammar.parts_in text.now }
+    ensures value { option_map Inner.shown_by result ≡ shown_in text.now }
 {
-    let ((year, month, day), rest) = date_at(text)?;
-    let ((hour, minute, second), rest) = clock_at(after(rest, b'T')?)?;
-    let ((places, fraction), rest) = fraction_at(rest)?;
+    let (year, rest) = number_at(text, 4)?;
+    let (month, rest) = number_after(b'-', rest)?;
+    let (day, rest) = number_after(b'-', rest)?;
+    let (hour, rest) = number_after(b'T', rest)?;
+    let (minute, rest) = number_after(b':', rest)?;
+    let (second, rest) = number_after(b':', rest)?;
+    let ((places, fraction), rest) = decimals_at(rest)?;
     let (offset, rest) = offset_at(rest)?;
     if !rest.is_empty() {
         return None;
     }
     Some(Parts {
-        year,
+        year: year as u16,
         month,
         day,
         hour,
@@ -146,50 +160,19 @@ fn parts_in(text: &[u8]) -> Option<Parts>
     })
 }
 
-// `2024-01-01`
-#[tactic(auto, unfolding(crate::specs::Grammar::date_at))]
-fn date_at(text: &[u8]) -> Option<((u16, u8, u8), &[u8])>
-    ensures { Grammar.read_view result ≡ Grammar.date_at text.now }
+// `.000001`, or nothing: how many decimals, and those as one number.
+#[tactic(auto, unfolding(crate::specs::Pieces::number_at))]
+fn decimals_at(text: &[u8]) -> Option<((u8, u32), &[u8])>
+    ensures { Inner.read_by (λ read. read) result ≡ Inner.decimals_at text.now }
 {
-    let (year, rest) = number_at(text, 4)?;
-    let (month, rest) = number_at(after(rest, b'-')?, 2)?;
-    let (day, rest) = number_at(after(rest, b'-')?, 2)?;
-    Some(((year as u16, month as u8, day as u8), rest))
-}
-
-// `00:00:00`
-#[tactic(auto, unfolding(crate::specs::Grammar::clock_at))]
-fn clock_at(text: &[u8]) -> Option<((u8, u8, u8), &[u8])>
-    ensures { Grammar.read_view result ≡ Grammar.clock_at text.now }
-{
-    let (hour, rest) = number_at(text, 2)?;
-    let (minute, rest) = number_at(after(rest, b':')?, 2)?;
-    let (second, rest) = number_at(after(rest, b':')?, 2)?;
-    Some(((hour as u8, minute as u8, second as u8), rest))
-}
-
-// `.000001`, or nothing.
-#[tactic(auto, unfolding(crate::specs::Grammar::fraction_at))]
-fn fraction_at(text: &[u8]) -> Option<((u8, u32), &[u8])>
-    ensures { Grammar.read_view result ≡ Grammar.fraction_at text.now }
-{
-    match after(text, b'.') {
-        Some(rest) => decimals_at(rest),
+    match after(b'.', text) {
+        Some(rest) => {
+            let places = digits_at(rest).clamp(1, MOST_DECIMALS);
+            let (fraction, rest) = number_at(rest, places)?;
+            Some(((places as u8, fraction), rest))
+        }
         None => Some(((0, 0), text)),
     }
-}
-
-// How many decimals stand there, and those as one number.
-#[tactic(auto, unfolding(crate::specs::Grammar::decimals_at))]
-fn decimals_at(text: &[u8]) -> Option<((u8, u32), &[u8])>
-    ensures { Grammar.read_view result ≡ Grammar.decimals_at text.now }
-{
-    let places = digits_at(text);
-    if places == 0 || places > 9 {
-        return None;
-    }
-    let (fraction, rest) = number_at(text, places)?;
-    Some(((places as u8, fraction), rest))
 }
 
 fn digits_at(text: &[u8]) -> usize
@@ -199,9 +182,9 @@ fn digits_at(text: &[u8]) -> usize
 }
 
 // `Z`, `+01:00` or `-01:00`
-#[tactic(auto, unfolding(crate::specs::Grammar::offset_at))]
+#[tactic(auto, unfolding(crate::specs::Pieces::number_at))]
 fn offset_at(text: &[u8]) -> Option<(Offset, &[u8])>
-    ensures { Grammar.read_view result ≡ Grammar.offset_at text.now }
+    ensures { Inner.read_by Inner.offset_by result ≡ Inner.offset_at text.now }
 {
     let (sign, rest) = text.split_first()?;
     match sign {
@@ -219,37 +202,51 @@ fn offset_at(text: &[u8]) -> Option<(Offset, &[u8])>
 }
 
 // `01:00`
-#[tactic(auto, unfolding(crate::specs::Grammar::hours_and_minutes_at))]
 fn hours_and_minutes_at(text: &[u8]) -> Option<((u8, u8), &[u8])>
-    ensures { Grammar.read_view result ≡ Grammar.hours_and_minutes_at text.now }
+    ensures { Inner.read_by (λ read. (read.0, (read.1, tt))) result ≡ Pieces.read (Shown.piece [] 2 ∷ Shown.piece (58 ∷ []) 2 ∷ []) text.now }
 {
     let (hours, rest) = number_at(text, 2)?;
-    let (minutes, rest) = number_at(after(rest, b':')?, 2)?;
-    Some(((hours as u8, minutes as u8), rest))
+    let (minutes, rest) = number_after(b':', rest)?;
+    Some(((hours as u8, minutes), rest))
+}
+
+// This byte, and then a number of two digits.
+fn number_after(byte: u8, text: &[u8]) -> Option<(u8, &[u8])>
+    ensures { Inner.read_by (λ n. n) result ≡ Pieces.piece_at (Shown.piece (byte ∷ []) 2) text.now }
+{
+    let (number, rest) = number_at(after(byte, text)?, 2)?;
+    Some((number as u8, rest))
 }
 
 // A number of so many digits.
 fn number_at(text: &[u8], count: usize) -> Option<(u32, &[u8])>
-    requires { count ≤ 9 }
-    ensures value { Grammar.read_view result ≡ Grammar.number_at count text.now }
+    requires { count ≤ most_decimals }
+    ensures value { Inner.read_by (λ n. n) result ≡ Pieces.number_at count text.now }
     ensures bound { IfSome result (λ read. read.0 < 10 ^ count) }
 {
-    if text.len() < count {
+    if count == 0 {
+        return Some((0, text));
+    }
+    let (number, rest) = number_at(text, count - 1)?;
+    digit_more(number, rest)
+}
+
+// A number that goes on with one digit more.
+fn digit_more(number: u32, text: &[u8]) -> Option<(u32, &[u8])>
+    requires { number < 10 ^ 8 }
+    ensures value { Inner.read_by (λ n. n) result ≡ Pieces.digit_more number text.now }
+    ensures bound { IfSome result (λ read. read.0 < (number + 1) * 10) }
+{
+    let (digit, rest) = text.split_first()?;
+    if !digit.is_ascii_digit() {
         return None;
     }
-    let mut number = 0;
-    for digit in &text[..count] {
-        if !digit.is_ascii_digit() {
-            return None;
-        }
-        number = number * 10 + (*digit - b'0') as u32;
-    }
-    Some((number, &text[count..]))
+    Some((number * 10 + (*digit - b'0') as u32, rest))
 }
 
 // What follows this byte.
-fn after(text: &[u8], byte: u8) -> Option<&[u8]>
-    ensures { option_copied result ≡ Grammar.after byte text.now }
+fn after(byte: u8, text: &[u8]) -> Option<&[u8]>
+    ensures { option_copied result ≡ Pieces.after (byte ∷ []) text.now }
 {
     match text {
         [first, rest @ ..] if *first == byte => Some(rest),

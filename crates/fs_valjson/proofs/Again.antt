@@ -1,7 +1,8 @@
 -- What is written of a value is read as the same value.
 use Rattle.std.proofs.Common.{◌≡◌, ℕ, ℤ, ◌+◌, List, [], ◌∷◌, Result, Ok, Err, IfOk, OnOk, codes, refl, ap, ◌∙◌}
-use Rattle.fs_path.specs.Document.{document_text, IsDocumentOf}
-use Rattle.fs_path.specs.DocumentLaws.{document_only, reference_only}
+use Rattle.fs_path.specs.Document.{document_of, document_text}
+use Rattle.fs_path.specs.DocumentLaws.{document_only}
+use Rattle.fs_value.specs.declared.document.Document.{Document}
 use Rattle.fs_path.specs.declared.name.DocName.{DocName}
 use Rattle.fs_path.specs.declared.name.Root.{Root}
 use Rattle.fs_path.specs.Place.{member_place, item_place}
@@ -11,18 +12,20 @@ use Rattle.fs_value.specs.Data.{Data, null, boolean, integer, timestamp, string,
 use Rattle.fs_value.specs.DataLaws.{fields_of-members_of, items_of-list_of, members_of-fields_of}
 use Rattle.fs_json.specs.Time.{time_at, time_json}
 use Rattle.fs_valjson.specs.Document.{document_at, document_json}
-use Rattle.fs_valjson.specs.Reading.{value_at, items_at, entries_at, made, array_of, map_of}
-use Rattle.fs_valjson.specs.Writing.{json_of, items_json, members_json, HasNames, ItemsHaveNames, MembersHaveNames, IsHeld, ItemsAreHeld, MembersAreHeld}
+use Rattle.fs_value.specs.FieldPaths.{map_of}
+use Rattle.fs_valjson.specs.Reading.{value_at, items_at, entries_at, made, array_of}
+use Rattle.fs_valjson.specs.Valid.{IsHeld, ItemsAreHeld, MembersAreHeld, IsTimeHeld, IsValid}
+use Rattle.fs_valjson.specs.Writing.{value_json, items_json, members_json, HasNames, ItemsHaveNames, MembersHaveNames}
 
 mutual
-  pub value_again : (d : Data) (place : List ℕ) → IsHeld d → HasNames d → value_at (json_of d) place ≡ Ok d
+  pub value_again : (d : Data) (place : List ℕ) → IsHeld d → HasNames d → value_at (value_json d) place ≡ Ok d
   value_again null place h n = refl
   value_again (boolean b) place h n = refl
   value_again (integer z) place h n = rw h refl
   value_again (timestamp t) place h n = ap (made timestamp) (h (member_place place (codes "timestampValue")))
   value_again (string s) place h n = refl
   value_again (bytes b) place h n = rw h refl
-  value_again (reference name) place h n = rw (reference_only (document_text name) name n refl) refl
+  value_again (reference name) place h n = rw (h n) refl
   value_again (array no_items) place h n = refl
   value_again (array (item d ds)) place h n =
       let inside = member_place (member_place place (codes "arrayValue")) (codes "values") in
@@ -41,7 +44,7 @@ mutual
   entries_again (member k d ms) place h n = rw (value_again d (member_place place k) h.0 n.0, entries_again ms place h.1 n.1) refl
 
 -- the same of what a writer answers
-pub reads_back : {E : Type 0} (r : Result written.Value E) (d : Data) → IfOk r (λ j. json_view j ≡ json_of d) → OnOk r (IsHeld d)
+pub reads_back : {E : Type 0} (r : Result written.Value E) (d : Data) → IfOk r (λ j. json_view j ≡ value_json d) → OnOk r (IsHeld d)
     → IfOk r (λ j. (place : List ℕ) → HasNames d → value_at (json_view j) place ≡ Ok d)
 reads_back (Ok j) d is held = λ place names. ap (λ x. value_at x place) is ∙ value_again d place held names
 reads_back (Err e) d is held = record {}
@@ -51,24 +54,24 @@ pub on_ok_always : {T E P : Type 0} (r : Result T E) → P → OnOk r P
 on_ok_always (Ok x) p = p
 on_ok_always (Err e) p = record {}
 
--- a time's text is read back
-abbrev pub IsTimeHeld : ℤ → Type 0
-IsTimeHeld t = (place : List ℕ) → time_at (time_json t) place ≡ Ok t
-
 -- What is written of a document is read as the same document.
-pub document_again : (root : Root) (name : DocName) (fields : List (List ℕ × Data)) (created updated : ℤ) (place : List ℕ) → IsDocumentOf root name
+pub document_again : (root : Root) (name : DocName) (fields : List (List ℕ × Data)) (created updated : ℤ) (place : List ℕ) → document_of root (document_text name) ≡ Ok name
     → MembersHaveNames (members_of fields) → MembersAreHeld (members_of fields) → IsTimeHeld created → IsTimeHeld updated
     → document_at root (document_json (record { name = name; fields = fields; created = created; updated = updated })) place
     ≡ Ok (record { name = name; fields = fields; created = created; updated = updated })
 unfolding document_at document_json
 document_again root name [] created updated place is names held c u =
-    rw (document_only root (document_text name) name is refl, c (member_place place (codes "createTime")), u (member_place place (codes "updateTime"))) refl
+    rw (is, c (member_place place (codes "createTime")), u (member_place place (codes "updateTime"))) refl
 document_again root name (f ∷ fs) created updated place is names held c u =
     let inside = member_place place (codes "fields") in
     rw (
-      document_only root (document_text name) name is refl,
+      is,
       entries_again (members_of (f ∷ fs)) inside held names,
       fields_of-members_of fs,
       c (member_place place (codes "createTime")),
       u (member_place place (codes "updateTime")),
     ) refl
+
+pub valid_again : (root : Root) (d : Document) (place : List ℕ) → IsValid root d → document_at root (document_json d) place ≡ Ok d
+valid_again root d place valid =
+    document_again root d.name d.fields d.created d.updated place (document_only root (document_text d.name) d.name valid.named refl) valid.names valid.held valid.created valid.updated

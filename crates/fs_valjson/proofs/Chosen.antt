@@ -7,11 +7,12 @@ use Rattle.fs_path.specs.Place.{member_place}
 use Rattle.fs_path.specs.declared.place.Rule.TheVariants.{G}
 use Rattle.serde_json.specs.Data as json
 use Rattle.fs_json.specs.Answer.{or_fault, ◌>>=◌}
-use Rattle.fs_json.specs.Members.{at_most_one_at, chosen, if_chosen, is_given, name_of, none_or_one, one_of_at, only_at}
+use Rattle.fs_json.specs.Members.{at_most_one_at, chosen, if_chosen, is_given, first_spelled, none_or_one, one_of_at, only_at}
 use Rattle.fs_json.specs.declared.bad.Bad.{Bad}
 use Rattle.fs_json.specs.declared.bad.Bad.TheVariants.{At}
-use Rattle.fs_valjson.specs.Reading.{kinds, in_array, in_map, the_one, plain_at, value_at, kinds_in, kind_at, lists_in, list_at, maps_in, fields_at}
-use Rattle.fs_valjson.specs.Steps.{array_at, content_at, map_at}
+use Rattle.fs_value.specs.FieldPaths.{map_of}
+use Rattle.fs_valjson.specs.Reading.{kinds, array_members, map_members, array_of, made, the_one, plain_at, value_at, kinds_in, kind_at, lists_in, list_at, array_at, maps_in, fields_at, map_at}
+use Rattle.fs_valjson.specs.Steps.{the_content, the_kind}
 
 map-made : {A B C : Type 0} (f : B → C) (g : A → B) (o : Option A) → map f (option_to_list (option_map g o)) ≡ option_to_list (option_map (λ x. f (g x)) o)
 map-made f g None = refl
@@ -22,16 +23,16 @@ one_more : {A : Type 0} (names : List (List ℕ)) (f : List ℕ × json.Data →
     → rest ≡ map f (chosen names ms) → if_chosen names (λ name. f (name, d)) k d ++ rest ≡ map f (chosen names (json.member k d ms))
 one_more names f k d ms rest e =
     ap (λ r. if_chosen names (λ name. f (name, d)) k d ++ r) e
-    ∙ ap (λ front. front ++ map f (chosen names ms)) (sym (map-made f (λ name. (name, d)) (cond (is_given k d) (name_of names k) None)))
+    ∙ ap (λ front. front ++ map f (chosen names ms)) (sym (map-made f (λ name. (name, d)) (cond (is_given k d) (first_spelled names k) None)))
     ∙ sym (map-append f (if_chosen names (λ name. (name, d)) k d) (chosen names ms))
 
-lists_in-chosen : (ms : json.Members) (place : List ℕ) → lists_in ms place ≡ map (λ one. list_at one.1 (member_place place one.0)) (chosen in_array ms)
+lists_in-chosen : (ms : json.Members) (place : List ℕ) → lists_in ms place ≡ map (λ one. list_at one.1 (member_place place one.0)) (chosen array_members ms)
 lists_in-chosen json.no_members place = refl
-lists_in-chosen (json.member k d ms) place = one_more in_array (λ one. list_at one.1 (member_place place one.0)) k d ms _ (lists_in-chosen ms place)
+lists_in-chosen (json.member k d ms) place = one_more array_members (λ one. list_at one.1 (member_place place one.0)) k d ms _ (lists_in-chosen ms place)
 
-maps_in-chosen : (ms : json.Members) (place : List ℕ) → maps_in ms place ≡ map (λ one. fields_at one.1 (member_place place one.0)) (chosen in_map ms)
+maps_in-chosen : (ms : json.Members) (place : List ℕ) → maps_in ms place ≡ map (λ one. fields_at one.1 (member_place place one.0)) (chosen map_members ms)
 maps_in-chosen json.no_members place = refl
-maps_in-chosen (json.member k d ms) place = one_more in_map (λ one. fields_at one.1 (member_place place one.0)) k d ms _ (maps_in-chosen ms place)
+maps_in-chosen (json.member k d ms) place = one_more map_members (λ one. fields_at one.1 (member_place place one.0)) k d ms _ (maps_in-chosen ms place)
 
 -- one of the readings, beside the reading of the one
 the_one-map : {A X : Type 0} (f : X → Result A Bad) (place : List ℕ) (absent : Result A Bad) (xs : List X)
@@ -40,19 +41,37 @@ the_one-map f place absent [] = refl
 the_one-map f place absent (x ∷ []) = refl
 the_one-map f place absent (x ∷ y ∷ rest) = refl
 
-in_array_at : (ms : json.Members) (place : List ℕ)
-    → (only_at in_array (json.object ms) place >>= λ _. the_one place (Ok []) (lists_in ms place)) ≡ array_at (json.object ms) place
-in_array_at ms place =
-    ap (λ r. only_at in_array (json.object ms) place >>= λ _. r)
-    (ap (the_one place (Ok [])) (lists_in-chosen ms place)
-    ∙ the_one-map (λ one. list_at one.1 (member_place place one.0)) place (Ok []) (chosen in_array ms))
+-- what is read in turn
+in_turn : {A B C : Type 0} (first : Result A Bad) (then : Result B Bad) (f : B → Result C Bad) → (first >>= λ _. then >>= f) ≡ ((first >>= λ _. then) >>= f)
+in_turn (Ok x) then f = refl
+in_turn (Err bad) then f = refl
 
-in_map_at : (ms : json.Members) (place : List ℕ)
-    → (only_at in_map (json.object ms) place >>= λ _. the_one place (Ok []) (maps_in ms place)) ≡ map_at (json.object ms) place
-in_map_at ms place =
-    ap (λ r. only_at in_map (json.object ms) place >>= λ _. r)
+-- the content of an array is read in two steps, and that of a map
+pub array_at-steps : (d : json.Data) (place : List ℕ)
+    → array_at d place ≡ the_content array_members d place >>= λ found. option_map_or (λ one. list_at one.1 (member_place place one.0)) found (Ok [])
+array_at-steps json.null place = refl
+array_at-steps (json.boolean b) place = refl
+array_at-steps (json.number n) place = refl
+array_at-steps (json.string s) place = refl
+array_at-steps (json.array ds) place = refl
+array_at-steps (json.object ms) place =
+    ap (λ r. only_at array_members (json.object ms) place >>= λ _. r)
+    (ap (the_one place (Ok [])) (lists_in-chosen ms place)
+    ∙ the_one-map (λ one. list_at one.1 (member_place place one.0)) place (Ok []) (chosen array_members ms))
+    ∙ in_turn _ (at_most_one_at array_members (json.object ms) place) _
+
+pub map_at-steps : (d : json.Data) (place : List ℕ)
+    → map_at d place ≡ the_content map_members d place >>= λ found. option_map_or (λ one. fields_at one.1 (member_place place one.0)) found (Ok [])
+map_at-steps json.null place = refl
+map_at-steps (json.boolean b) place = refl
+map_at-steps (json.number n) place = refl
+map_at-steps (json.string s) place = refl
+map_at-steps (json.array ds) place = refl
+map_at-steps (json.object ms) place =
+    ap (λ r. only_at map_members (json.object ms) place >>= λ _. r)
     (ap (the_one place (Ok [])) (maps_in-chosen ms place)
-    ∙ the_one-map (λ one. fields_at one.1 (member_place place one.0)) place (Ok []) (chosen in_map ms))
+    ∙ the_one-map (λ one. fields_at one.1 (member_place place one.0)) place (Ok []) (chosen map_members ms))
+    ∙ in_turn _ (at_most_one_at map_members (json.object ms) place) _
 
 plain_at-array : (name : List ℕ) (d : json.Data) (place : List ℕ) → bytes_eq name (codes "arrayValue") ≡ true → plain_at name d place ≡ Err (At G place)
 plain_at-array name d place is = let same : name ≡ codes "arrayValue" = (bytes_eq-Decides _ _).0 is in rw same refl
@@ -66,20 +85,20 @@ needless true c x y z e f = e refl
 needless false true x y z e f = f refl
 needless false false x y z e f = refl
 
-kind_at-content : (d : json.Data) (name place : List ℕ) → kind_at d name place ≡ content_at name d place
-kind_at-content json.null name place = needless _ _ _ _ _ (plain_at-array name json.null place) (plain_at-map name json.null place)
-kind_at-content (json.boolean b) name place = needless _ _ _ _ _ (plain_at-array name (json.boolean b) place) (plain_at-map name (json.boolean b) place)
-kind_at-content (json.number n) name place = needless _ _ _ _ _ (plain_at-array name (json.number n) place) (plain_at-map name (json.number n) place)
-kind_at-content (json.string s) name place = needless _ _ _ _ _ (plain_at-array name (json.string s) place) (plain_at-map name (json.string s) place)
-kind_at-content (json.array ds) name place = needless _ _ _ _ _ (plain_at-array name (json.array ds) place) (plain_at-map name (json.array ds) place)
-kind_at-content (json.object ms) name place = rw (in_array_at ms place, in_map_at ms place) refl
+-- the content of a member, by its name
+pub kind_at-steps : (d : json.Data) (name place : List ℕ)
+    → kind_at d name place
+    ≡ cond (bytes_eq name (codes "arrayValue")) (made array_of (array_at d place)) (cond (bytes_eq name (codes "mapValue")) (made map_of (map_at d place)) (plain_at name d place))
+kind_at-steps json.null name place = needless _ _ _ _ _ (plain_at-array name json.null place) (plain_at-map name json.null place)
+kind_at-steps (json.boolean b) name place = needless _ _ _ _ _ (plain_at-array name (json.boolean b) place) (plain_at-map name (json.boolean b) place)
+kind_at-steps (json.number n) name place = needless _ _ _ _ _ (plain_at-array name (json.number n) place) (plain_at-map name (json.number n) place)
+kind_at-steps (json.string s) name place = needless _ _ _ _ _ (plain_at-array name (json.string s) place) (plain_at-map name (json.string s) place)
+kind_at-steps (json.array ds) name place = needless _ _ _ _ _ (plain_at-array name (json.array ds) place) (plain_at-map name (json.array ds) place)
+kind_at-steps (json.object ms) name place = refl
 
-kinds_in-chosen : (ms : json.Members) (place : List ℕ) → kinds_in ms place ≡ map (λ one. content_at one.0 one.1 (member_place place one.0)) (chosen kinds ms)
+kinds_in-chosen : (ms : json.Members) (place : List ℕ) → kinds_in ms place ≡ map (λ one. kind_at one.1 one.0 (member_place place one.0)) (chosen kinds ms)
 kinds_in-chosen json.no_members place = refl
-kinds_in-chosen (json.member k d ms) place =
-    let content : (λ name. kind_at d name (member_place place name)) ≡ (λ name. content_at name d (member_place place name)) = λ i name. kind_at-content d name (member_place place name) i in
-    ap (λ f. if_chosen kinds f k d ++ kinds_in ms place) content
-    ∙ one_more kinds (λ one. content_at one.0 one.1 (member_place place one.0)) k d ms _ (kinds_in-chosen ms place)
+kinds_in-chosen (json.member k d ms) place = one_more kinds (λ one. kind_at one.1 one.0 (member_place place one.0)) k d ms _ (kinds_in-chosen ms place)
 
 one_or_fault : {A X : Type 0} (f : X → Result A Bad) (place : List ℕ) (read : Result (Option X) Bad)
     → (read >>= λ found. option_map_or f found (Err (At G place))) ≡ ((read >>= or_fault G place) >>= f)
@@ -89,7 +108,7 @@ one_or_fault f place (Err bad) = refl
 
 -- a value is read in three steps
 pub value_at-steps : (d : json.Data) (place : List ℕ)
-    → value_at d place ≡ only_at kinds d place >>= λ _. one_of_at kinds d place >>= λ one. content_at one.0 one.1 (member_place place one.0)
+    → value_at d place ≡ the_kind d place >>= λ one. kind_at one.1 one.0 (member_place place one.0)
 value_at-steps json.null place = refl
 value_at-steps (json.boolean b) place = refl
 value_at-steps (json.number n) place = refl
@@ -98,5 +117,6 @@ value_at-steps (json.array ds) place = refl
 value_at-steps (json.object ms) place =
     ap (λ r. only_at kinds (json.object ms) place >>= λ _. r)
     (ap (the_one place (Err (At G place))) (kinds_in-chosen ms place)
-    ∙ the_one-map (λ one. content_at one.0 one.1 (member_place place one.0)) place (Err (At G place)) (chosen kinds ms)
-    ∙ one_or_fault (λ one. content_at one.0 one.1 (member_place place one.0)) place (at_most_one_at kinds (json.object ms) place))
+    ∙ the_one-map (λ one. kind_at one.1 one.0 (member_place place one.0)) place (Err (At G place)) (chosen kinds ms)
+    ∙ one_or_fault (λ one. kind_at one.1 one.0 (member_place place one.0)) place (at_most_one_at kinds (json.object ms) place))
+    ∙ in_turn _ (one_of_at kinds (json.object ms) place) _

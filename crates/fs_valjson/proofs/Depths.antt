@@ -9,7 +9,7 @@ use Rattle.serde_json.specs.View.{view, items_view, members_view}
 use Rattle.serde_json.proofs.Views.{Entry}
 use Rattle.serde_json.specs.declared.value.Value.{Value}
 use Rattle.fs_json.specs.Answer.{or_fault, ◌>>=◌}
-use Rattle.fs_json.specs.Members.{at_most_one_at, chosen, is_given, name_of, none_or_one, one_of_at}
+use Rattle.fs_json.specs.Members.{at_most_one_at, chosen, is_given, first_spelled, none_or_one, one_of_at}
 use Rattle.fs_json.specs.declared.bad.Bad.{Bad}
 
 -- each member that is chosen is at most so deep
@@ -24,7 +24,7 @@ within_more n d (Some name) xs h all = record { all = (h, all.all) }
 chosen_within : (names : List (List ℕ)) (ms : json.Members) (n : ℕ) → members_depth ms ≤ n → AreWithin n (chosen names ms)
 chosen_within names json.no_members n h = record { all = record {} }
 chosen_within names (json.member k d ms) n h =
-    within_more n d (cond (is_given k d) (name_of names k) None) _ (omega arith) (chosen_within names ms n (omega arith))
+    within_more n d (cond (is_given k d) (first_spelled names k) None) _ (omega arith) (chosen_within names ms n (omega arith))
 
 one_within : (n : ℕ) (xs : List (List ℕ × json.Data)) (one : List ℕ × json.Data) → none_or_one xs ≡ Some (Some one) → AreWithin n xs → depth one.1 ≤ n
 one_within n [] one e all = cc
@@ -39,6 +39,11 @@ required_ok : {A : Type 0} (place : List ℕ) (read : Result (Option A) Bad) (x 
 required_ok place (Ok None) x e = cc
 required_ok place (Ok (Some y)) x e = cc
 required_ok place (Err bad) x e = cc
+
+-- what is read in turn is what is read at last
+pub last_ok : {A B : Type 0} (first : Result A Bad) (then : Result B Bad) (x : B) → (first >>= λ _. then) ≡ Ok x → then ≡ Ok x
+last_ok (Ok y) then x e = e
+last_ok (Err bad) then x e = cc
 
 pub at_most_one_falls : (names : List (List ℕ)) (d : json.Data) (place : List ℕ) (one : List ℕ × json.Data)
     → at_most_one_at names d place ≡ Ok (Some one) → depth one.1 < depth d

@@ -4,10 +4,10 @@ use Rattle.serde_json.specs.Written.{has_float, items_have_float, members_have_f
 use Rattle.fs_path.specs.declared.name.DocName.{DocName}
 use Rattle.fs_value.specs.Data.{Data, null, boolean, integer, timestamp, string, bytes, reference, array, object, Items, no_items, item, Members, no_members, member, members_of}
 use Rattle.fs_valjson.specs.Document.{document_json}
-use Rattle.fs_valjson.specs.Writing.{json_of, items_json, members_json}
+use Rattle.fs_valjson.specs.Writing.{value_json, items_json, members_json}
 
 mutual
-  pub value_float : (d : Data) → has_float (json_of d) ≡ false
+  pub value_float : (d : Data) → has_float (value_json d) ≡ false
   value_float null = refl
   value_float (boolean b) = refl
   value_float (integer n) = refl

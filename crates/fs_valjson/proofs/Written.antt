@@ -16,21 +16,23 @@ use Rattle.fs_value.specs.Data.{Data, items_of, members_of}
 use Rattle.fs_value.specs.View.{view, field_view}
 use Rattle.fs_value.specs.declared.value.Value.{Value}
 use Rattle.fs_value.specs.declared.fields.Field.{Field}
-use Rattle.fs_valjson.specs.Document.{with_fields, with_fields_put}
-use Rattle.fs_valjson.specs.Writing.{json_of, items_json, members_json, list_content, fields_content, with_one, IsHeld, ItemsAreHeld, MembersAreHeld}
+use Rattle.fs_valjson.specs.Document.{with_fields}
+use Rattle.fs_valjson.specs.Steps.{with_fields_put}
+use Rattle.fs_valjson.specs.Valid.{IsHeld, ItemsAreHeld, MembersAreHeld}
+use Rattle.fs_valjson.specs.Writing.{value_json, items_json, members_json, list_content, fields_content, with_one}
 
 -- ---- values
 
 pub one_value : (vs : List Value) (i : ℕ) (v : Value) → i < length vs → v ≡ get_or vs i v → map view (take (i + 1) vs) ≡ map view (take i vs) ++ view v ∷ []
 one_value vs i v within is = map_more view vs i v within ∙ ap (λ w. map view (take i vs) ++ view w ∷ []) (sym is)
 
-pub items_push : (js : List written.Value) (j : written.Value) (ds : List Data) (d : Data) → items_view js ≡ items_json (items_of ds) → json_view j ≡ json_of d
+pub items_push : (js : List written.Value) (j : written.Value) (ds : List Data) (d : Data) → items_view js ≡ items_json (items_of ds) → json_view j ≡ value_json d
     → items_view (js ++ j ∷ []) ≡ items_json (items_of (ds ++ d ∷ []))
 items_push [] j [] d written one = ap (λ x. json.item x json.no_items) one
 items_push [] j (e ∷ ds) d written one = cc
 items_push (x ∷ js) j [] d written one = cc
 items_push (x ∷ js) j (e ∷ ds) d written one =
-    let head : json_view x ≡ json_of e = cc in
+    let head : json_view x ≡ value_json e = cc in
     let rest : items_view js ≡ items_json (items_of ds) = cc in
     rw (head, items_push js j ds d rest one) refl
 
@@ -62,11 +64,11 @@ below_last k (g ∷ fs) f h = below_last k fs f (both _ _ h).1
 
 -- a key above those before it goes last
 pub put_last : (fs : List (List ℕ × Data)) (k : List ℕ) (d : Data) → IsTrue (is_sorted text_cmp (fs ++ (k, d) ∷ []))
-    → json.put k (json_of d) (members_json (members_of fs)) ≡ members_json (members_of (fs ++ (k, d) ∷ []))
+    → json.put k (value_json d) (members_json (members_of fs)) ≡ members_json (members_of (fs ++ (k, d) ∷ []))
 put_last [] k d h = refl
 put_last (f ∷ fs) k d h =
     let above : text_cmp k f.0 ≡ Greater = nat_list_cmp_total.antisymm k f.0 ∙ ap ordering_reverse (below_last f.0 fs (k, d) (both _ _ h).0) in
-    rw above (ap (json.member f.0 (json_of f.1)) (put_last fs k d (both _ _ h).1))
+    rw above (ap (json.member f.0 (value_json f.1)) (put_last fs k d (both _ _ h).1))
 
 pub members_held_push : (fs : List (List ℕ × Data)) (k : List ℕ) (d : Data) → MembersAreHeld (members_of fs) → IsHeld d → MembersAreHeld (members_of (fs ++ (k, d) ∷ []))
 members_held_push [] k d h one = (one, tt)

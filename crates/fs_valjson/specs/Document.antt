@@ -44,11 +44,6 @@ abbrev pub with_fields : json.Members → json.Members → json.Members
 with_fields json.no_members rest = rest
 with_fields (json.member k d ms) rest = json.member (codes "fields") (json.object (json.member k d ms)) rest
 
--- the same, put in among other members
-abbrev pub with_fields_put : json.Members → json.Members → json.Members
-with_fields_put json.no_members others = others
-with_fields_put (json.member k d ms) others = json.put (codes "fields") (json.object (json.member k d ms)) others
-
 unfoldable pub document_json : Document → json.Data
 document_json d =
     json.object (json.member (codes "createTime") (time_json d.created) (with_fields (members_json (members_of d.fields))

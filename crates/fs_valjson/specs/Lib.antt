@@ -2,3 +2,4 @@ pub mod Document
 pub mod Reading
 pub mod Steps
 pub mod Writing
+pub mod Valid

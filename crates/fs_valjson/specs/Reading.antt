@@ -6,7 +6,8 @@ use Rattle.fs_path.specs.Place.{member_place, item_place}
 use Rattle.fs_path.specs.declared.place.Rule.TheVariants.{G}
 use Rattle.serde_json.specs.Data as json
 use Rattle.serde_json.specs.Find.{as_bool, as_str}
-use Rattle.fs_value.specs.Data.{Data, null, boolean, integer, timestamp, string, bytes, reference, array, object, items_of, members_of}
+use Rattle.fs_value.specs.Data.{Data, null, boolean, integer, timestamp, string, bytes, reference, array, object, items_of}
+use Rattle.fs_value.specs.FieldPaths.{map_of}
 use Rattle.fs_json.specs.Answer.{or_fault, ◌>>=◌}
 use Rattle.fs_json.specs.Base64.{bytes_of}
 use Rattle.fs_json.specs.Integer.{integer_of}
@@ -20,18 +21,15 @@ use Rattle.fs_json.specs.declared.bad.Bad.TheVariants.{At}
 abbrev pub kinds : List (List ℕ)
 kinds = codes "nullValue" ∷ codes "booleanValue" ∷ codes "integerValue" ∷ codes "timestampValue" ∷ codes "stringValue" ∷ codes "bytesValue" ∷ codes "referenceValue" ∷ codes "arrayValue" ∷ codes "mapValue" ∷ []
 
--- the members of an array and of a map
-abbrev pub in_array : List (List ℕ)
-in_array = codes "values" ∷ []
+-- the member that an array may have, and that of a map
+abbrev pub array_members : List (List ℕ)
+array_members = codes "values" ∷ []
 
-abbrev pub in_map : List (List ℕ)
-in_map = codes "fields" ∷ []
+abbrev pub map_members : List (List ℕ)
+map_members = codes "fields" ∷ []
 
 abbrev pub array_of : List Data → Data
 array_of ds = array (items_of ds)
-
-abbrev pub map_of : List (List ℕ × Data) → Data
-map_of fs = object (members_of fs)
 
 -- what was read, made into a value
 abbrev pub made : {A B : Type 0} → (A → B) → Result A Bad → Result B Bad
@@ -61,6 +59,10 @@ the_one place absent [] = absent
 the_one place absent (reading ∷ []) = reading
 the_one place absent (first ∷ second ∷ rest) = Err (At G place)
 
+-- the content of an array or a map: no member is there but this, and what is read of it, or nothing where it is absent
+abbrev pub content_at : {A : Type 0} → List (List ℕ) → json.Data → List ℕ → List (Result (List A) Bad) → Result (List A) Bad
+content_at names d place readings = only_at names d place >>= λ _. the_one place (Ok []) readings
+
 abbrev mutual
   -- a value: an object of just one of the kinds
   pub value_at : json.Data → List ℕ → Result Data Bad
@@ -75,15 +77,15 @@ abbrev mutual
   -- the content of a member of this name
   pub kind_at : json.Data → List ℕ → List ℕ → Result Data Bad
   kind_at (json.object ms) name place =
-      if bytes_eq name (codes "arrayValue") then made array_of (only_at in_array (json.object ms) place >>= λ _. the_one place (Ok []) (lists_in ms place))
-      else if bytes_eq name (codes "mapValue") then made map_of (only_at in_map (json.object ms) place >>= λ _. the_one place (Ok []) (maps_in ms place))
+      if bytes_eq name (codes "arrayValue") then made array_of (content_at array_members (json.object ms) place (lists_in ms place))
+      else if bytes_eq name (codes "mapValue") then made map_of (content_at map_members (json.object ms) place (maps_in ms place))
       else plain_at name (json.object ms) place
   kind_at d name place = plain_at name d place
 
   -- the values of an array, if they are there
   pub lists_in : json.Members → List ℕ → List (Result (List Data) Bad)
   lists_in json.no_members place = []
-  lists_in (json.member k d ms) place = if_chosen in_array (λ name. list_at d (member_place place name)) k d ++ lists_in ms place
+  lists_in (json.member k d ms) place = if_chosen array_members (λ name. list_at d (member_place place name)) k d ++ lists_in ms place
 
   pub list_at : json.Data → List ℕ → Result (List Data) Bad
   list_at (json.array ds) place = items_at ds 0 place
@@ -97,7 +99,7 @@ abbrev mutual
   -- the fields of a map, if they are there
   pub maps_in : json.Members → List ℕ → List (Result (List (List ℕ × Data)) Bad)
   maps_in json.no_members place = []
-  maps_in (json.member k d ms) place = if_chosen in_map (λ name. fields_at d (member_place place name)) k d ++ maps_in ms place
+  maps_in (json.member k d ms) place = if_chosen map_members (λ name. fields_at d (member_place place name)) k d ++ maps_in ms place
 
   pub fields_at : json.Data → List ℕ → Result (List (List ℕ × Data)) Bad
   fields_at (json.object ms) place = entries_at ms place
@@ -107,3 +109,13 @@ abbrev mutual
   pub entries_at : json.Members → List ℕ → Result (List (List ℕ × Data)) Bad
   entries_at json.no_members place = Ok []
   entries_at (json.member k d ms) place = value_at d (member_place place k) >>= λ x. entries_at ms place >>= λ xs. Ok ((k, x) ∷ xs)
+
+-- the content of an array
+abbrev pub array_at : json.Data → List ℕ → Result (List Data) Bad
+array_at (json.object ms) place = content_at array_members (json.object ms) place (lists_in ms place)
+array_at _ place = Err (At G place)
+
+-- the content of a map
+abbrev pub map_at : json.Data → List ℕ → Result (List (List ℕ × Data)) Bad
+map_at (json.object ms) place = content_at map_members (json.object ms) place (maps_in ms place)
+map_at _ place = Err (At G place)

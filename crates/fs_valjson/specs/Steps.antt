@@ -1,23 +1,24 @@
--- The content of a value, as a reader goes through it.
-use Rattle.std.specs.Prelude.{ℕ, List, [], Result, Ok, codes, if◌then◌else◌}
-use Rattle.std.specs.Option.{option_map_or}
-use Rattle.std.specs.Str.{bytes_eq}
-use Rattle.fs_path.specs.Place.{member_place}
+-- What only private clauses cite: what the readers and the writers know on their way.
+use Rattle.std.specs.Prelude.{ℕ, List, Option, Result, codes}
 use Rattle.serde_json.specs.Data as json
-use Rattle.fs_value.specs.Data.{Data}
 use Rattle.fs_json.specs.Answer.{◌>>=◌}
-use Rattle.fs_json.specs.Members.{at_most_one_at, only_at}
+use Rattle.fs_json.specs.Members.{at_most_one_at, one_of_at, only_at}
 use Rattle.fs_json.specs.declared.bad.Bad.{Bad}
-use Rattle.fs_valjson.specs.Reading.{in_array, in_map, array_of, map_of, made, plain_at, list_at, fields_at}
+use Rattle.fs_valjson.specs.Reading.{kinds}
 
-abbrev pub array_at : json.Data → List ℕ → Result (List Data) Bad
-array_at d place = only_at in_array d place >>= λ _. at_most_one_at in_array d place >>= λ found. option_map_or (λ one. list_at one.1 (member_place place one.0)) found (Ok [])
+-- ---- readers
 
-abbrev pub map_at : json.Data → List ℕ → Result (List (List ℕ × Data)) Bad
-map_at d place = only_at in_map d place >>= λ _. at_most_one_at in_map d place >>= λ found. option_map_or (λ one. fields_at one.1 (member_place place one.0)) found (Ok [])
+-- the member that is there of the kinds, where no other is
+abbrev pub the_kind : json.Data → List ℕ → Result (List ℕ × json.Data) Bad
+the_kind d place = only_at kinds d place >>= λ _. one_of_at kinds d place
 
-abbrev pub content_at : List ℕ → json.Data → List ℕ → Result Data Bad
-content_at name d place =
-    if bytes_eq name (codes "arrayValue") then made array_of (array_at d place)
-    else if bytes_eq name (codes "mapValue") then made map_of (map_at d place)
-    else plain_at name d place
+-- the member that is there of these names, if any is, where no other is
+abbrev pub the_content : List (List ℕ) → json.Data → List ℕ → Result (Option (List ℕ × json.Data)) Bad
+the_content names d place = only_at names d place >>= λ _. at_most_one_at names d place
+
+-- ---- writers
+
+-- the fields of a document, put in among its other members; fields that are none are left out
+abbrev pub with_fields_put : json.Members → json.Members → json.Members
+with_fields_put json.no_members others = others
+with_fields_put (json.member k d ms) others = json.put (codes "fields") (json.object (json.member k d ms)) others

@@ -1,11 +1,11 @@
 -- The JSON of a value. (proto3 JSON of the v1 reference, "Value": 64-bit integers and bytes are strings.)
-use Rattle.std.specs.Prelude.{◌≡◌, ℕ, List, Some, Ok, codes}
+use Rattle.std.specs.Prelude.{ℕ, List, codes}
 use Rattle.fs_path.specs.Document.{document_text, IsDocument}
 use Rattle.serde_json.specs.Data as json
 use Rattle.fs_value.specs.Data.{Data, null, boolean, integer, timestamp, string, bytes, reference, array, object, Items, no_items, item, Members, no_members, member}
-use Rattle.fs_json.specs.Base64.{bytes_json, bytes_of}
-use Rattle.fs_json.specs.Integer.{integer_json, integer_of}
-use Rattle.fs_json.specs.Time.{time_at, time_json}
+use Rattle.fs_json.specs.Base64.{bytes_json}
+use Rattle.fs_json.specs.Integer.{integer_json}
+use Rattle.fs_json.specs.Time.{time_json}
 
 -- an object of one member
 abbrev pub with_one : List ℕ → json.Data → json.Data
@@ -21,24 +21,24 @@ fields_content json.no_members = json.object json.no_members
 fields_content (json.member k d ms) = with_one (codes "fields") (json.object (json.member k d ms))
 
 abbrev mutual
-  pub json_of : Data → json.Data
-  json_of null = with_one (codes "nullValue") json.null
-  json_of (boolean b) = with_one (codes "booleanValue") (json.boolean b)
-  json_of (integer n) = with_one (codes "integerValue") (integer_json n)
-  json_of (timestamp t) = with_one (codes "timestampValue") (time_json t)
-  json_of (string s) = with_one (codes "stringValue") (json.string s)
-  json_of (bytes b) = with_one (codes "bytesValue") (bytes_json b)
-  json_of (reference n) = with_one (codes "referenceValue") (json.string (document_text n))
-  json_of (array ds) = with_one (codes "arrayValue") (list_content (items_json ds))
-  json_of (object ms) = with_one (codes "mapValue") (fields_content (members_json ms))
+  pub value_json : Data → json.Data
+  value_json null = with_one (codes "nullValue") json.null
+  value_json (boolean b) = with_one (codes "booleanValue") (json.boolean b)
+  value_json (integer n) = with_one (codes "integerValue") (integer_json n)
+  value_json (timestamp t) = with_one (codes "timestampValue") (time_json t)
+  value_json (string s) = with_one (codes "stringValue") (json.string s)
+  value_json (bytes b) = with_one (codes "bytesValue") (bytes_json b)
+  value_json (reference n) = with_one (codes "referenceValue") (json.string (document_text n))
+  value_json (array ds) = with_one (codes "arrayValue") (list_content (items_json ds))
+  value_json (object ms) = with_one (codes "mapValue") (fields_content (members_json ms))
 
   pub items_json : Items → json.Items
   items_json no_items = json.no_items
-  items_json (item d ds) = json.item (json_of d) (items_json ds)
+  items_json (item d ds) = json.item (value_json d) (items_json ds)
 
   pub members_json : Members → json.Members
   members_json no_members = json.no_members
-  members_json (member k d ms) = json.member k (json_of d) (members_json ms)
+  members_json (member k d ms) = json.member k (value_json d) (members_json ms)
 
 -- ---- what is read back
 
@@ -57,21 +57,3 @@ abbrev mutual
   pub MembersHaveNames : Members → Type 0
   MembersHaveNames no_members = Unit {0}
   MembersHaveNames (member k d ms) = HasNames d × MembersHaveNames ms
-
--- the integers, times and bytes inside are those that a value's types hold, so their texts are read back
-abbrev mutual
-  pub IsHeld : Data → Type 0
-  IsHeld (integer n) = integer_of (integer_json n) ≡ Some n
-  IsHeld (timestamp t) = (place : List ℕ) → time_at (time_json t) place ≡ Ok t
-  IsHeld (bytes b) = bytes_of (bytes_json b) ≡ Some b
-  IsHeld (array ds) = ItemsAreHeld ds
-  IsHeld (object ms) = MembersAreHeld ms
-  IsHeld _ = Unit {0}
-
-  pub ItemsAreHeld : Items → Type 0
-  ItemsAreHeld no_items = Unit {0}
-  ItemsAreHeld (item d ds) = IsHeld d × ItemsAreHeld ds
-
-  pub MembersAreHeld : Members → Type 0
-  MembersAreHeld no_members = Unit {0}
-  MembersAreHeld (member k d ms) = IsHeld d × MembersAreHeld ms

@@ -1,67 +1,65 @@
+//! Reads and writes documents.
 ghost use Rattle.std.specs.Prelude.{◌≡◌, ℕ, List, false, Ok, IfOk, OnOk};
 ghost use Rattle.fs_path.specs.Document.{IsDocumentOf};
+ghost use Rattle.fs_path.specs.Way.{place_of};
 ghost use Rattle.fs_path.specs.declared.name.Root.{Root};
 ghost use Rattle.fs_value.specs.Data.{members_of};
 ghost use Rattle.serde_json.specs.Written.{has_float};
 ghost use Rattle.serde_json.specs.View.{view as json, members_view};
 ghost use Rattle.fs_json.specs.Answer.{Gives};
-ghost use Rattle.fs_valjson.specs.Document.{document_at, document_json, fields_in, time_in, with_fields_put};
+ghost use Rattle.fs_valjson.specs.Document.{document_at, document_json, fields_in, time_in};
+ghost use Rattle.fs_valjson.specs.Steps.{with_fields_put};
 ghost use Rattle.fs_valjson.specs.Writing.{MembersHaveNames};
 
+use crate::names::{CREATE_TIME, DOCUMENT_MEMBERS, FIELDS, NAME, UPDATE_TIME};
 use crate::read::read_fields;
 use crate::write::write_members;
 use fs_json::{Bad, document_name, member, only, required, time, write_time};
-use fs_path::{Place, Root, print_document};
+use fs_path::{Root, Way, print_document};
 use fs_time::Micros;
-use fs_value::{Document, Fields};
+use fs_value::{Document, Fields, SharedFields};
 use serde_json::{Map, Value};
 use std::alloc::{AllocError, Global};
 
 /// Reads a document of this root. Fields that are absent are none, and a time that is absent is 1970-01-01T00:00:00Z,
 /// as `google.protobuf.Timestamp` has it: a document in a write has no times.
 #[tactic(auto, unfolding(crate::specs::Document::document_at))]
-pub fn read_document(alloc: Global, root: &Root, v: &Value, place: &Place) -> Result<Document, Bad>
-    ensures { Gives (λ d. d) result (document_at root.now (json v.now) place.now) }
+pub fn read_document(
+    alloc: Global,
+    root: &Root,
+    v: &Value,
+    place: &Way<'_>,
+) -> Result<Document, Bad>
+    ensures { Gives (λ d. d) result (document_at root.now (json v.now) (place_of place.now)) }
 {
-    only(
-        alloc,
-        v,
-        &["name", "fields", "createTime", "updateTime"],
-        place,
-    )?;
-    let name = required(alloc, v, "name", place)?;
-    let name = document_name(alloc, root, name, &place.member(alloc, "name")?)?;
+    only(alloc, v, &DOCUMENT_MEMBERS, place)?;
+    let name = required(alloc, v, NAME, place)?;
+    let name = document_name(alloc, root, name, &place.member(NAME))?;
     let fields = fields_in(alloc, v, place)?;
-    let created = time_in(alloc, v, "createTime", place)?;
-    let updated = time_in(alloc, v, "updateTime", place)?;
+    let created = time_in(alloc, v, CREATE_TIME, place)?;
+    let updated = time_in(alloc, v, UPDATE_TIME, place)?;
     Ok(Document {
         name,
-        fields,
+        fields: SharedFields::of(alloc, fields)?,
         created,
         updated,
     })
 }
 
-fn fields_in(alloc: Global, v: &Value, place: &Place) -> Result<Fields, Bad>
-    ensures { Gives (λ fs. fs) result (fields_in (json v.now) place.now) }
+fn fields_in(alloc: Global, v: &Value, place: &Way<'_>) -> Result<Fields, Bad>
+    ensures { Gives (λ fs. fs) result (fields_in (json v.now) (place_of place.now)) }
 {
-    match member(alloc, v, "fields", place)? {
-        Some(fields) => {
-            let inside = place.member(alloc, "fields")?;
-            read_fields(alloc, fields, &inside)
-        }
+    match member(alloc, v, FIELDS, place)? {
+        Some(fields) => read_fields(alloc, fields, &place.member(FIELDS)),
         None => Ok(Fields::new(alloc)),
     }
 }
 
-fn time_in(alloc: Global, v: &Value, name: &str, place: &Place) -> Result<Micros, Bad>
-    ensures { Gives (λ t. t) result (time_in name.now (json v.now) place.now) }
+fn time_in(alloc: Global, v: &Value, name: &str, place: &Way<'_>) -> Result<Micros, Bad>
+    ensures { Gives (λ t. t) result (time_in name.now (json v.now) (place_of place.now)) }
 {
     match member(alloc, v, name, place)? {
-        Some(moment) => {
-            let inside = place.member(alloc, name)?;
-            time(alloc, moment, &inside)
-        }
+        Some(moment) => time(alloc, moment, &place.member(name)),
         None => Ok(Micros::new(0).unwrap()),
     }
 }
@@ -80,17 +78,17 @@ pub fn write_document(alloc: Global, d: &Document) -> Result<Value, AllocError>
     serde_json::put(
         &mut members,
         alloc,
-        "createTime",
+        CREATE_TIME,
         write_time(alloc, d.created)?,
     )?;
-    let fields = write_members(alloc, &d.fields)?;
+    let fields = write_members(alloc, d.fields.as_fields())?;
     put_fields(alloc, &mut members, fields)?;
     let name = print_document(alloc, &d.name)?.into_string();
-    serde_json::put(&mut members, alloc, "name", Value::String(name))?;
+    serde_json::put(&mut members, alloc, NAME, Value::String(name))?;
     serde_json::put(
         &mut members,
         alloc,
-        "updateTime",
+        UPDATE_TIME,
         write_time(alloc, d.updated)?,
     )?;
     Ok(Value::Object(members))
@@ -108,5 +106,5 @@ fn put_fields(
     if fields.is_empty() {
         return Ok(());
     }
-    serde_json::put(members, alloc, "fields", Value::Object(fields))
+    serde_json::put(members, alloc, FIELDS, Value::Object(fields))
 }

@@ -1,99 +1,92 @@
-ghost use Rattle.std.specs.Prelude.{codes};
+//! Reads values.
+ghost use Rattle.std.specs.Prelude.{codes, map, option_map, List, Option, ℕ};
+ghost use Rattle.fs_path.specs.Way.{place_of};
 ghost use Rattle.fs_value.specs.View.{view};
 ghost use Rattle.serde_json.specs.View.{view as json, items_view, members_view};
+ghost use Rattle.serde_json.specs.Data.{Data};
 ghost use Rattle.fs_json.specs.Answer.{Gives};
-ghost use Rattle.fs_valjson.specs.Reading.{plain_at, list_at, items_at, fields_at, entries_at, value_at};
-ghost use Rattle.fs_valjson.specs.Steps.{array_at, content_at, map_at};
+ghost use Rattle.fs_valjson.specs.Reading.{array_at, entries_at, fields_at, items_at, kind_at, list_at, map_at, plain_at, value_at};
+ghost use Rattle.fs_valjson.specs.Steps.{the_content, the_kind};
 
+use crate::names::{
+    ARRAY_MEMBERS, ARRAY_VALUE, BOOLEAN_VALUE, BYTES_VALUE, INTEGER_VALUE, KINDS, MAP_MEMBERS,
+    MAP_VALUE, NULL, NULL_VALUE, REFERENCE_VALUE, STRING_VALUE, TIMESTAMP_VALUE,
+};
 use fs_json::{
     Bad, at_most_one_of, bytes, integer, list, one_of, only, reference, text, time, truth,
 };
-use fs_path::{Place, Rule, Text};
+use fs_path::{Rule, Text, Way};
 use fs_value::{Fields, Value, Values};
 use serde_json::Map;
 use std::alloc::Global;
 
-const KINDS: [&str; 9] = [
-    "nullValue",
-    "booleanValue",
-    "integerValue",
-    "timestampValue",
-    "stringValue",
-    "bytesValue",
-    "referenceValue",
-    "arrayValue",
-    "mapValue",
-];
-
 /// Reads a value: an object of just one of the members of `google.firestore.v1.Value`.
+///
+/// At the way `x` the reader of `{"mapValue":{"fields":{"a":{"arrayValue":{"values":[{"integerValue":"1x"}]}}}}}` goes
+/// by `x.mapValue`, `x.mapValue.fields` and `x.mapValue.fields.a` to
+/// `x.mapValue.fields.a.arrayValue.values[0].integerValue`, where it refuses.
 #[cycle(read)]
-pub fn read_value(alloc: Global, v: &serde_json::Value, place: &Place) -> Result<Value, Bad>
-    ensures { Gives view result (value_at (json v.now) place.now) }
+pub fn read_value(alloc: Global, v: &serde_json::Value, place: &Way<'_>) -> Result<Value, Bad>
+    ensures { Gives view result (value_at (json v.now) (place_of place.now)) }
 {
-    only(alloc, v, &KINDS, place)?;
-    let (name, content) = one_of(alloc, v, &KINDS, place)?;
-    let inside = place.member(alloc, name)?;
-    read_kind(alloc, name, content, &inside)
+    let (name, content) = the_kind(alloc, v, place)?;
+    read_kind(alloc, name, content, &(*place).member(name))
 }
 
 #[cycle(read)]
-fn read_kind(alloc: Global, name: &str, v: &serde_json::Value, place: &Place) -> Result<Value, Bad>
-    ensures { Gives view result (content_at name.now (json v.now) place.now) }
+fn read_kind(
+    alloc: Global,
+    name: &str,
+    v: &serde_json::Value,
+    place: &Way<'_>,
+) -> Result<Value, Bad>
+    ensures { Gives view result (kind_at (json v.now) name.now (place_of place.now)) }
 {
     match name {
-        "arrayValue" => Ok(Value::Array(read_array(alloc, v, place)?)),
-        "mapValue" => Ok(Value::Map(read_map(alloc, v, place)?)),
+        ARRAY_VALUE => Ok(Value::Array(read_array(alloc, v, place)?)),
+        MAP_VALUE => Ok(Value::Map(read_map(alloc, v, place)?)),
         _ => read_plain(alloc, name, v, place),
     }
 }
 
 /// Reads the content of an array: an object whose member `values` is a list of values, or is absent.
 #[cycle(read)]
-pub fn read_array(alloc: Global, v: &serde_json::Value, place: &Place) -> Result<Values, Bad>
-    ensures { Gives (λ vs. vs) result (array_at (json v.now) place.now) }
+pub fn read_array(alloc: Global, v: &serde_json::Value, place: &Way<'_>) -> Result<Values, Bad>
+    ensures { Gives (λ vs. vs) result (array_at (json v.now) (place_of place.now)) }
 {
-    only(alloc, v, &["values"], place)?;
-    match at_most_one_of(alloc, v, &["values"], place)? {
-        Some((name, content)) => {
-            let inside = place.member(alloc, name)?;
-            read_list(alloc, content, &inside)
-        }
+    match the_content(alloc, v, &ARRAY_MEMBERS, place)? {
+        Some((name, content)) => read_list(alloc, content, &(*place).member(name)),
         None => Ok(Values::new(alloc)),
     }
 }
 
 /// Reads a list of values.
 #[cycle(read)]
-pub fn read_list(alloc: Global, v: &serde_json::Value, place: &Place) -> Result<Values, Bad>
-    ensures { Gives (λ vs. vs) result (list_at (json v.now) place.now) }
+pub fn read_list(alloc: Global, v: &serde_json::Value, place: &Way<'_>) -> Result<Values, Bad>
+    ensures { Gives (λ vs. vs) result (list_at (json v.now) (place_of place.now)) }
 {
     let items = list(alloc, v, place)?;
     read_items(alloc, items, place)
 }
 
 #[cycle(read)]
-fn read_items(alloc: Global, items: &[serde_json::Value], place: &Place) -> Result<Values, Bad>
-    ensures { Gives (λ vs. vs) result (items_at (items_view items.now) 0 place.now) }
+fn read_items(alloc: Global, items: &[serde_json::Value], place: &Way<'_>) -> Result<Values, Bad>
+    ensures { Gives (λ vs. vs) result (items_at (items_view items.now) 0 (place_of place.now)) }
 {
-    let mut values = Values::new(alloc);
+    let mut values = Values::with_capacity(alloc, items.len())?;
     for (i, item) in items.iter().enumerate() {
-        let inside = place.item(alloc, i as u64)?;
-        let value = read_value(alloc, item, &inside)?;
+        let value = read_value(alloc, item, &(*place).item(i as u64))?;
         values.push(value)?;
     }
     Ok(values)
 }
 
 #[cycle(read)]
-fn read_map(alloc: Global, v: &serde_json::Value, place: &Place) -> Result<Fields, Bad>
-    ensures { Gives (λ fs. fs) result (map_at (json v.now) place.now) }
+fn read_map(alloc: Global, v: &serde_json::Value, place: &Way<'_>) -> Result<Fields, Bad>
+    ensures { Gives (λ fs. fs) result (map_at (json v.now) (place_of place.now)) }
 {
-    only(alloc, v, &["fields"], place)?;
-    match at_most_one_of(alloc, v, &["fields"], place)? {
-        Some((name, content)) => {
-            let inside = place.member(alloc, name)?;
-            read_fields(alloc, content, &inside)
-        }
+    match the_content(alloc, v, &MAP_MEMBERS, place)? {
+        Some((name, content)) => read_fields(alloc, content, &(*place).member(name)),
         None => Ok(Fields::new(alloc)),
     }
 }
@@ -103,13 +96,13 @@ fn read_map(alloc: Global, v: &serde_json::Value, place: &Place) -> Result<Field
 pub(crate) fn read_fields(
     alloc: Global,
     v: &serde_json::Value,
-    place: &Place,
+    place: &Way<'_>,
 ) -> Result<Fields, Bad>
-    ensures { Gives (λ fs. fs) result (fields_at (json v.now) place.now) }
+    ensures { Gives (λ fs. fs) result (fields_at (json v.now) (place_of place.now)) }
 {
     match v {
         serde_json::Value::Object(members) => read_entries(alloc, members, place),
-        _ => Err(Bad::At(Rule::G, place.copy(alloc)?)),
+        _ => Err(Bad::at(alloc, Rule::G, place)),
     }
 }
 
@@ -117,43 +110,75 @@ pub(crate) fn read_fields(
 fn read_entries(
     alloc: Global,
     members: &Map<String, serde_json::Value>,
-    place: &Place,
+    place: &Way<'_>,
 ) -> Result<Fields, Bad>
-    ensures { Gives (λ fs. fs) result (entries_at (members_view members.now.entries) place.now) }
+    ensures { Gives (λ fs. fs) result (entries_at (members_view members.now.entries) (place_of place.now)) }
 {
-    let mut fields = Fields::new(alloc);
+    let mut fields = Fields::with_capacity(alloc, members.len())?;
     for (key, content) in members.iter() {
-        let inside = place.member(alloc, key.as_str())?;
-        let value = read_value(alloc, content, &inside)?;
+        let value = read_value(alloc, content, &(*place).member(key.as_str()))?;
         let key = Text::from_str(alloc, key.as_str())?;
         fields.push_last(key, value)?;
     }
     Ok(fields)
 }
 
+/// The member that is there of the kinds, where no other is.
+fn the_kind<'a>(
+    alloc: Global,
+    v: &'a serde_json::Value,
+    place: &Way<'_>,
+) -> Result<(&'static str, &'a serde_json::Value), Bad>
+    ensures { Gives {Y = List ℕ × Data} (λ one. (one.0.now, json one.1.now)) result
+        (the_kind (json v.now) (place_of place.now)) }
+{
+    only(alloc, v, &KINDS, place)?;
+    one_of(alloc, v, &KINDS, place)
+}
+
+/// The member that is there of these names, if any is, where no other is.
+fn the_content<'a>(
+    alloc: Global,
+    v: &'a serde_json::Value,
+    names: &[&'static str],
+    place: &Way<'_>,
+) -> Result<Option<(&'static str, &'a serde_json::Value)>, Bad>
+    ensures { Gives {Y = Option (List ℕ × Data)}
+        (λ found. option_map (λ one. (one.0.now, json one.1.now)) found) result
+        (the_content (map (λ n. n.now) names.now) (json v.now) (place_of place.now)) }
+{
+    only(alloc, v, names, place)?;
+    at_most_one_of(alloc, v, names, place)
+}
+
 /// The content of a member that holds no values.
-fn read_plain(alloc: Global, name: &str, v: &serde_json::Value, place: &Place) -> Result<Value, Bad>
-    ensures { Gives view result (plain_at name.now (json v.now) place.now) }
+fn read_plain(
+    alloc: Global,
+    name: &str,
+    v: &serde_json::Value,
+    place: &Way<'_>,
+) -> Result<Value, Bad>
+    ensures { Gives view result (plain_at name.now (json v.now) (place_of place.now)) }
 {
     match name {
-        "nullValue" => read_null(alloc, v, place),
-        "booleanValue" => Ok(Value::Boolean(truth(alloc, v, place)?)),
-        "integerValue" => Ok(Value::Integer(integer(alloc, v, place)?)),
-        "timestampValue" => Ok(Value::Timestamp(time(alloc, v, place)?)),
-        "stringValue" => Ok(Value::String(text(alloc, v, place)?)),
-        "bytesValue" => Ok(Value::Bytes(bytes(alloc, v, place)?)),
-        "referenceValue" => Ok(Value::Reference(reference(alloc, v, place)?)),
-        _ => Err(Bad::At(Rule::G, place.copy(alloc)?)),
+        NULL_VALUE => read_null(alloc, v, place),
+        BOOLEAN_VALUE => Ok(Value::Boolean(truth(alloc, v, place)?)),
+        INTEGER_VALUE => Ok(Value::Integer(integer(alloc, v, place)?)),
+        TIMESTAMP_VALUE => Ok(Value::Timestamp(time(alloc, v, place)?)),
+        STRING_VALUE => Ok(Value::String(text(alloc, v, place)?)),
+        BYTES_VALUE => Ok(Value::Bytes(bytes(alloc, v, place)?)),
+        REFERENCE_VALUE => Ok(Value::Reference(reference(alloc, v, place)?)),
+        _ => Err(Bad::at(alloc, Rule::G, place)),
     }
 }
 
 /// Null, or the name of the one value of `google.protobuf.NullValue`.
-fn read_null(alloc: Global, v: &serde_json::Value, place: &Place) -> Result<Value, Bad>
-    ensures { Gives view result (plain_at (codes "nullValue") (json v.now) place.now) }
+fn read_null(alloc: Global, v: &serde_json::Value, place: &Way<'_>) -> Result<Value, Bad>
+    ensures { Gives view result (plain_at (codes "nullValue") (json v.now) (place_of place.now)) }
 {
     match v {
         serde_json::Value::Null => Ok(Value::Null),
-        serde_json::Value::String(name) if name.as_str() == "NULL_VALUE" => Ok(Value::Null),
-        _ => Err(Bad::At(Rule::G, place.copy(alloc)?)),
+        serde_json::Value::String(name) if name.as_str() == NULL => Ok(Value::Null),
+        _ => Err(Bad::at(alloc, Rule::G, place)),
     }
 }

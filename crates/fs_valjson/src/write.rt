@@ -1,11 +1,17 @@
+//! Writes values.
 ghost use Rattle.std.specs.Prelude.{◌≡◌, ℕ, List, false, Ok, IfOk, OnOk};
 ghost use Rattle.fs_value.specs.Data.{items_of, members_of};
 ghost use Rattle.fs_value.specs.View.{view};
 ghost use Rattle.serde_json.specs.Written.{has_float};
 ghost use Rattle.serde_json.specs.View.{view as json, items_view, members_view};
 ghost use Rattle.fs_valjson.specs.Reading.{value_at};
-ghost use Rattle.fs_valjson.specs.Writing.{json_of, items_json, members_json, list_content, fields_content, with_one, HasNames, IsHeld, ItemsAreHeld, MembersAreHeld};
+ghost use Rattle.fs_valjson.specs.Valid.{IsHeld, ItemsAreHeld, MembersAreHeld};
+ghost use Rattle.fs_valjson.specs.Writing.{value_json, items_json, members_json, list_content, fields_content, with_one, HasNames};
 
+use crate::names::{
+    ARRAY_VALUE, BOOLEAN_VALUE, BYTES_VALUE, FIELDS, INTEGER_VALUE, MAP_VALUE, NULL_VALUE,
+    REFERENCE_VALUE, STRING_VALUE, TIMESTAMP_VALUE, VALUES,
+};
 use fs_json::{write_bytes, write_integer, write_text, write_time};
 use fs_path::print_document;
 use fs_value::{Fields, Value, Values};
@@ -14,7 +20,7 @@ use std::alloc::{AllocError, Global};
 
 /// Writes a value.
 pub fn write_value(alloc: Global, v: &Value) -> Result<serde_json::Value, AllocError>
-    ensures value { IfOk result (λ j. json j ≡ json_of (view v.now)) }
+    ensures value { IfOk result (λ j. json j ≡ value_json (view v.now)) }
 
     // It has no float, so what is printed of it is told byte for byte.
     ensures no_float { IfOk result (λ j. has_float (json j) ≡ false) }
@@ -28,26 +34,26 @@ pub fn write_value(alloc: Global, v: &Value) -> Result<serde_json::Value, AllocE
 
 #[cycle(write)]
 fn write(alloc: Global, v: &Value) -> Result<serde_json::Value, AllocError>
-    ensures value { IfOk result (λ j. json j ≡ json_of (view v.now)) }
+    ensures value { IfOk result (λ j. json j ≡ value_json (view v.now)) }
     ensures held { OnOk result (IsHeld (view v.now)) }
 {
     match v {
-        Value::Null => with_one(alloc, "nullValue", serde_json::Value::Null),
-        Value::Boolean(b) => with_one(alloc, "booleanValue", serde_json::Value::Bool(*b)),
-        Value::Integer(n) => with_one(alloc, "integerValue", write_integer(alloc, *n)?),
-        Value::Timestamp(t) => with_one(alloc, "timestampValue", write_time(alloc, *t)?),
-        Value::String(text) => with_one(alloc, "stringValue", write_text(alloc, text)?),
-        Value::Bytes(bytes) => with_one(alloc, "bytesValue", write_bytes(alloc, bytes)?),
+        Value::Null => with_one(alloc, NULL_VALUE, serde_json::Value::Null),
+        Value::Boolean(b) => with_one(alloc, BOOLEAN_VALUE, serde_json::Value::Bool(*b)),
+        Value::Integer(n) => with_one(alloc, INTEGER_VALUE, write_integer(alloc, *n)?),
+        Value::Timestamp(t) => with_one(alloc, TIMESTAMP_VALUE, write_time(alloc, *t)?),
+        Value::String(text) => with_one(alloc, STRING_VALUE, write_text(alloc, text)?),
+        Value::Bytes(bytes) => with_one(alloc, BYTES_VALUE, write_bytes(alloc, bytes)?),
         Value::Reference(name) => {
             let text = print_document(alloc, name)?;
             with_one(
                 alloc,
-                "referenceValue",
+                REFERENCE_VALUE,
                 serde_json::Value::String(text.into_string()),
             )
         }
-        Value::Array(values) => with_one(alloc, "arrayValue", write_array(alloc, values)?),
-        Value::Map(fields) => with_one(alloc, "mapValue", write_map(alloc, fields)?),
+        Value::Array(values) => with_one(alloc, ARRAY_VALUE, write_array(alloc, values)?),
+        Value::Map(fields) => with_one(alloc, MAP_VALUE, write_map(alloc, fields)?),
     }
 }
 
@@ -99,7 +105,7 @@ fn list_content(
     if items.is_empty() {
         return Ok(serde_json::Value::Object(Map::new(alloc)));
     }
-    with_one(alloc, "values", serde_json::Value::Array(items))
+    with_one(alloc, VALUES, serde_json::Value::Array(items))
 }
 
 /// The content of a map. Empty fields are left out.
@@ -112,7 +118,7 @@ fn fields_content(
     if members.is_empty() {
         return Ok(serde_json::Value::Object(members));
     }
-    with_one(alloc, "fields", serde_json::Value::Object(members))
+    with_one(alloc, FIELDS, serde_json::Value::Object(members))
 }
 
 /// An object of one member.

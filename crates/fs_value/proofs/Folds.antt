@@ -4,8 +4,9 @@ use Rattle.std.specs.Prelude.{IsTrue, max, min}
 use Rattle.std.specs.Cmp.{first_so, second_so}
 use Rattle.std.specs.Cmp.Derive.{both_true}
 use Rattle.std.proofs.lemmas.List.{map_more}
-use Rattle.fs_value.specs.Data.{Data, items_of, members_of, depth, items_depth, members_depth, is_ordered, items_ordered, members_ordered}
-use Rattle.fs_value.specs.Size.{value_size, items_size, members_size}
+use Rattle.fs_value.specs.Data.{Data, items_of, members_of, depth, items_depth, members_depth}
+use Rattle.fs_value.specs.Ordered.{is_ordered, items_ordered, members_ordered}
+use Rattle.fs_value.specs.Size.{text_size, value_size, items_size, members_size}
 use Rattle.fs_value.specs.View.{view, field_view}
 use Rattle.fs_value.specs.declared.value.Value.{Value}
 use Rattle.fs_value.specs.declared.fields.Field.{Field}
@@ -32,7 +33,7 @@ items_size-push : (ds : List Data) (d : Data) → items_size (items_of (ds ++ d 
 items_size-push [] d = omega arith
 items_size-push (e ∷ ds) d = omega (arith, items_size-push ds d)
 
-members_size-push : (fs : List (List ℕ × Data)) (f : List ℕ × Data) → members_size (members_of (fs ++ f ∷ [])) ≡ members_size (members_of fs) + (length f.0 + 1 + value_size f.1)
+members_size-push : (fs : List (List ℕ × Data)) (f : List ℕ × Data) → members_size (members_of (fs ++ f ∷ [])) ≡ members_size (members_of fs) + (text_size f.0 + value_size f.1)
 members_size-push [] f = omega arith
 members_size-push (e ∷ fs) f = omega (arith, members_size-push fs f)
 
@@ -72,7 +73,7 @@ module _ (fs : List Field) (i : ℕ) (f : Field) (within : i < length fs) (is : 
       let now = ap (λ ds. members_depth (members_of ds)) (one_field fs i f within is) ∙ members_depth-push (map field_view (take i fs)) (field_view f) in
       omega (arith, now)
 
-  pub members_size_more : (before key keyed one told : ℕ) → before ≡ min (members_size (members_of (map field_view (take i fs)))) 340282366920938463463374607431768211455 → key ≡ length f.key → keyed ≡ min (before + (key + 1)) 340282366920938463463374607431768211455 → one ≡ min (value_size (view f.value)) 340282366920938463463374607431768211455
+  pub members_size_more : (before key keyed one told : ℕ) → before ≡ min (members_size (members_of (map field_view (take i fs)))) 340282366920938463463374607431768211455 → key ≡ text_size f.key → keyed ≡ min (before + key) 340282366920938463463374607431768211455 → one ≡ min (value_size (view f.value)) 340282366920938463463374607431768211455
       → told ≡ min (keyed + one) 340282366920938463463374607431768211455 → told ≡ min (members_size (members_of (map field_view (take (i + 1) fs)))) 340282366920938463463374607431768211455
   members_size_more before key keyed one told h j k l m =
       let now = ap (λ ds. members_size (members_of ds)) (one_field fs i f within is) ∙ members_size-push (map field_view (take i fs)) (field_view f) in

@@ -1,5 +1,12 @@
 pub mod Weights
+pub mod Rising
 pub mod Places
-pub mod Naming
+pub mod Tree
+pub mod Joined
+pub mod Copied
 pub mod Folds
 pub mod Comparing
+pub mod Lawful
+pub mod FieldPlaces
+pub mod PathSteps
+pub mod PathLaws

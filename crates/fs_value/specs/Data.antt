@@ -1,10 +1,9 @@
 -- What a value is, whatever memory it stands in. Contracts speak of a value's `Data`, and two values are the same exactly
 -- where their `Data` is equal. An array's elements are `Items`; a map's fields are `Members`, in the order of their keys.
--- (Cloud Firestore documentation, "Supported data types".)
-use Rattle.std.specs.Prelude.{ℕ, suc, ◌+◌, max, Bool, true, ◌&&◌, ℤ, List, [], ◌∷◌}
-use Rattle.std.specs.FinMap.{is_sorted}
+-- So `{a: [1, true]}` is `object (member "a" (array (item (integer 1) (item (boolean true) no_items))) no_members)`.
+-- (Cloud Firestore documentation, "Data types".)
+use Rattle.std.specs.Prelude.{ℕ, suc, ◌+◌, max, Bool, ℤ, List, [], ◌∷◌}
 use Rattle.fs_path.specs.declared.name.DocName.{DocName}
-use Rattle.fs_path.specs.TextOrder.{text_cmp}
 
 -- integers are numbers; a timestamp is a number of microseconds since 1970; strings and bytes are lists of bytes
 mutual
@@ -45,19 +44,7 @@ abbrev pub fields_of : Members → List (List ℕ × Data)
 fields_of no_members = []
 fields_of (member k d ms) = (k, d) ∷ fields_of ms
 
--- ---- kind and depth
-
--- the number of a value's kind. Values of unlike kinds are ordered by it
-abbrev pub kind : Data → ℕ
-kind null = 0
-kind (boolean b) = 1
-kind (integer n) = 2
-kind (timestamp t) = 3
-kind (string s) = 4
-kind (bytes s) = 5
-kind (reference n) = 6
-kind (array ds) = 7
-kind (object ms) = 8
+-- ---- depth
 
 -- how deep arrays and maps nest: a value that is neither has depth 1, and so has an empty array or map
 abbrev mutual
@@ -81,29 +68,6 @@ abbrev mutual
   pub members_depth : Members → ℕ
   members_depth no_members = 0
   members_depth (member k d ms) = max (depth d) (members_depth ms)
-
--- ---- keys that rise, at every level
-
--- the keys of each map inside rise, so no key stands twice
-abbrev mutual
-  pub is_ordered : Data → Bool
-  is_ordered null = true
-  is_ordered (boolean b) = true
-  is_ordered (integer n) = true
-  is_ordered (timestamp t) = true
-  is_ordered (string s) = true
-  is_ordered (bytes s) = true
-  is_ordered (reference n) = true
-  is_ordered (array ds) = items_ordered ds
-  is_ordered (object ms) = is_sorted text_cmp (fields_of ms) && members_ordered ms
-
-  pub items_ordered : Items → Bool
-  items_ordered no_items = true
-  items_ordered (item d ds) = is_ordered d && items_ordered ds
-
-  pub members_ordered : Members → Bool
-  members_ordered no_members = true
-  members_ordered (member k d ms) = is_ordered d && members_ordered ms
 
 -- ---- the measure of recursions over values
 

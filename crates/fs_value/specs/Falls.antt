@@ -1,4 +1,4 @@
--- Each value in an array or a map weighs less than its list.
+-- Only the models of `Values` and `Fields` cite this: each value in an array or a map weighs less than its list.
 use Rattle.std.specs.Prelude.{◌≤◌, List, [], ◌∷◌, map}
 use Rattle.std.proofs.Common.{arith}
 use denote.Param.Weighed.{most}

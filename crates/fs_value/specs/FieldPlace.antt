@@ -1,4 +1,4 @@
--- Where a key stands among fields.
+-- Only private clauses cite this: where a key stands among fields.
 use Rattle.std.specs.Prelude.{◌≡◌, ℕ, ◌<◌, ◌≤◌, List, Some, None, length, insert, slice_set, slice_index_or}
 use Rattle.std.specs.FinMap.{find, put}
 use Rattle.fs_path.specs.TextOrder.{text_cmp}

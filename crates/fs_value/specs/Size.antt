@@ -1,22 +1,42 @@
--- The counted size of documents, in bytes.
--- (Cloud Firestore documentation, "Storage size calculations".)
-use Rattle.std.specs.Prelude.{ℕ, ◌+◌, length, sum_by}
+-- The counted size of documents, in bytes. The document `c/a {n: 1}` counts 62: its name 16 + 2 + 2, the key 2, the
+-- number 8, and 32.
+-- (Cloud Firestore documentation, "Calculate storage size".)
+use Rattle.std.specs.Prelude.{ℕ, ◌+◌, List, length, sum_by}
 use Rattle.fs_path.specs.declared.name.DocName.{DocName}
 use Rattle.fs_value.specs.Data.{Data, null, boolean, integer, timestamp, string, bytes, reference, array, object, Items, no_items, item, Members, no_members, member, members_of}
 use Rattle.fs_value.specs.declared.document.Document.{Document}
 
--- 16, and for each id its bytes and 1
-abbrev pub name_size : DocName → ℕ
-name_size n = 16 + sum_by (λ id. length id + 1) n.ids
+-- "additional bytes" of a document, and of a name
+abbrev pub document_extra : ℕ
+document_extra = 32
 
--- an array has the sum of its elements' sizes, and a map that of its fields'
+abbrev pub name_extra : ℕ
+name_extra = 16
+
+-- a text: its bytes in UTF-8, and 1
+abbrev pub text_size : List ℕ → ℕ
+text_size s = length s + 1
+
+-- null and booleans
+abbrev pub flag_size : ℕ
+flag_size = 1
+
+-- integers and timestamps
+abbrev pub number_size : ℕ
+number_size = 8
+
+-- a name: the size of each id, and the additional bytes
+abbrev pub name_size : DocName → ℕ
+name_size n = name_extra + sum_by text_size n.ids
+
+-- an array has the sum of its elements' sizes, and a map that of its keys' and values'
 abbrev mutual
   pub value_size : Data → ℕ
-  value_size null = 1
-  value_size (boolean b) = 1
-  value_size (integer n) = 8
-  value_size (timestamp t) = 8
-  value_size (string s) = length s + 1
+  value_size null = flag_size
+  value_size (boolean b) = flag_size
+  value_size (integer n) = number_size
+  value_size (timestamp t) = number_size
+  value_size (string s) = text_size s
   value_size (bytes s) = length s
   value_size (reference n) = name_size n
   value_size (array ds) = items_size ds
@@ -26,11 +46,10 @@ abbrev mutual
   items_size no_items = 0
   items_size (item d ds) = value_size d + items_size ds
 
-  -- for each field its key's bytes, 1, and its value's size
   pub members_size : Members → ℕ
   members_size no_members = 0
-  members_size (member k d ms) = length k + 1 + value_size d + members_size ms
+  members_size (member k d ms) = text_size k + value_size d + members_size ms
 
--- 32, the name's size, and that of the fields
+-- a document: its name, its fields, and the additional bytes
 abbrev pub document_size : Document → ℕ
-document_size d = 32 + name_size d.name + members_size (members_of d.fields)
+document_size d = document_extra + name_size d.name + members_size (members_of d.fields)

@@ -1,4 +1,5 @@
-use crate::fields::Fields;
+//! Documents.
+use crate::shared::SharedFields;
 use fs_path::DocName;
 use fs_time::Micros;
 use std::alloc::{AllocError, Global};
@@ -8,20 +9,23 @@ use std::marker::Model;
 #[derive(Drop, Debug)]
 pub struct Document {
     pub name: DocName,
-    pub fields: Fields,
+    pub fields: SharedFields,
     pub created: Micros,
     pub updated: Micros,
 }
 
+const _: () = prove!(size_of::<Document>() <= 48);
+
 impl Document {
     ghost use Rattle.std.specs.Prelude.{◌≡◌, IfOk};
 
+    /// The same document once more, which shares its fields with this one.
     pub fn copy(&self, alloc: Global) -> Result<Document, AllocError>
         ensures { IfOk result (λ d. d ≡ self.now) }
     {
         Ok(Document {
             name: self.name.copy(alloc)?,
-            fields: self.fields.copy(alloc)?,
+            fields: self.fields.copy()?,
             created: self.created,
             updated: self.updated,
         })
@@ -48,7 +52,10 @@ impl Model for Documents {
 }
 
 impl Documents {
-    ghost use Rattle.std.specs.Prelude.{◌≡◌, ◌↔◌, ◌<◌, ◌∷◌, ◌++◌, IfOk, OnOk, OnErr, IsTrue, Some, [], length, slice_get};
+    ghost use Rattle.std.specs.Prelude.{◌≡◌, ◌↔◌, ◌<◌, ◌∷◌, ◌++◌, IfOk, OnOk, OnErr, IsTrue, Some, [], length, option_map, slice_get};
+    ghost use Rattle.std.specs.FinMap.{find, is_sorted};
+    ghost use Rattle.fs_path.specs.NameOrder.{name_cmp};
+    ghost use Rattle.fs_value.specs.Named.{by_name};
 
     /// No documents. The allocator serves those that are pushed.
     pub fn new(alloc: Global) -> Documents
@@ -96,6 +103,20 @@ impl Documents {
         ensures { slice_get self.now i ≡ Some result.now }
     {
         &self.items[i]
+    }
+
+    /// The document of a name, among documents whose names rise.
+    pub fn find(&self, name: &DocName) -> Option<&Document>
+        requires { IsTrue (is_sorted name_cmp (by_name self.now)) }
+        ensures { option_map (λ d. d.now) result ≡ find name_cmp name.now (by_name self.now) }
+    {
+        match self
+            .items
+            .binary_search_by(|document| document.name.cmp(name))
+        {
+            Ok(i) => Some(&self.items[i]),
+            Err(_) => None,
+        }
     }
 
     /// Adds a document at the end.

@@ -1,16 +1,56 @@
+//! Documents by their names.
 use crate::document::{Document, Documents};
+use crate::shared::SharedFields;
 use fs_path::DocName;
+use fs_time::Micros;
 use std::alloc::{AllocError, Global};
 use std::collections::BTreeMap;
 use std::marker::Model;
 
+/// A document but for its name, under which it is held.
+#[derive(Drop, Debug)]
+struct Held {
+    fields: SharedFields,
+    created: Micros,
+    updated: Micros,
+}
+
+impl Held {
+    ghost use Rattle.std.specs.Prelude.{◌≡◌, IfOk};
+    ghost use Rattle.fs_value.specs.Named.{document_of};
+
+    fn copy(&self) -> Result<Held, AllocError>
+        ensures { IfOk result (λ h. h ≡ self.now) }
+    {
+        Ok(Held {
+            fields: self.fields.copy()?,
+            created: self.created,
+            updated: self.updated,
+        })
+    }
+
+    // Puts the document together, which shares its fields with those here.
+    fn named(&self, alloc: Global, name: &DocName) -> Result<Document, AllocError>
+        ensures { IfOk result (λ d. d ≡ document_of name.now self.now) }
+    {
+        Ok(Document {
+            name: name.copy(alloc)?,
+            fields: self.fields.copy()?,
+            created: self.created,
+            updated: self.updated,
+        })
+    }
+}
+
 /// Documents by their names, in the order of names. Contracts see a finite map from names to documents, in which each
-/// document stands at its own name.
+/// document stands at its own name:
+///
+///     demo/(default)/c/a    {n: 1}
+///     demo/(default)/c/b    {n: 2}      `put` of another `c/b` takes the place of this one
 #[derive(Drop, Debug)]
 pub struct DocumentMap {
-    // A document's name is kept twice, as the key and in the document, so that a look-up lends the whole document.
-    documents: BTreeMap<DocName, Document>,
-    alloc: Global,
+    // A document's name is kept once, as its key.
+    documents: BTreeMap<DocName, Held>,
 }
 
 impl Model for DocumentMap {
@@ -19,20 +59,20 @@ impl Model for DocumentMap {
     ghost use Rattle.fs_path.specs.contracts.name.DocName as name;
     ghost use Rattle.fs_value.specs.contracts.document.Document as document;
     ghost use Rattle.fs_value.specs.declared.document.Document.{Document};
-    ghost use Rattle.fs_value.specs.Named.{IsNamed};
+    ghost use Rattle.fs_value.specs.Named.{documents_of};
 
     ghost Value = { map.FinMap name_cmp Document };
 
     ghost coded = { map.code name.the_row.coded document.the_row.coded };
 
-    ghost view = { λ m. map.from_entries m.documents.entries };
-
-    ghost invariant = { λ m. IsNamed (map.from_entries m.documents.entries) };
+    ghost view = { λ m. map.from_entries (documents_of m.documents.entries) };
 }
 
 impl DocumentMap {
-    ghost use Rattle.std.specs.Prelude.{◌≡◌, IfOk, IfSome, OnOk, OnErr, option_map};
+    ghost use Rattle.std.specs.Prelude.{◌≡◌, IfOk, IfSome, IsTrue, OnOk, OnErr};
     ghost use Rattle.std.specs.FinMap as map;
+    ghost use Rattle.fs_path.specs.NameOrder.{name_cmp};
+    ghost use Rattle.fs_value.specs.Named.{by_name};
 
     /// No documents. The allocator serves those that are put in.
     pub fn new(alloc: Global) -> DocumentMap
@@ -40,7 +80,6 @@ impl DocumentMap {
     {
         DocumentMap {
             documents: BTreeMap::new(alloc),
-            alloc,
         }
     }
 
@@ -50,12 +89,15 @@ impl DocumentMap {
         self.documents.len()
     }
 
-    /// The document of a name.
-    pub fn get(&self, name: &DocName) -> Option<&Document>
-        ensures value { option_map (λ d. d.now) result ≡ map.get self.now name.now }
-        ensures named { IfSome result (λ d. d.now.name ≡ name.now) }
+    /// The document of a name. It shares its fields with the one here.
+    pub fn get(&self, alloc: Global, name: &DocName) -> Result<Option<Document>, AllocError>
+        ensures value { IfOk result (λ found. found ≡ map.get self.now name.now) }
+        ensures named { IfOk result (λ found. IfSome found (λ d. d.name ≡ name.now)) }
     {
-        self.documents.get(name)
+        match self.documents.get(name) {
+            Some(held) => Ok(Some(held.named(alloc, name)?)),
+            None => Ok(None),
+        }
     }
 
     /// Puts a document at its name, in place of the one that is there.
@@ -63,12 +105,12 @@ impl DocumentMap {
         ensures ok { OnOk result (self.new ≡ map.insert self.old document.name document) }
         ensures err { OnErr result (self.new ≡ self.old) }
     {
-        if let Some(there) = self.documents.get_mut(&document.name) {
-            *there = document;
-            return Ok(());
-        }
-        let name = document.name.copy(self.alloc)?;
-        self.documents.insert(name, document)?;
+        let held = Held {
+            fields: document.fields,
+            created: document.created,
+            updated: document.updated,
+        };
+        self.documents.insert(document.name, held)?;
         Ok(())
     }
 
@@ -77,15 +119,25 @@ impl DocumentMap {
         ensures value { result ≡ map.get self.old name.now }
         ensures removed { self.new ≡ map.remove self.old name.now }
     {
-        self.documents.remove(name)
+        match self.documents.remove_entry(name) {
+            Some((name, held)) => Some(Document {
+                name,
+                fields: held.fields,
+                created: held.created,
+                updated: held.updated,
+            }),
+            None => None,
+        }
     }
-    /// The documents in the order of their names, copied.
+
+    /// The documents in the order of their names. They share their fields with those here.
     pub fn documents(&self, alloc: Global) -> Result<Documents, AllocError>
-        ensures { IfOk result (λ ds. ds ≡ map.values self.now) }
+        ensures value { IfOk result (λ ds. ds ≡ map.values self.now) }
+        ensures rise { IfOk result (λ ds. IsTrue (map.is_sorted name_cmp (by_name ds))) }
     {
         let mut items = Vec::with_capacity(alloc, self.documents.len())?;
-        for document in self.documents.values() {
-            items.push(document.copy(alloc)?)?;
+        for (name, held) in &self.documents {
+            items.push(held.named(alloc, name)?)?;
         }
         Ok(Documents::of(items))
     }
@@ -94,9 +146,9 @@ impl DocumentMap {
         ensures { IfOk result (λ m. m ≡ self.now) }
     {
         let mut documents = BTreeMap::new(alloc);
-        for (name, document) in &self.documents {
-            documents.insert(name.copy(alloc)?, document.copy(alloc)?)?;
+        for (name, held) in &self.documents {
+            documents.insert(name.copy(alloc)?, held.copy()?)?;
         }
-        Ok(DocumentMap { documents, alloc })
+        Ok(DocumentMap { documents })
     }
 }

@@ -1,3 +1,4 @@
+//! Fields, in the order of their keys.
 use crate::value::Value;
 use fs_path::Text;
 use std::alloc::{AllocError, Global};
@@ -10,6 +11,8 @@ pub struct Field {
     pub key: Text,
     pub value: Value,
 }
+
+const _: () = prove!(size_of::<Field>() <= 56);
 
 impl Field {
     ghost use Rattle.std.specs.Prelude.{◌≡◌, IfOk};
@@ -26,12 +29,16 @@ impl Field {
     }
 }
 
-/// The fields of a document or a map, in the order of their keys, each key once: `a: 1`, `b: true`, `é: null`.
-/// Contracts see them as a list of pairs whose keys rise.
+/// The fields of a document or a map, in the order of their keys, each key once. Contracts see them as a list of pairs
+/// whose keys rise:
+///
+///     a: 1
+///     b: true      `put` of `aa` goes between these two,
+///     é: null      and `put` of `b` takes the place of `true`
 #[cycle(value)]
 #[derive(Drop, Debug)]
 pub struct Fields {
-    items: Vec<Field>,
+    pub(crate) items: Vec<Field>,
 }
 
 impl Model for Fields {
@@ -75,6 +82,15 @@ impl Fields {
         Fields {
             items: Vec::new(alloc),
         }
+    }
+
+    /// No fields, with room for so many.
+    pub fn with_capacity(alloc: Global, capacity: usize) -> Result<Fields, AllocError>
+        ensures { IfOk result (λ fs. fs ≡ []) }
+    {
+        Ok(Fields {
+            items: Vec::with_capacity(alloc, capacity)?,
+        })
     }
 
     /// The fields of a `Vec` whose keys rise, without a copy.
@@ -132,7 +148,7 @@ impl Fields {
     }
 
     // The place of a key, or where it is to be inserted.
-    fn place(&self, key: &str) -> Result<usize, usize>
+    pub(crate) fn place(&self, key: &str) -> Result<usize, usize>
         ensures { MatchResult result (IsFoundAt key.now self.now) (IsMissingAt key.now self.now) }
     {
         self.items

@@ -1,20 +1,30 @@
 //! The values, fields and documents of Cloud Firestore, and the order of values.
 #![tactic(auto)]
 
+mod counted;
 mod document;
 mod document_map;
 mod fields;
-mod measure;
+mod limits;
+mod nesting;
 mod order;
+mod ordered;
+mod path;
+mod shared;
 #[cfg(test)]
 mod tests;
 mod value;
 mod values;
 
+pub use counted::size;
 pub use document::{Document, Documents};
 pub use document_map::DocumentMap;
 pub use fields::{Field, Fields};
-pub use measure::{depth, keys_rise, size};
+pub use limits::{DEEPEST_VALUE, LARGEST_DOCUMENT};
+pub use nesting::depth;
 pub use order::{compare, fields_same, kind, order_is_lawful, same};
+pub use ordered::keys_rise;
+pub use path::{get, paths_are_lawful, set, unset};
+pub use shared::SharedFields;
 pub use value::Value;
 pub use values::Values;

@@ -1,10 +1,11 @@
+//! The order of values, and whether two are the same.
 ghost use Rattle.std.specs.Prelude.{◌≡◌, ◌↔◌, ℕ, List, IsTrue};
 ghost use Rattle.std.specs.Ordering.{then_cmp, on};
 ghost use Rattle.std.specs.Cmp.{IsTotalOrder};
 ghost use Rattle.std.specs.Cmp.Lexicographic.{slice_cmp};
 ghost use Rattle.fs_path.specs.TextOrder.{text_cmp};
-ghost use Rattle.fs_value.specs.Data.{Data, array, object, items_of, members_of, kind as kind_of};
-ghost use Rattle.fs_value.specs.ValueOrder.{value_cmp, items_cmp, members_cmp};
+ghost use Rattle.fs_value.specs.Data.{Data, array, object, items_of, members_of};
+ghost use Rattle.fs_value.specs.ValueOrder.{kind as kind_of, value_cmp, items_cmp, members_cmp};
 ghost use Rattle.fs_value.specs.View.{view};
 
 use crate::fields::Fields;

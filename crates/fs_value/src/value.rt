@@ -1,3 +1,4 @@
+//! Values, as fields have them.
 use crate::fields::Fields;
 use crate::values::Values;
 use fs_path::{Bytes, DocName, Text};
@@ -18,6 +19,8 @@ pub enum Value {
     Array(Values),
     Map(Fields),
 }
+
+const _: () = prove!(size_of::<Value>() <= 32);
 
 impl Value {
     ghost use Rattle.std.specs.Prelude.{◌≡◌, IfOk};

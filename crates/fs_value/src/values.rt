@@ -1,3 +1,4 @@
+//! The elements of an array.
 use crate::value::Value;
 use std::alloc::{AllocError, Global};
 use std::marker::Model;
@@ -43,6 +44,15 @@ impl Values {
         Values {
             items: Vec::new(alloc),
         }
+    }
+
+    /// No values, with room for so many.
+    pub fn with_capacity(alloc: Global, capacity: usize) -> Result<Values, AllocError>
+        ensures { IfOk result (λ vs. vs ≡ []) }
+    {
+        Ok(Values {
+            items: Vec::with_capacity(alloc, capacity)?,
+        })
     }
 
     /// The values of a `Vec`, without a copy.

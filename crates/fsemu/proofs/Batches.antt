@@ -11,9 +11,11 @@ use Rattle.fs_path.specs.NameOrder.{name_cmp, name_cmp_total, name_same}
 use Rattle.fs_path.specs.declared.name.DocName.{DocName}
 use Rattle.fs_value.specs.Data.{Data, object, members_of, fields_of}
 use Rattle.fs_value.specs.DataLaws.{fields_of-members_of}
-use Rattle.fs_value.specs.ValueOrder.{members_cmp, members_same, value_cmp_total}
+use Rattle.fs_value.specs.ValueOrder.{members_cmp}
+use Rattle.fs_value.specs.ValueOrderLaws.{members_same, value_cmp_total}
 use Rattle.fs_value.specs.declared.document.Document.{Document}
-use Rattle.fsemu.specs.Batch.{Docs, has_fields_of, updated_from, after_write, reported, after_writes, all_reported, name_of, kept, with_kept, restored, after_commit}
+use Rattle.fsemu.specs.Batch.{Docs, has_fields_of, updated_from, after_write, update_time_of, after_writes, write_results, name_of, kept, with_kept, after_commit}
+use Rattle.fsemu.specs.Detours.{restored}
 use Rattle.fsemu.specs.declared.request.Update.{Update as Updated}
 use Rattle.fsemu.specs.declared.request.Write.{Write}
 use Rattle.fsemu.specs.declared.request.Write.TheVariants.{Update, Delete}
@@ -48,9 +50,9 @@ pub after_writes-push : (docs : Docs) (writes : List Write) (write : Write) (tim
 after_writes-push docs [] write time = refl
 after_writes-push docs (w ∷ writes) write time = after_writes-push (after_write docs w time) writes write time
 
-pub all_reported-push : (docs : Docs) (writes : List Write) (write : Write) (time : ℤ) → all_reported docs (writes ++ write ∷ []) time ≡ all_reported docs writes time ++ reported (after_writes docs writes time) write time ∷ []
-all_reported-push docs [] write time = refl
-all_reported-push docs (w ∷ writes) write time = ap (λ rs. reported docs w time ∷ rs) (all_reported-push (after_write docs w time) writes write time)
+pub write_results-push : (docs : Docs) (writes : List Write) (write : Write) (time : ℤ) → write_results docs (writes ++ write ∷ []) time ≡ write_results docs writes time ++ update_time_of (after_writes docs writes time) write time ∷ []
+write_results-push docs [] write time = refl
+write_results-push docs (w ∷ writes) write time = ap (λ rs. update_time_of docs w time ∷ rs) (write_results-push (after_write docs w time) writes write time)
 
 pub with_kept-push : (before : Docs) (writes : List Write) (write : Write) (docs : Docs)
     → with_kept before (writes ++ write ∷ []) docs ≡ kept (get before (name_of write)) (get (with_kept before writes docs) (name_of write)) (with_kept before writes docs) (name_of write)

@@ -3,10 +3,10 @@ use Rattle.std.proofs.Common.{◌≡◌, ℕ, Bool, List, [], ◌++◌, Option, 
 use Rattle.std.proofs.lemmas.List.{append-nil, append_cancel_right}
 use Rattle.fs_edge.specs.declared.status.Status.{Status}
 use Rattle.fs_edge.specs.declared.status.Status.TheVariants as status
-use Rattle.fsemu.specs.Run.{IfTaken, Wrote}
+use Rattle.fsemu.specs.Run.{Wrote}
 use Rattle.fsemu.specs.Step.{start}
-use Rattle.fsemu.specs.Stop.{is_whole, status_of}
-use Rattle.fsemu.specs.Taken.{Took, Gained, GainedFront}
+use Rattle.fsemu.specs.Gathering.{is_whole, status_of}
+use Rattle.fsemu.specs.Moved.{Taken, IfTaken, Gained, GainedFront}
 use Rattle.fsemu.specs.Transcript.{played, transcript}
 use Rattle.fsemu.specs.declared.gather.Stop.{Stop}
 use Rattle.fsemu.specs.declared.gather.Stop.TheVariants.{End, Failed, Full}
@@ -14,14 +14,14 @@ use Rattle.fsemu.proofs.Flow.{gained_front_more, gained_nothing}
 use Rattle.fsemu.proofs.Written.{played_front}
 
 -- the bytes that were taken are known from what was left and what is left
-pub if_taken : (a b : Option (List ℕ)) (x : List ℕ) (P : List ℕ → Type 0) → Took a b x → P x → IfTaken a b P
+pub if_taken : (a b : Option (List ℕ)) (x : List ℕ) (P : List ℕ → Type 0) → Taken a b x → P x → IfTaken a b P
 if_taken a b x P took p = λ taken rest before after.
     let same : Some (x ++ rest) ≡ Some (taken ++ rest) = ap (option_map (λ r. x ++ r)) (sym after) ∙ sym took ∙ before in
     let lists : x ++ rest ≡ taken ++ rest = cc in
     subst P (append_cancel_right x taken rest lists) p
 
 -- where nothing is left, all was taken
-pub if_all_taken : (a b : Option (List ℕ)) (x : List ℕ) (P : List ℕ → Type 0) → Took a b x → IfSome b (λ rest. rest ≡ []) → P x → IfSome a P
+pub if_all_taken : (a b : Option (List ℕ)) (x : List ℕ) (P : List ℕ → Type 0) → Taken a b x → IfSome b (λ rest. rest ≡ []) → P x → IfSome a P
 if_all_taken None b x P took none p = tt
 if_all_taken (Some all) None x P took none p = absurd (cc)
 if_all_taken (Some all) (Some rest) x P took none p =

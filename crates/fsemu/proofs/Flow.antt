@@ -1,21 +1,21 @@
 -- Bytes that go from a source and into a sink in several calls.
-use Rattle.std.proofs.Common.{◌≡◌, ℕ, Bool, true, false, List, [], ◌++◌, length, take, drop, Option, Some, None, option_map, Result, Ok, Err, OnErr, refl, sym, ap, subst, ◌∙◌, append_assoc}
-use Rattle.std.proofs.lemmas.List.{append-nil, take-append-drop}
+use Rattle.std.proofs.Common.{◌≡◌, ℕ, ◌+◌, ◌≤◌, arith, Bool, true, false, List, [], ◌++◌, length, take, drop, Option, Some, None, option_map, Result, Ok, Err, OnErr, refl, sym, ap, subst, ◌∙◌, append_assoc}
+use Rattle.std.proofs.lemmas.List.{append-nil, take-append-drop, length-take, length-append}
 use Rattle.std.proofs.Math.Seq.{take-append_seam}
 use Rattle.std.specs.Bool.{OnTrue, OnFalse}
-use Rattle.fs_edge.specs.Source.{Reads}
-use Rattle.fs_edge.specs.declared.source.Took.{Took as Read}
+use Rattle.fs_edge.specs.Source.{ReadGives}
+use Rattle.fs_edge.specs.declared.source.Took.{Took}
 use Rattle.fs_edge.specs.declared.source.Took.TheVariants.{Bytes, End, Failed}
-use Rattle.fsemu.specs.Taken.{Took, TookSome, Gained, GainedFront}
+use Rattle.fsemu.specs.Moved.{Taken, TakenUpTo, Gained, GainedFront}
 
-pub took_nothing : (o : Option (List ℕ)) → Took o o []
-took_nothing None = refl
-took_nothing (Some rest) = refl
+pub taken_nothing : (o : Option (List ℕ)) → Taken o o []
+taken_nothing None = refl
+taken_nothing (Some rest) = refl
 
 -- two takings after each other are one
-pub took_more : (a b c : Option (List ℕ)) (x y : List ℕ) → Took a b x → Took b c y → Took a c (x ++ y)
-took_more a b None x y p q = p ∙ ap (option_map (λ rest. x ++ rest)) q
-took_more a b (Some rest) x y p q = p ∙ ap (option_map (λ rest. x ++ rest)) q ∙ ap Some (sym (append_assoc x y rest))
+pub taken_more : (a b c : Option (List ℕ)) (x y : List ℕ) → Taken a b x → Taken b c y → Taken a c (x ++ y)
+taken_more a b None x y p q = p ∙ ap (option_map (λ rest. x ++ rest)) q
+taken_more a b (Some rest) x y p q = p ∙ ap (option_map (λ rest. x ++ rest)) q ∙ ap Some (sym (append_assoc x y rest))
 
 pub gained_nothing : (o : Option (List ℕ)) → Gained o o []
 gained_nothing None = refl
@@ -36,14 +36,18 @@ pub gained_front : (a b c : Option (List ℕ)) (x rest piece : List ℕ) → Gai
 gained_front a b c x rest piece gained is same = (length x, same ∙ gained ∙ ap (λ bytes. option_map (λ had. had ++ bytes) a) (sym (ap (take (length x)) is ∙ take-append_seam x rest)))
 
 -- whatever a read gives, what is left is an end of what was left
-pub reads_some : (read : Read) (buffer : List ℕ) (a b : Option (List ℕ)) → Reads read buffer a b → TookSome a b
-reads_some (Bytes n) buffer a b h = (take n buffer, h)
-reads_some End buffer a b h = ([], subst (λ o. Took a o []) (sym h.0) (took_nothing a))
-reads_some Failed buffer a b h = ([], subst (λ o. Took a o []) (sym h) (took_nothing a))
+pub read_some : (took : Took) (buffer : List ℕ) (a b : Option (List ℕ)) → ReadGives took buffer a b → TakenUpTo (length buffer) a b
+read_some (Bytes n) buffer a b h = (take n buffer, h, omega (arith, length-take n buffer))
+read_some End buffer a b h = ([], subst (λ o. Taken a o []) (sym h.0) (taken_nothing a), omega arith)
+read_some Failed buffer a b h = ([], subst (λ o. Taken a o []) (sym h) (taken_nothing a), omega arith)
 
 -- some bytes after others are some bytes
-pub took_some_more : (a b c : Option (List ℕ)) (x : List ℕ) → Took a b x → TookSome b c → TookSome a c
-took_some_more a b c x p q = (x ++ q.0, took_more a b c x q.0 p q.1)
+pub taken_up_to_more : (a b c : Option (List ℕ)) (x : List ℕ) (room most : ℕ) → Taken a b x → TakenUpTo room b c → length x + room ≤ most → TakenUpTo most a c
+taken_up_to_more a b c x room most p q fits = (x ++ q.0, taken_more a b c x q.0 p q.1, omega (arith, length-append x q.0, q.2))
+
+-- nothing is some bytes
+pub taken_none : (o : Option (List ℕ)) (most : ℕ) → TakenUpTo most o o
+taken_none o most = ([], taken_nothing o, omega arith)
 
 -- what was gained is a front of what it begins
 pub gained_as_front : (a b : Option (List ℕ)) (x more whole : List ℕ) → Gained a b x → x ++ more ≡ whole → GainedFront a b whole

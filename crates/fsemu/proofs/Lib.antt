@@ -1,10 +1,11 @@
 mod Flow
-mod Lines
+mod Cutting
 mod Written
 mod Ending
 pub mod Floats
 mod Batches
-mod Settling
+mod Leaving
 mod Lawful
 mod Reading
 mod Json
+mod OneLine

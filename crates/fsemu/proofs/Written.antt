@@ -1,15 +1,18 @@
 -- What lines write, cut off one after another.
-use Rattle.std.proofs.Common.{◌≡◌, ℕ, ◌+◌, Bool, true, false, cond, eqb, List, [], ◌∷◌, ◌++◌, refl, ap, sym, ◌∙◌, append_assoc, pos, ◌+ℤ◌, ◌≤ℤ◌, subst, arith}
+use Rattle.std.proofs.Common.{◌≡◌, ℕ, ◌+◌, Bool, true, false, cond, eqb, List, [], ◌∷◌, ◌++◌, refl, ap, sym, ◌∙◌, append_assoc, pos, negsuc, ℤ, leb, ◌≤◌, ◌+ℤ◌, ◌≤ℤ◌, subst, arith}
 use Rattle.std.proofs.lemmas.List.{append-nil}
 use Rattle.std.specs.List.{onto_first}
 use Rattle.fsemu.specs.declared.state.State.{State}
 use Rattle.std.proofs.lemmas.Int.{ints}
+use Rattle.std.proofs.lemmas.Bool.Decides.{nat_tests}
+use Rattle.fs_time.specs.Moment.{IsMoment}
+use Rattle.fsemu.specs.Limits.{longest_input}
 use Rattle.fsemu.specs.Line.{line_of}
 use Rattle.fsemu.specs.declared.request.Line.{Line}
 use Rattle.fsemu.specs.declared.request.Line.TheVariants as line
 use Rattle.fsemu.specs.declared.request.Request.{Request}
-use Rattle.fsemu.specs.declared.request.Request.TheVariants.{Commit, GetDocument, Broken, Unbuilt}
-use Rattle.fsemu.specs.Step.{start, after_request, after_reading, after_line, line_output}
+use Rattle.fsemu.specs.declared.request.Request.TheVariants.{Commit, GetDocument, Refused}
+use Rattle.fsemu.specs.Step.{start, CanCommit, after_request, after_reading, after_line, line_output}
 use Rattle.fsemu.specs.Transcript.{lines_of, all_but_last, written, played, transcript}
 
 some_lines_at : (b : Bool) (x : ℕ) (lines : List (List ℕ)) → (line : List ℕ) × (more : List (List ℕ)) × (cond b ([] ∷ lines) (onto_first x lines) ≡ line ∷ more)
@@ -70,19 +73,29 @@ played_front false script = written_front start 1 (lines_of script)
 
 -- ---- times
 
-request_rises : (s : State) (r : Request) → (after_request s r).last ≤ℤ (s.last +ℤ pos 1)
-request_rises s (Commit writes) = omega (arith, ints)
-request_rises s (GetDocument name) = omega (arith, ints)
-request_rises s (Broken rule place) = omega (arith, ints)
-request_rises s (Unbuilt name) = omega (arith, ints)
+request_rises : (s : State) (r : Request) → (s.last ≤ℤ (after_request s r).last) × ((after_request s r).last ≤ℤ (s.last +ℤ pos 1))
+request_rises s (Commit writes) = (omega (arith, ints), omega (arith, ints))
+request_rises s (GetDocument name) = (omega (arith, ints), omega (arith, ints))
+request_rises s (Refused reason) = (omega (arith, ints), omega (arith, ints))
 
-reading_rises : (s : State) (l : Line) → (after_reading s l).last ≤ℤ (s.last +ℤ pos 1)
-reading_rises s line.Empty = omega (arith, ints)
-reading_rises s line.NotYet = omega (arith, ints)
-reading_rises s (line.Wrong rule place) = omega (arith, ints)
+reading_rises : (s : State) (l : Line) → (s.last ≤ℤ (after_reading s l).last) × ((after_reading s l).last ≤ℤ (s.last +ℤ pos 1))
+reading_rises s line.Empty = (omega (arith, ints), omega (arith, ints))
+reading_rises s line.NotBuilt = (omega (arith, ints), omega (arith, ints))
+reading_rises s (line.Refused reason) = (omega (arith, ints), omega (arith, ints))
 reading_rises s (line.Asked asked) = request_rises s asked.request
 
--- a line moves the last commit time by one microsecond at most
-pub line_rises : (s t : State) (bytes : List ℕ) → t ≡ after_line s bytes → t.last ≤ℤ (s.last +ℤ pos 1)
+-- a line moves the last commit time by one microsecond at most, and never back
+pub line_rises : (s t : State) (bytes : List ℕ) → t ≡ after_line s bytes → (s.last ≤ℤ t.last) × (t.last ≤ℤ (s.last +ℤ pos 1))
 unfolding after_line
-line_rises s t bytes is = subst (λ u. u.last ≤ℤ (s.last +ℤ pos 1)) (sym is) (reading_rises s (line_of s.root bytes))
+line_rises s t bytes is = subst (λ (u : State). (s.last ≤ℤ u.last) × (u.last ≤ℤ (s.last +ℤ pos 1))) (sym is) (reading_rises s (line_of s.root bytes))
+
+test_from : (m n : ℕ) → m ≤ n → leb m n ≡ true
+test_from m n h = grind (arith, nat_tests)
+
+next_moment : (z : ℤ) (n : ℕ) → start.last ≤ℤ z → z ≤ℤ (start.last +ℤ pos n) → n ≤ longest_input + 1 → IsMoment (z +ℤ pos 1)
+next_moment (pos m) n low high few = test_from (m + 1) _ (omega (arith, ints))
+next_moment (negsuc m) n low high few = absurd (omega (arith, ints))
+
+-- so many lines leave time for one more commit
+pub can_commit : (s : State) (n : ℕ) → start.last ≤ℤ s.last → s.last ≤ℤ (start.last +ℤ pos n) → n ≤ longest_input + 1 → CanCommit s
+can_commit s n = next_moment s.last n

@@ -33,19 +33,19 @@ abbrev pub after_write : Docs → Write → ℤ → Docs
 after_write docs (Update update) time = insert docs update.name (updated_from (get docs update.name) update time)
 after_write docs (Delete name) time = remove docs name
 
--- the update time that a write reports; a delete reports none
-abbrev pub reported : Docs → Write → ℤ → Option ℤ
-reported docs (Update update) time = Some (updated_from (get docs update.name) update time).updated
-reported docs (Delete name) time = None
+-- the update time in a write's result; a delete has none
+abbrev pub update_time_of : Docs → Write → ℤ → Option ℤ
+update_time_of docs (Update update) time = Some (updated_from (get docs update.name) update time).updated
+update_time_of docs (Delete name) time = None
 
 abbrev pub after_writes : Docs → List Write → ℤ → Docs
 after_writes docs [] time = docs
 after_writes docs (write ∷ writes) time = after_writes (after_write docs write time) writes time
 
--- what each write reports
-abbrev pub all_reported : Docs → List Write → ℤ → List (Option ℤ)
-all_reported docs [] time = []
-all_reported docs (write ∷ writes) time = reported docs write time ∷ all_reported (after_write docs write time) writes time
+-- the writes' results, in their order
+abbrev pub write_results : Docs → List Write → ℤ → List (Option ℤ)
+write_results docs [] time = []
+write_results docs (write ∷ writes) time = update_time_of docs write time ∷ write_results (after_write docs write time) writes time
 
 abbrev pub name_of : Write → DocName
 name_of (Update update) = update.name
@@ -60,16 +60,11 @@ abbrev pub with_kept : Docs → List Write → Docs → Docs
 with_kept before [] docs = docs
 with_kept before (write ∷ writes) docs = with_kept before writes (kept (get before (name_of write)) (get docs (name_of write)) docs (name_of write))
 
--- the same, from the documents of before that stood at the written names
-abbrev pub restored : List Document → Docs → Docs
-restored [] docs = docs
-restored (before ∷ befores) docs = restored befores (kept (Some before) (get docs before.name) docs before.name)
-
 -- the documents after a commit
 abbrev pub after_commit : Docs → List Write → ℤ → Docs
 after_commit docs writes time = with_kept docs writes (after_writes docs writes time)
 
 -- what a commit leaves of a name, from the document of before and the one that its writes leave
-abbrev pub settled : Option Document → Option Document → Option Document
-settled (Some before) (Some after) = if has_fields_of before after then Some before else Some after
-settled before after = after
+abbrev pub left_of : Option Document → Option Document → Option Document
+left_of (Some before) (Some after) = if has_fields_of before after then Some before else Some after
+left_of before after = after

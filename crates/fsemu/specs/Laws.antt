@@ -1,5 +1,6 @@
 -- What the laws of scripts speak of.
-use Rattle.std.specs.Prelude.{ℕ, Bool, true, false, ◌||◌, List, [], ◌∷◌}
+use Rattle.std.specs.Prelude.{◌≡◌, ℕ, Bool, true, false, ◌||◌, ◌==◌, List, [], ◌∷◌, ◌++◌}
+use Rattle.std.specs.List.{list_any}
 use Rattle.std.specs.Ordering.{eq_by_cmp}
 use Rattle.fs_path.specs.NameOrder.{name_cmp}
 use Rattle.fs_path.specs.declared.name.DocName.{DocName}
@@ -9,7 +10,7 @@ use Rattle.fsemu.specs.Step.{after_line}
 use Rattle.fsemu.specs.declared.request.Line.{Line}
 use Rattle.fsemu.specs.declared.request.Line.TheVariants as line
 use Rattle.fsemu.specs.declared.request.Request.{Request}
-use Rattle.fsemu.specs.declared.request.Request.TheVariants.{Commit, GetDocument, Broken, Unbuilt}
+use Rattle.fsemu.specs.declared.request.Request.TheVariants.{Commit, GetDocument, Refused}
 use Rattle.fsemu.specs.declared.request.Write.{Write}
 use Rattle.fsemu.specs.declared.state.State.{State}
 
@@ -17,26 +18,24 @@ use Rattle.fsemu.specs.declared.state.State.{State}
 abbrev pub commits : Request → Bool
 commits (Commit writes) = true
 commits (GetDocument name) = false
-commits (Broken rule place) = false
-commits (Unbuilt name) = false
+commits (Refused reason) = false
 
 abbrev pub is_commit : Line → Bool
 is_commit line.Empty = false
-is_commit line.NotYet = false
-is_commit (line.Wrong rule place) = false
+is_commit line.NotBuilt = false
+is_commit (line.Refused reason) = false
 is_commit (line.Asked asked) = commits asked.request
 
 -- the writes that a line asks for
 abbrev pub writes_of : Request → List Write
 writes_of (Commit writes) = writes
 writes_of (GetDocument name) = []
-writes_of (Broken rule place) = []
-writes_of (Unbuilt name) = []
+writes_of (Refused reason) = []
 
 abbrev pub asked_writes : Line → List Write
 asked_writes line.Empty = []
-asked_writes line.NotYet = []
-asked_writes (line.Wrong rule place) = []
+asked_writes line.NotBuilt = []
+asked_writes (line.Refused reason) = []
 asked_writes (line.Asked asked) = writes_of asked.request
 
 -- whether one of the writes is of a name
@@ -53,3 +52,7 @@ is_written_in name s (line ∷ lines) = is_written name (asked_writes (line_of s
 abbrev pub after_lines : State → List (List ℕ) → State
 after_lines s [] = s
 after_lines s (line ∷ lines) = after_lines (after_line s line) lines
+
+-- one line of output: a text without a newline, and its newline
+abbrev pub IsOneLine : List ℕ → Type 0
+IsOneLine output = (text : List ℕ) × (output ≡ text ++ 10 ∷ []) × (list_any (λ b. b == 10) text ≡ false)

@@ -1,11 +1,13 @@
 pub mod Batch
+pub mod Detours
+pub mod Gathering
 pub mod Laws
+pub mod Limits
 pub mod Line
+pub mod Moved
 pub mod Reply
 pub mod Request
 pub mod Rules
 pub mod Run
 pub mod Step
-pub mod Stop
-pub mod Taken
 pub mod Transcript

@@ -1,6 +1,6 @@
 -- The requests that are built, as proto3 JSON: what each reads as, or the first place in the walk where it is at fault.
 -- (v1 reference: `CommitRequest`, "Write", `GetDocumentRequest`.)
-use Rattle.std.specs.Prelude.{ℕ, ◌+◌, List, [], ◌∷◌, Option, Some, None, Result, Ok, Err, codes, ⊤}
+use Rattle.std.specs.Prelude.{ℕ, ◌+◌, List, [], ◌∷◌, ◌++◌, Option, Some, None, Result, Ok, Err, codes, ⊤}
 use Rattle.std.specs.Option.{option_map_or}
 use Rattle.serde_json.specs.Data.{Data, Items, no_items, item}
 use Rattle.serde_json.specs.Find.{as_array, as_str}
@@ -13,10 +13,12 @@ use Rattle.fs_json.specs.Members.{member_at, required_at, only_at, at_most_one_a
 use Rattle.fs_json.specs.Paths.{path_at, document_name_at as name_at}
 use Rattle.fs_json.specs.declared.bad.Bad.{Bad}
 use Rattle.fs_json.specs.declared.bad.Bad.TheVariants.{At, Method, Memory}
+use Rattle.fs_status.specs.declared.reason.Reason.{Reason}
+use Rattle.fs_status.specs.declared.reason.Reason.TheVariants as reasons
 use Rattle.fs_valjson.specs.Document.{document_at}
 use Rattle.fsemu.specs.Rules.{rules_at}
 use Rattle.fsemu.specs.declared.request.Request.{Request}
-use Rattle.fsemu.specs.declared.request.Request.TheVariants.{Commit, GetDocument, Broken, Unbuilt}
+use Rattle.fsemu.specs.declared.request.Request.TheVariants.{Commit, GetDocument, Refused}
 use Rattle.fsemu.specs.declared.request.Write.{Write}
 use Rattle.fsemu.specs.declared.request.Write.TheVariants.{Update, Delete}
 
@@ -43,17 +45,16 @@ act_at root d place None (Some name) = name_at root name (member_place place (co
 act_at root d place None None = all_unbuilt_at (codes "transform" ∷ codes "verify" ∷ []) d place >>= λ _. Err (At (E 1) place)
 act_at root d place (Some update) (Some name) = Err (At (E 1) place)
 
--- the members of a write, in the order of the walk
-abbrev pub write_members : List (List ℕ)
-write_members = codes "update" ∷ codes "delete" ∷ codes "transform" ∷ codes "verify" ∷ codes "updateMask" ∷ codes "updateTransforms" ∷ codes "currentDocument" ∷ []
+-- the members of a write that say what it does, and those that aren't built, in the order of the walk
+abbrev pub act_members : List (List ℕ)
+act_members = codes "update" ∷ codes "delete" ∷ []
 
--- those of them that aren't built
 abbrev pub unbuilt_write_members : List (List ℕ)
 unbuilt_write_members = codes "transform" ∷ codes "verify" ∷ codes "updateMask" ∷ codes "updateTransforms" ∷ codes "currentDocument" ∷ []
 
 unfoldable pub write_at : Root → Data → List ℕ → Result Write Bad
 write_at root d place = do
-  _ ← only_at write_members d place
+  _ ← only_at (act_members ++ unbuilt_write_members) d place
   update ← member_at (codes "update") d place
   delete ← member_at (codes "delete") d place
   write ← act_at root d place update delete
@@ -106,9 +107,13 @@ get_at root d place = do
   _ ← all_unbuilt_at when_members d place
   Ok (GetDocument name)
 
+-- why a request that isn't read is refused
+abbrev pub reason_of : Bad → Reason
+reason_of (At rule place) = reasons.Rule rule place
+reason_of (Method name) = reasons.Method name
+reason_of (Memory e) = reasons.Memory
+
 -- what was read, as a request
-abbrev pub settled : Result Request Bad → Request
-settled (Ok request) = request
-settled (Err (At rule place)) = Broken rule place
-settled (Err (Method name)) = Unbuilt name
-settled (Err (Memory e)) = Unbuilt []
+abbrev pub or_refused : Result Request Bad → Request
+or_refused (Ok request) = request
+or_refused (Err bad) = Refused (reason_of bad)

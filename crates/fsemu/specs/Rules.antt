@@ -1,11 +1,12 @@
 -- Rules of writes that are tested once a request is read. Fields may not have names that Firestore keeps for itself
--- or that are too long (5), values may not nest deeper than 20 (6), and an array may not directly hold an array (7).
+-- or that are too long (5), values may not nest deeper than `deepest_value` (6), and an array may not directly hold an array (7).
 -- (Cloud Firestore documentation, "Usage and limits" and "Supported data types".)
 use Rattle.std.specs.Prelude.{ℕ, ◌+◌, Bool, true, false, ◌||◌, List, [], ◌∷◌, Option, Some, None, Result, Ok, Err, nat_lt, if◌then◌else◌, ⊤}
 use Rattle.fs_path.specs.FieldName.{is_bad_name}
 use Rattle.fs_path.specs.Place.{item_place}
 use Rattle.fs_path.specs.declared.place.Rule.TheVariants.{E}
 use Rattle.fs_value.specs.Data.{Data, array, object, Items, no_items, item, Members, no_members, member, members_of, members_depth}
+use Rattle.fs_value.specs.Limits.{deepest_value}
 use Rattle.fs_json.specs.declared.bad.Bad.{Bad}
 use Rattle.fs_json.specs.declared.bad.Bad.TheVariants.{At}
 use Rattle.fsemu.specs.declared.request.Write.{Write}
@@ -49,7 +50,7 @@ abbrev mutual
 abbrev pub rule_of_fields : Members → Option ℕ
 rule_of_fields ms =
     if members_have_bad_name ms then Some 5
-    else if nat_lt 20 (members_depth ms) then Some 6
+    else if nat_lt deepest_value (members_depth ms) then Some 6
     else if members_have_array_in_array ms then Some 7
     else None
 

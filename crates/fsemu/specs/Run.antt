@@ -1,13 +1,9 @@
 -- What a run has written when it ends.
-use Rattle.std.specs.Prelude.{◌≡◌, ℕ, List, ◌++◌, Option, Some}
+use Rattle.std.specs.Prelude.{◌≡◌, ℕ, List, Option}
 use Rattle.fs_edge.specs.declared.status.Status.{Status}
 use Rattle.fs_edge.specs.declared.status.Status.TheVariants as status
-use Rattle.fsemu.specs.Taken.{Gained, GainedFront}
+use Rattle.fsemu.specs.Moved.{Gained, GainedFront}
 use Rattle.fsemu.specs.Transcript.{transcript, begun}
-
--- of the bytes that were taken from a source that tells
-abbrev pub IfTaken : Option (List ℕ) → Option (List ℕ) → (List ℕ → Type 0) → Type 0
-IfTaken before after P = (taken rest : List ℕ) → before ≡ Some (taken ++ rest) → after ≡ Some rest → P taken
 
 -- What the sink has gained of the bytes that were taken. Where the source failed or gave too much, the lines that
 -- have their newline were carried out. Where memory ran out or the sink failed, it has some front of the transcript.

@@ -1,21 +1,19 @@
 -- Where a script starts, and what a line does.
-use Rattle.std.specs.Prelude.{ℕ, ℤ, pos, ◌+ℤ◌, List, [], ◌∷◌, Option, Some, None, codes}
+use Rattle.std.specs.Prelude.{ℕ, ℤ, pos, ◌+ℤ◌, List, [], Option, Some, None, codes}
 use Rattle.std.specs.FinMap.{empty, get}
 use Rattle.serde_json.specs.Data.{Data}
-use Rattle.fs_path.specs.declared.place.Rule.{Rule}
+use Rattle.fs_time.specs.Moment.{IsMoment}
 use Rattle.fs_value.specs.declared.document.Document.{Document}
 use Rattle.fs_status.specs.declared.code.Code.TheVariants.{Unimplemented}
-use Rattle.fs_status.specs.declared.reason.Reason.{Reason}
 use Rattle.fs_status.specs.declared.reason.Reason.TheVariants as reasons
-use Rattle.fs_status.specs.declared.reason.Line.TheVariants.{NotAnObject}
 use Rattle.fs_valjson.specs.Document.{document_json}
-use Rattle.fsemu.specs.Batch.{after_commit, all_reported}
+use Rattle.fsemu.specs.Batch.{after_commit, write_results}
 use Rattle.fsemu.specs.Line.{line_of}
 use Rattle.fsemu.specs.Reply.{error_json, refused_json, result_reply, error_reply, line_error, commit_json, json_line}
 use Rattle.fsemu.specs.declared.request.Line.{Line}
 use Rattle.fsemu.specs.declared.request.Line.TheVariants as line
 use Rattle.fsemu.specs.declared.request.Request.{Request}
-use Rattle.fsemu.specs.declared.request.Request.TheVariants.{Commit, GetDocument, Broken, Unbuilt}
+use Rattle.fsemu.specs.declared.request.Request.TheVariants.{Commit, GetDocument, Refused}
 use Rattle.fsemu.specs.declared.state.State.{State}
 
 -- the start moment, 2024-01-01T00:00:00Z, and no documents
@@ -26,12 +24,15 @@ start = record { root = record { project = codes "demo"; database = codes "(defa
 abbrev pub next_time : State → ℤ
 next_time s = s.last +ℤ pos 1
 
+-- there is such a time
+abbrev pub CanCommit : State → Type 0
+CanCommit s = IsMoment (next_time s)
+
 -- a commit changes the documents and uses its time; nothing else changes anything
 abbrev pub after_request : State → Request → State
 after_request s (Commit writes) = record { root = s.root; documents = after_commit s.documents writes (next_time s); last = next_time s }
 after_request s (GetDocument name) = s
-after_request s (Broken rule place) = s
-after_request s (Unbuilt name) = s
+after_request s (Refused reason) = s
 
 -- a read shows the document as the last commit left it
 abbrev pub found_reply : State → List ℕ → Option (List ℕ) → Option Document → Data
@@ -39,26 +40,20 @@ found_reply s session id None = error_reply session id (refused_json (reasons.No
 found_reply s session id (Some document) = result_reply session id (document_json document)
 
 abbrev pub reply : State → List ℕ → Option (List ℕ) → Request → Data
-reply s session id (Commit writes) = result_reply session id (commit_json (next_time s) (all_reported s.documents writes (next_time s)))
+reply s session id (Commit writes) = result_reply session id (commit_json (next_time s) (write_results s.documents writes (next_time s)))
 reply s session id (GetDocument name) = found_reply s session id (get s.documents name)
-reply s session id (Broken rule place) = error_reply session id (refused_json (reasons.Rule rule place))
-reply s session id (Unbuilt name) = error_reply session id (refused_json (reasons.Method name))
-
--- what is wrong with a line; one whose own place is at fault is no object of any form
-abbrev pub wrong_line : Rule → List ℕ → Reason
-wrong_line rule [] = reasons.Line NotAnObject
-wrong_line rule (b ∷ bs) = reasons.Rule rule (b ∷ bs)
+reply s session id (Refused reason) = error_reply session id (refused_json reason)
 
 abbrev pub after_reading : State → Line → State
 after_reading s line.Empty = s
-after_reading s line.NotYet = s
-after_reading s (line.Wrong rule place) = s
+after_reading s line.NotBuilt = s
+after_reading s (line.Refused reason) = s
 after_reading s (line.Asked asked) = after_request s asked.request
 
 abbrev pub output_of : State → ℕ → Line → List ℕ
 output_of s n line.Empty = []
-output_of s n line.NotYet = json_line (line_error (error_json Unimplemented (codes "line not read yet")) n)
-output_of s n (line.Wrong rule place) = json_line (line_error (refused_json (wrong_line rule place)) n)
+output_of s n line.NotBuilt = json_line (line_error (error_json Unimplemented (codes "line not read yet")) n)
+output_of s n (line.Refused reason) = json_line (line_error (refused_json reason) n)
 output_of s n (line.Asked asked) = json_line (reply s asked.session asked.id asked.request)
 
 -- the state after a line

@@ -1,15 +1,15 @@
 //! Reading all that a source has.
 ghost use Rattle.std.specs.Prelude.{◌≡◌, ◌↔◌, ◌<◌, ◌≤◌, ℕ, List, [], Option, length, IfOk, IfSome, OnOk, OnErr, vec_len};
 ghost use Rattle.fs_edge.specs.Count.{Rose};
-ghost use Rattle.fsemu.specs.Taken.{Took, TookSome, GrowsBy};
-ghost use Rattle.fsemu.specs.declared.gather.TheConstants.{INPUT_LIMIT};
+ghost use Rattle.fsemu.specs.Gathering.{GrowsBy};
+ghost use Rattle.fsemu.specs.Limits.{longest_input};
+ghost use Rattle.fsemu.specs.Moved.{Taken, TakenUpTo};
 
-use fs_edge::{Source, Status, Took as Read};
+use crate::limits::LONGEST_INPUT;
+use fs_edge::{Source, Status, Took};
 use std::alloc::{AllocError, Global};
 
-/// So many bytes end a run.
-pub const INPUT_LIMIT: usize = 4_294_967_296;
-
+/// The bytes of one read, at most.
 const CHUNK: usize = 65_536;
 
 /// Why reading stopped.
@@ -24,7 +24,7 @@ pub enum Stop {
 }
 
 impl Stop {
-    ghost use Rattle.fsemu.specs.Stop.{is_whole, status_of};
+    ghost use Rattle.fsemu.specs.Gathering.{is_whole, status_of};
 
     /// Whether the last line came whole, newline or not.
     pub fn is_whole(self) -> bool
@@ -56,6 +56,7 @@ pub struct Input {
     pub stop: Stop,
 }
 
+// A buffer.
 fn zeros(alloc: Global, count: usize) -> Result<Vec<u8>, AllocError>
     ensures { IfOk result (λ v. vec_len v ≡ count) }
 {
@@ -67,54 +68,45 @@ fn take_next<S: Source>(
     source: &mut S,
     buffer: &mut [u8],
     bytes: &mut Vec<u8>,
-) -> Result<Read, AllocError>
+) -> Result<Took, AllocError>
     requires { 0 < length buffer.old }
-    ensures taken { OnOk result ((first : Option (List ℕ)) → Took first (S.left source.old) bytes.old.items
-        → Took first (S.left source.new) bytes.new.items) }
-    ensures err { OnErr result (TookSome (S.left source.old) (S.left source.new)) }
-    ensures grows { IfOk result (λ read. GrowsBy read (vec_len bytes.old) (length buffer.old) (vec_len bytes.new)) }
-    ensures end { IfOk result (λ read. read ≡ Read.End → IfSome (S.left source.new) (λ rest. rest ≡ [])) }
-    ensures ends { IfOk result (λ read. read ≡ Read.End → Rose (S.ends source.old) (S.ends source.new)) }
-    ensures faults { IfOk result (λ read. read ≡ Read.Failed → Rose (S.faults source.old) (S.faults source.new)) }
+    ensures taken { OnOk result ((first : Option (List ℕ)) → Taken first (S.left source.old) bytes.old.items
+        → Taken first (S.left source.new) bytes.new.items) }
+    ensures err { OnErr result (TakenUpTo (length buffer.old) (S.left source.old) (S.left source.new)) }
+    ensures grows { IfOk result (λ took. GrowsBy took (vec_len bytes.old) (length buffer.old) (vec_len bytes.new)) }
+    ensures end { IfOk result (λ took. took ≡ Took.End → IfSome (S.left source.new) (λ rest. rest ≡ [])) }
+    ensures ends { IfOk result (λ took. took ≡ Took.End → Rose (S.ends source.old) (S.ends source.new)) }
+    ensures faults { IfOk result (λ took. took ≡ Took.Failed → Rose (S.faults source.old) (S.faults source.new)) }
     ensures no_fewer_ends { S.ends source.old ≤ S.ends source.new }
     ensures no_fewer_faults { S.faults source.old ≤ S.faults source.new }
 {
-    let read = source.read(buffer);
-    if let Read::Bytes(count) = read {
+    let took = source.read(buffer);
+    if let Took::Bytes(count) = took {
         bytes.extend_from_slice(&buffer[..count])?;
     }
-    Ok(read)
+    Ok(took)
 }
 
 /// Takes all bytes of a source, up to the limit.
 pub fn gather<S: Source>(alloc: Global, source: &mut S) -> Result<Input, AllocError>
-    ensures taken { IfOk result (λ input. Took (S.left source.old) (S.left source.new) input.bytes.items) }
-    ensures err { OnErr result (TookSome (S.left source.old) (S.left source.new)) }
+    ensures taken { IfOk result (λ input. Taken (S.left source.old) (S.left source.new) input.bytes.items) }
+    ensures err { OnErr result (TakenUpTo longest_input (S.left source.old) (S.left source.new)) }
     ensures end { IfOk result (λ input. input.stop ≡ Stop.End → IfSome (S.left source.new) (λ rest. rest ≡ [])) }
     ensures ended { IfOk result (λ input. input.stop ≡ Stop.End → Rose (S.ends source.old) (S.ends source.new)) }
     ensures failed { IfOk result (λ input. input.stop ≡ Stop.Failed → Rose (S.faults source.old) (S.faults source.new)) }
-    ensures within { IfOk result (λ input. length input.bytes.items ≤ INPUT_LIMIT) }
-    ensures full { IfOk result (λ input. (input.stop ≡ Stop.Full) ↔ (length input.bytes.items ≡ INPUT_LIMIT)) }
+    ensures within { IfOk result (λ input. length input.bytes.items ≤ longest_input) }
+    ensures full { IfOk result (λ input. (input.stop ≡ Stop.Full) ↔ (length input.bytes.items ≡ longest_input)) }
 {
     let mut buffer = zeros(alloc, CHUNK)?;
     let mut bytes = Vec::new(alloc);
-    while bytes.len() < INPUT_LIMIT {
-        let room = CHUNK.min(INPUT_LIMIT - bytes.len());
-        match take_next(source, &mut buffer[..room], &mut bytes)? {
-            Read::Bytes(_) => {}
-            Read::End => {
-                return Ok(Input {
-                    bytes,
-                    stop: Stop::End,
-                });
-            }
-            Read::Failed => {
-                return Ok(Input {
-                    bytes,
-                    stop: Stop::Failed,
-                });
-            }
-        }
+    while bytes.len() < LONGEST_INPUT {
+        let room = CHUNK.min(LONGEST_INPUT - bytes.len());
+        let stop = match take_next(source, &mut buffer[..room], &mut bytes)? {
+            Took::Bytes(_) => continue,
+            Took::End => Stop::End,
+            Took::Failed => Stop::Failed,
+        };
+        return Ok(Input { bytes, stop });
     }
     Ok(Input {
         bytes,

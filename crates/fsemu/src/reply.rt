@@ -5,7 +5,7 @@ ghost use Rattle.serde_json.specs.View.{items_view, view};
 ghost use Rattle.serde_json.specs.Written.{has_float};
 ghost use Rattle.fsemu.specs.Reply.{error_json, refused_json, result_reply, error_reply, line_error, write_result_json, write_results_json, commit_json, json_line};
 
-use crate::batch::Reported;
+use crate::batch::WriteResults;
 use fs_json::write_time;
 use fs_path::Text;
 use fs_status::{Code, Reason, Refusal, message};
@@ -78,20 +78,20 @@ fn updated_json(alloc: Global, time: Micros) -> Result<Value, AllocError>
     json!(in alloc; {"updateTime": time})
 }
 
-fn write_result_json(alloc: Global, reported: Option<Micros>) -> Result<Value, AllocError>
-    ensures { IfOk result (λ v. view v ≡ write_result_json reported) }
+fn write_result_json(alloc: Global, update_time: Option<Micros>) -> Result<Value, AllocError>
+    ensures { IfOk result (λ v. view v ≡ write_result_json update_time) }
 {
-    match reported {
+    match update_time {
         Some(time) => updated_json(alloc, time),
         None => json!(in alloc; {}),
     }
 }
 
-fn write_results_json(alloc: Global, reported: &Reported) -> Result<Vec<Value>, AllocError>
-    ensures { IfOk result (λ items. items_view items.items ≡ write_results_json reported.now) }
+fn write_results_json(alloc: Global, results: &WriteResults) -> Result<Vec<Value>, AllocError>
+    ensures { IfOk result (λ items. items_view items.items ≡ write_results_json results.now) }
 {
-    let mut items = Vec::with_capacity(alloc, reported.as_slice().len())?;
-    for one in reported.as_slice() {
+    let mut items = Vec::with_capacity(alloc, results.as_slice().len())?;
+    for one in results.as_slice() {
         items.push(write_result_json(alloc, *one)?)?;
     }
     Ok(items)
@@ -111,16 +111,16 @@ fn timed_with(alloc: Global, time: Value, results: Value) -> Result<Value, Alloc
 }
 
 /// The answer to a commit.
-pub fn commit_json(alloc: Global, time: Micros, reported: &Reported) -> Result<Value, AllocError>
-    ensures value { IfOk result (λ v. view v ≡ commit_json time reported.now) }
+pub fn commit_json(alloc: Global, time: Micros, results: &WriteResults) -> Result<Value, AllocError>
+    ensures value { IfOk result (λ v. view v ≡ commit_json time results.now) }
     ensures no_float { IfOk result (λ v. has_float (view v) ≡ false) }
 {
     let time = write_time(alloc, time)?;
-    let results = write_results_json(alloc, reported)?;
-    if results.as_slice().is_empty() {
+    let items = write_results_json(alloc, results)?;
+    if items.as_slice().is_empty() {
         timed(alloc, time)
     } else {
-        timed_with(alloc, time, Value::Array(results))
+        timed_with(alloc, time, Value::Array(items))
     }
 }
 

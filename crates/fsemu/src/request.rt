@@ -1,6 +1,7 @@
-//! Requests, as the lines of a script ask for them.
-use fs_path::{DocName, Place, Rule, Text};
-use fs_value::Fields;
+//! What the lines of a script ask for.
+use fs_path::{DocName, Text};
+use fs_status::Reason;
+use fs_value::SharedFields;
 use std::alloc::{AllocError, Global};
 use std::marker::Model;
 
@@ -8,7 +9,7 @@ use std::marker::Model;
 #[derive(Drop, Debug)]
 pub struct Update {
     pub name: DocName,
-    pub fields: Fields,
+    pub fields: SharedFields,
 }
 
 /// One write of a commit. (v1 reference, "Write".)
@@ -76,10 +77,8 @@ impl Writes {
 pub enum Request {
     Commit(Writes),
     GetDocument(DocName),
-    /// Nothing: it breaks a rule at this place.
-    Broken(Rule, Place),
-    /// Nothing: this method, or member of one, isn't built.
-    Unbuilt(Text),
+    /// Nothing: it is refused as it was read, for this reason.
+    Refused(Reason),
 }
 
 /// A request on a session.
@@ -95,9 +94,9 @@ pub struct Asked {
 pub enum Line {
     /// It is empty, and gives nothing.
     Empty,
-    /// It is of a form that isn't built, or is longer than any line that is.
-    NotYet,
-    /// It is of no form: it breaks a rule at this place.
-    Wrong(Rule, Place),
+    /// It is of a form that isn't built, or longer than any line that is.
+    NotBuilt,
+    /// It is of no form, for this reason.
+    Refused(Reason),
     Asked(Asked),
 }

@@ -1,17 +1,17 @@
 //! Rules that writes may break though they were read.
 ghost use Rattle.std.specs.Prelude.{◌≡◌, nat_lt};
+ghost use Rattle.fs_path.specs.Way.{place_of};
 ghost use Rattle.fs_json.specs.Answer.{Gives};
 ghost use Rattle.fs_value.specs.Data.{items_of, members_of, members_depth};
+ghost use Rattle.fs_value.specs.Limits.{deepest_value};
 ghost use Rattle.fs_value.specs.View.{view};
 ghost use Rattle.fsemu.specs.Rules.{has_bad_name, items_have_bad_name, members_have_bad_name, is_array, has_array_in_array, items_have_arrays, members_have_array_in_array, rule_of_fields, rule_of_write, rules_at};
 
 use crate::request::{Write, Writes};
 use fs_json::Bad;
-use fs_path::{Place, Rule, is_bad_field_name};
-use fs_value::{Fields, Value, Values, depth};
+use fs_path::{Rule, Way, is_bad_field_name};
+use fs_value::{DEEPEST_VALUE, Fields, Value, Values, depth};
 use std::alloc::Global;
-
-const MAX_DEPTH: u32 = 20;
 
 // Whether some map in a value has a field of a bad name.
 #[cycle(bad_name)]
@@ -95,10 +95,10 @@ fn fields_have_array_in_array(fields: &Fields) -> bool
 }
 
 fn is_too_deep(fields: &Fields) -> bool
-    ensures { result ≡ nat_lt 20 (members_depth (members_of fields.now)) }
+    ensures { result ≡ nat_lt deepest_value (members_depth (members_of fields.now)) }
 {
     for field in fields.as_slice() {
-        if depth(&field.value) > MAX_DEPTH {
+        if depth(&field.value) > DEEPEST_VALUE {
             return true;
         }
     }
@@ -124,18 +124,18 @@ fn rule_of_write(write: &Write) -> Option<u8>
     ensures { result ≡ rule_of_write write.now }
 {
     match write {
-        Write::Update(update) => rule_of_fields(&update.fields),
+        Write::Update(update) => rule_of_fields(update.fields.as_fields()),
         Write::Delete(_) => None,
     }
 }
 
 /// Refuses writes of which one breaks a rule, at the place of the first that does.
-pub fn check_rules(alloc: Global, writes: &Writes, place: &Place) -> Result<(), Bad>
-    ensures { Gives (λ u. u) result (rules_at writes.now 0 place.now) }
+pub fn check_rules(alloc: Global, writes: &Writes, place: &Way<'_>) -> Result<(), Bad>
+    ensures { Gives (λ u. u) result (rules_at writes.now 0 (place_of place.now)) }
 {
     for (i, write) in writes.as_slice().iter().enumerate() {
         if let Some(rule) = rule_of_write(write) {
-            return Err(Bad::At(Rule::E(rule), place.item(alloc, i as u64)?));
+            return Err(Bad::at(alloc, Rule::E(rule), &place.item(i as u64)));
         }
     }
     Ok(())

@@ -1,13 +1,13 @@
-//! The top call.
-ghost use Rattle.std.specs.Prelude.{◌≡◌, ◌≢◌, ◌↔◌, ◌⊎◌, ◌∷◌, [], length, map, codes, string_bytes, IsTrue, IfOk, IfSome, OnErr};
+//! The top call: a command, by the words of its command line.
+ghost use Rattle.std.specs.Prelude.{◌≡◌, ◌≢◌, ◌↔◌, ◌⊎◌, ◌≤◌, ◌∷◌, [], length, map, codes, string_bytes, IsTrue, IfOk, IfSome, OnErr};
 ghost use Rattle.fs_edge.specs.Count.{Rose};
-ghost use Rattle.fsemu.specs.Run.{IfTaken, Wrote};
-ghost use Rattle.fsemu.specs.Taken.{Gained, GainedFront};
+ghost use Rattle.fsemu.specs.Limits.{longest_input};
+ghost use Rattle.fsemu.specs.Moved.{Taken, TakenUpTo, IfTaken, Gained, GainedFront};
+ghost use Rattle.fsemu.specs.Run.{Wrote};
 ghost use Rattle.fsemu.specs.Transcript.{transcript};
-ghost use Rattle.fsemu.specs.declared.gather.TheConstants.{INPUT_LIMIT};
 
 use crate::gather::gather;
-use crate::script::play;
+use crate::play::play;
 use fs_edge::{Clock, Doors, Sink, Source, Status};
 use std::alloc::{AllocError, Global};
 
@@ -20,10 +20,15 @@ pub fn run<Rt, S: Source, K: Sink, D: Doors, C: Clock>(
     source: &mut S,
     sink: &mut K,
     doors: &mut D,
-    _clock: &mut C,
+    clock: &mut C,
 ) -> Status
     ensures usage { (result ≡ Status.Usage) ↔ ¬ (map string_bytes words.now ≡ codes "replay" ∷ []) }
     ensures untouched { result ≡ Status.Usage → (source.new ≡ source.old) × (sink.new ≡ sink.old) }
+
+    // No command that is built opens a door or asks the time.
+    ensures doors { doors.new ≡ doors.old }
+    ensures clock { clock.new ≡ clock.old }
+    ensures no_door_fault { result ≢ Status.DoorFault }
 
     // At status 0 the source told its end, and the sink has gained the transcript of all that the source had.
     ensures ended { result ≡ Status.Ok → Rose (S.ends source.old) (S.ends source.new) }
@@ -31,19 +36,19 @@ pub fn run<Rt, S: Source, K: Sink, D: Doors, C: Clock>(
     ensures transcript { result ≡ Status.Ok → IfSome (S.left source.old) (λ script.
         Gained (K.given sink.old) (K.given sink.new) (transcript script)) }
 
-    // At each status, what the sink has gained of the bytes that were taken.
+    // At each status some bytes were taken, and the sink has gained what they give.
+    ensures taken { TakenUpTo longest_input (S.left source.old) (S.left source.new) }
     ensures written { IfTaken (S.left source.old) (S.left source.new) (λ taken.
         Wrote result taken (K.given sink.old) (K.given sink.new)) }
 
     // A fault has its cause in what was handed in.
     ensures read_fault { result ≡ Status.ReadFault → Rose (S.faults source.old) (S.faults source.new) }
     ensures write_fault { result ≡ Status.WriteFault → Rose (K.faults sink.old) (K.faults sink.new) }
-    ensures door_fault { result ≡ Status.DoorFault → Rose (D.faults doors.old) (D.faults doors.new) }
 
     // The input limit is told exactly where so many bytes were taken, but for a write fault and want of memory.
     ensures limit { result ≡ Status.InputLimit → IfTaken (S.left source.old) (S.left source.new) (λ taken.
-        length taken ≡ INPUT_LIMIT) }
-    ensures limit_told { IfTaken (S.left source.old) (S.left source.new) (λ taken. length taken ≡ INPUT_LIMIT
+        length taken ≡ longest_input) }
+    ensures limit_told { IfTaken (S.left source.old) (S.left source.new) (λ taken. length taken ≡ longest_input
         → (result ≡ Status.InputLimit) ⊎ ((result ≡ Status.WriteFault) ⊎ ((result ≡ Status.Memory) ⊎ (result ≡ Status.Usage)))) }
 {
     if !is_replay(words) {
@@ -55,6 +60,7 @@ pub fn run<Rt, S: Source, K: Sink, D: Doors, C: Clock>(
     }
 }
 
+// Whether the words are the command.
 fn is_replay(words: &[String]) -> bool
     ensures { IsTrue result ↔ (map string_bytes words.now ≡ codes "replay" ∷ []) }
 {
@@ -64,6 +70,7 @@ fn is_replay(words: &[String]) -> bool
     }
 }
 
+// Replays a script, as `run` says.
 fn replay<S: Source, K: Sink>(
     alloc: Global,
     source: &mut S,
@@ -73,15 +80,16 @@ fn replay<S: Source, K: Sink>(
     ensures all_read { IfOk result (λ status. status ≡ Status.Ok → IfSome (S.left source.new) (λ rest. rest ≡ [])) }
     ensures transcript { IfOk result (λ status. status ≡ Status.Ok → IfSome (S.left source.old) (λ script.
         Gained (K.given sink.old) (K.given sink.new) (transcript script))) }
+    ensures taken { TakenUpTo longest_input (S.left source.old) (S.left source.new) }
     ensures written { IfOk result (λ status. IfTaken (S.left source.old) (S.left source.new) (λ taken.
         Wrote status taken (K.given sink.old) (K.given sink.new))) }
     ensures some { IfOk result (λ status. (status ≢ Status.Usage) × (status ≢ Status.DoorFault)) }
     ensures read_fault { IfOk result (λ status. status ≡ Status.ReadFault → Rose (S.faults source.old) (S.faults source.new)) }
     ensures write_fault { IfOk result (λ status. status ≡ Status.WriteFault → Rose (K.faults sink.old) (K.faults sink.new)) }
     ensures limit { IfOk result (λ status. status ≡ Status.InputLimit → IfTaken (S.left source.old) (S.left source.new)
-        (λ taken. length taken ≡ INPUT_LIMIT)) }
+        (λ taken. length taken ≡ longest_input)) }
     ensures limit_told { IfOk result (λ status. IfTaken (S.left source.old) (S.left source.new) (λ taken.
-        length taken ≡ INPUT_LIMIT → (status ≡ Status.InputLimit) ⊎ (status ≡ Status.WriteFault))) }
+        length taken ≡ longest_input → (status ≡ Status.InputLimit) ⊎ (status ≡ Status.WriteFault))) }
     ensures err { OnErr result (IfTaken (S.left source.old) (S.left source.new) (λ taken.
         GainedFront (K.given sink.old) (K.given sink.new) (transcript taken))) }
 {

@@ -7,6 +7,9 @@ use fs_value::DocumentMap;
 use std::alloc::{AllocError, Global};
 
 /// The documents under a root, and the greatest commit time that was issued: the start moment before any.
+///
+/// After a first commit of `c/a` and a second one of `c/b` there are two documents, the one created a microsecond after
+/// the start moment and the other two; `last` is the latter time, and the next commit is at three.
 #[derive(Drop)]
 pub struct State {
     pub root: Root,

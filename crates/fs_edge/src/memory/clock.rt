@@ -1,3 +1,4 @@
+//! A clock in memory, which tells a list of moments.
 ghost use Rattle.std.specs.Prelude.{◌≡◌, ◌<◌, length, Some};
 
 use crate::clock::Clock;
@@ -19,6 +20,7 @@ impl Model for Moments {
 }
 
 impl Moments {
+    /// These moments, the first first.
     pub fn of(items: Vec<Micros>) -> Moments
         ensures { result ≡ items.items }
     {

@@ -1,4 +1,5 @@
-ghost use Rattle.std.specs.Prelude.{◌≡◌, ◌≤◌, Ok};
+//! Doors in memory, without links.
+ghost use Rattle.std.specs.Prelude.{◌≡◌, ◌≢◌, ◌≤◌, Ok};
 ghost use Rattle.fs_edge.specs.Count.{Rose};
 
 use crate::count::count;
@@ -38,6 +39,7 @@ impl Doors for MemoryDoors {
     fn listen(&mut self, _port: u16) -> Result<Sent, AllocError>
         ensures faults { self.old ≤ self.new }
         ensures failed { result ≡ Ok Sent.Failed → Rose self.old self.new }
+        ensures no_fault { result ≢ Ok Sent.Failed → self.new ≡ self.old }
         ensures fails { result ≡ Ok Sent.Failed }
     {
         count(&mut self.faults);
@@ -47,6 +49,7 @@ impl Doors for MemoryDoors {
     fn accept(&mut self) -> Result<Door<MemoryLink>, AllocError>
         ensures faults { self.old ≤ self.new }
         ensures failed { result ≡ Ok Door.Failed → Rose self.old self.new }
+        ensures no_fault { result ≢ Ok Door.Failed → self.new ≡ self.old }
         ensures fails { result ≡ Ok Door.Failed }
     {
         count(&mut self.faults);
@@ -56,6 +59,7 @@ impl Doors for MemoryDoors {
     fn dial(&mut self, _port: u16) -> Result<Door<MemoryLink>, AllocError>
         ensures faults { self.old ≤ self.new }
         ensures failed { result ≡ Ok Door.Failed → Rose self.old self.new }
+        ensures no_fault { result ≢ Ok Door.Failed → self.new ≡ self.old }
         ensures fails { result ≡ Ok Door.Failed }
     {
         count(&mut self.faults);

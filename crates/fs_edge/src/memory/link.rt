@@ -1,5 +1,8 @@
-ghost use Rattle.std.specs.Prelude.{◌≡◌, [], List, Some, IsTrue};
-ghost use Rattle.fs_edge.specs.Link.{hearings_of, none_fails};
+//! A link in memory: messages to hear, and those that were sent.
+ghost use Rattle.std.specs.Prelude.{◌≡◌, ◌≢◌, ◌≤◌, ◌↔◌, [], List, drop, Some, IsTrue, IsOk, IfOk, OnErr};
+ghost use Rattle.fs_edge.specs.Count.{Rose};
+ghost use Rattle.fs_edge.specs.Link.{hearings_of, none_fails, Hears, Sends};
+ghost use Rattle.fs_edge.specs.Paces.{next_pace};
 
 use crate::count::count;
 use crate::link::{Heard, Link, Sent};
@@ -26,6 +29,7 @@ impl Model for Hearings {
 }
 
 impl Hearings {
+    /// What is heard, the first first. None of it is a failure.
     pub fn of(items: Vec<Heard>) -> Hearings
         requires { IsTrue (none_fails items.items) }
         ensures { result ≡ hearings_of items.items }
@@ -51,9 +55,9 @@ pub struct MemoryLink {
 impl Model for MemoryLink {
     ghost use Rattle.std.specs.Prelude.{drop, length, ◌≤◌};
     ghost use Rattle.fs_edge.specs.Link.{hearings_of};
-    ghost use Rattle.fs_edge.specs.Memory.{Line};
+    ghost use Rattle.fs_edge.specs.Memory.{LinkState};
 
-    ghost Value = { Line };
+    ghost Value = { LinkState };
 
     ghost view = { λ l. record { to_hear = hearings_of (drop l.at l.hearings.items); sent = l.sent; paces = drop l.calls l.paces; faults = l.faults } };
 
@@ -91,7 +95,19 @@ impl Link for MemoryLink {
 
     ghost faults = { λ l. l.faults };
 
-    fn receive(&mut self) -> Result<Heard, AllocError> {
+    fn receive(&mut self) -> Result<Heard, AllocError>
+        ensures hears { IfOk result (λ heard. Hears heard (Some self.old.to_hear) (Some self.new.to_hear)) }
+        ensures hears_err { OnErr result (Some self.new.to_hear ≡ Some self.old.to_hear) }
+        ensures sent { Some self.new.sent ≡ Some self.old.sent }
+        ensures faults { self.old.faults ≤ self.new.faults }
+        ensures failed { result ≡ Ok Heard.Failed → Rose self.old.faults self.new.faults }
+        ensures no_fault { result ≢ Ok Heard.Failed → self.new.faults ≡ self.old.faults }
+
+        // One pace is used up, and the call fails exactly where it says so. It wants no memory.
+        ensures paces { self.new.paces ≡ drop 1 self.old.paces }
+        ensures paced { (result ≡ Ok Heard.Failed) ↔ (next_pace self.old.paces ≡ Pace.Fail) }
+        ensures told { IsOk result }
+    {
         if self.paces.next(&mut self.calls) == Pace::Fail {
             count(&mut self.faults);
             return Ok(Heard::Failed);
@@ -112,13 +128,23 @@ impl Link for MemoryLink {
         }
     }
 
-    fn send(&mut self, text: &str) -> Result<Sent, AllocError> {
-        let message = Text::from_str(self.alloc, text)?;
+    fn send(&mut self, text: &str) -> Result<Sent, AllocError>
+        ensures sends { IfOk result (λ done. Sends done text.now (Some self.old.sent) (Some self.new.sent)) }
+        ensures sends_err { OnErr result (Some self.new.sent ≡ Some self.old.sent) }
+        ensures to_hear { Some self.new.to_hear ≡ Some self.old.to_hear }
+        ensures faults { self.old.faults ≤ self.new.faults }
+        ensures failed { result ≡ Ok Sent.Failed → Rose self.old.faults self.new.faults }
+        ensures no_fault { result ≢ Ok Sent.Failed → self.new.faults ≡ self.old.faults }
+
+        // One pace is used up, and the call fails exactly where it says so.
+        ensures paces { self.new.paces ≡ drop 1 self.old.paces }
+        ensures paced { (result ≡ Ok Sent.Failed) ↔ (next_pace self.old.paces ≡ Pace.Fail) }
+    {
         if self.paces.next(&mut self.calls) == Pace::Fail {
             count(&mut self.faults);
             return Ok(Sent::Failed);
         }
-        self.sent.push(message)?;
+        self.sent.push(Text::from_str(self.alloc, text)?)?;
         Ok(Sent::Done)
     }
 }

@@ -1,3 +1,4 @@
+//! How the calls on an object in memory go: freely, a few bytes at a time, or not at all.
 ghost use Rattle.std.specs.Prelude.{◌≡◌, [], drop};
 ghost use Rattle.fs_edge.specs.Paces.{next_pace};
 
@@ -17,7 +18,15 @@ pub enum Pace {
 
 /// The paces of the calls on an object, in their order. Calls after the last are free.
 ///
-/// With the paces `AtMost(2), Fail`, three reads of `abcde` give `ab`, a failure, and `cde`.
+/// Each call uses up one pace. Three reads of `abcde` into a buffer of four bytes, by the paces `[AtMost(2), Fail]`:
+///
+/// | read | goes by | gives | paces left | bytes left |
+/// |---|---|---|---|---|
+/// | first | `AtMost(2)` | `ab` | `[Fail]` | `cde` |
+/// | second | `Fail` | a failure | `[]` | `cde` |
+/// | third | `Free` | `cde` | `[]` | none |
+///
+/// A fourth read tells the end.
 #[derive(Drop, Debug)]
 pub struct Paces {
     items: Vec<Pace>,
@@ -42,6 +51,7 @@ impl Paces {
         }
     }
 
+    /// These paces, the first for the first call.
     pub fn of(items: Vec<Pace>) -> Paces
         ensures { result ≡ items.items }
     {

@@ -1,7 +1,11 @@
-ghost use Rattle.std.specs.Prelude.{◌≡◌, [], Some};
+//! A sink of bytes in memory.
+ghost use Rattle.std.specs.Prelude.{◌≡◌, ◌≢◌, ◌≤◌, [], drop, length, Some};
+ghost use Rattle.fs_edge.specs.Count.{Rose};
+ghost use Rattle.fs_edge.specs.Paces.{next_pace, IsPacedWrite};
+ghost use Rattle.fs_edge.specs.Sink.{WriteAdds, Takes};
 
 use crate::count::count;
-use crate::memory::pace::Paces;
+use crate::memory::pace::{Pace, Paces};
 use crate::memory::source::moved;
 use crate::sink::{Gave, Sink};
 use fs_path::Bytes;
@@ -21,9 +25,9 @@ pub struct MemorySink {
 
 impl Model for MemorySink {
     ghost use Rattle.std.specs.Prelude.{drop};
-    ghost use Rattle.fs_edge.specs.Memory.{Drain};
+    ghost use Rattle.fs_edge.specs.Memory.{SinkState};
 
-    ghost Value = { Drain };
+    ghost Value = { SinkState };
 
     ghost view = { λ s. record { given = s.taken; paces = drop s.calls s.paces; faults = s.faults } };
 }
@@ -54,18 +58,26 @@ impl Sink for MemorySink {
 
     ghost faults = { λ s. s.faults };
 
-    fn write(&mut self, from: &[u8]) -> Gave {
-        let most = moved(self.paces.next(&mut self.calls), from.len());
-        if most == 0 && !from.is_empty() {
+    fn write(&mut self, from: &[u8]) -> Gave
+        ensures writes { WriteAdds result from.now (Some self.old.given) (Some self.new.given) }
+        ensures takes { Takes result from.now }
+        ensures faults { self.old.faults ≤ self.new.faults }
+        ensures failed { result ≡ Gave.Failed → Rose self.old.faults self.new.faults }
+        ensures no_fault { result ≢ Gave.Failed → self.new.faults ≡ self.old.faults }
+
+        // One pace is used up, and the write goes by it.
+        ensures paces { self.new.paces ≡ drop 1 self.old.paces }
+        ensures paced { IsPacedWrite (next_pace self.old.paces) (length from.now) result }
+    {
+        let pace = self.paces.next(&mut self.calls);
+        if from.is_empty() && pace != Pace::Fail {
+            return Gave::Bytes(0);
+        }
+        let most = moved(pace, from.len());
+        if most == 0 || self.taken.append(&from[..most]).is_err() {
             count(&mut self.faults);
             return Gave::Failed;
         }
-        match self.taken.append(&from[..most]) {
-            Ok(()) => Gave::Bytes(most),
-            Err(_) => {
-                count(&mut self.faults);
-                Gave::Failed
-            }
-        }
+        Gave::Bytes(most)
     }
 }

@@ -1,5 +1,8 @@
-ghost use Rattle.std.specs.Prelude.{◌≡◌, ◌≤◌, IsTrue, Some};
-ghost use Rattle.fs_edge.specs.Paces.{all_let_through, moved_of};
+//! A source of bytes in memory.
+ghost use Rattle.std.specs.Prelude.{◌≡◌, ◌≢◌, ◌≤◌, drop, length, IsTrue, Some};
+ghost use Rattle.fs_edge.specs.Count.{Rose};
+ghost use Rattle.fs_edge.specs.Paces.{all_let_through, moved_of, next_pace, paced_read};
+ghost use Rattle.fs_edge.specs.Source.{ReadGives, Fills};
 
 use crate::count::count;
 use crate::memory::pace::{Pace, Paces};
@@ -22,10 +25,10 @@ pub struct MemorySource {
 
 impl Model for MemorySource {
     ghost use Rattle.std.specs.Prelude.{drop, length, ◌≤◌, IsTrue};
-    ghost use Rattle.fs_edge.specs.Memory.{Feed};
+    ghost use Rattle.fs_edge.specs.Memory.{SourceState};
     ghost use Rattle.fs_edge.specs.Paces.{all_let_through};
 
-    ghost Value = { Feed };
+    ghost Value = { SourceState };
 
     ghost view = { λ s. record { left = drop s.at s.bytes; paces = drop s.calls s.paces; faults = s.faults; ends = s.ends } };
 
@@ -68,7 +71,20 @@ impl Source for MemorySource {
 
     ghost ends = { λ s. s.ends };
 
-    fn read(&mut self, into: &mut [u8]) -> Took {
+    fn read(&mut self, into: &mut [u8]) -> Took
+        ensures reads { ReadGives result into.new (Some self.old.left) (Some self.new.left) }
+        ensures fills { Fills result into.old }
+        ensures faults { self.old.faults ≤ self.new.faults }
+        ensures failed { result ≡ Took.Failed → Rose self.old.faults self.new.faults }
+        ensures no_fault { result ≢ Took.Failed → self.new.faults ≡ self.old.faults }
+        ensures ends { self.old.ends ≤ self.new.ends }
+        ensures ended { result ≡ Took.End → Rose self.old.ends self.new.ends }
+        ensures no_end { result ≢ Took.End → self.new.ends ≡ self.old.ends }
+
+        // One pace is used up, and the read goes by it.
+        ensures paces { self.new.paces ≡ drop 1 self.old.paces }
+        ensures paced { result ≡ paced_read (next_pace self.old.paces) (length self.old.left) (length into.old) }
+    {
         let pace = self.paces.next(&mut self.calls);
         if pace == Pace::Fail {
             count(&mut self.faults);

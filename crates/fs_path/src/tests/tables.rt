@@ -1,18 +1,39 @@
-// A row of these tables is a text and what is read of it: ids or names with `|` between them, or the refusal. `~` stands
-// for the documents of the root.
+//! What the tests of names expect. A row of most tables is a text and what is read of it: a path, names with `|` between
+//! them, or the refusal. `~` stands for the documents of the root.
+
+/// What is read of a text.
+#[derive(Clone, Copy)]
+pub(super) enum Kind {
+    Document,
+    Reference,
+    Parent,
+    Database,
+    Field,
+    Printed,
+}
+
+/// A kind, and the texts that are read so.
+pub(super) const TEXTS: [(Kind, &[(&str, &str)]); 6] = [
+    (Kind::Document, &DOCUMENTS),
+    (Kind::Reference, &REFERENCES),
+    (Kind::Parent, &PARENTS),
+    (Kind::Database, &DATABASES),
+    (Kind::Field, &FIELDS),
+    (Kind::Printed, &PRINTED),
+];
 
 /// Names of documents of the root.
-pub(super) const DOCUMENTS: [(&str, &str); 44] = [
-    ("~/c/a", "c|a"),
-    ("~/c/a/d/b", "c|a|d|b"),
-    ("~/c/a b", "c|a b"),
-    ("~/c/é", "c|é"),
-    ("~/c/...", "c|..."),
-    ("~/c/.a", "c|.a"),
-    ("~/c/__a", "c|__a"),
-    ("~/c/a__", "c|a__"),
-    ("~/c/___", "c|___"),
-    ("~/documents/documents", "documents|documents"),
+const DOCUMENTS: [(&str, &str); 44] = [
+    ("~/c/a", "c/a"),
+    ("~/c/a/d/b", "c/a/d/b"),
+    ("~/c/a b", "c/a b"),
+    ("~/c/é", "c/é"),
+    ("~/c/...", "c/..."),
+    ("~/c/.a", "c/.a"),
+    ("~/c/__a", "c/__a"),
+    ("~/c/a__", "c/a__"),
+    ("~/c/___", "c/___"),
+    ("~/documents/documents", "documents/documents"),
     ("~/c/____", "P5"),
     ("~/c/__x__", "P5"),
     ("~/__x__/a", "P5"),
@@ -50,12 +71,12 @@ pub(super) const DOCUMENTS: [(&str, &str); 44] = [
 ];
 
 /// Names of documents of any database.
-pub(super) const REFERENCES: [(&str, &str); 8] = [
-    ("~/c/a", "demo (default) c|a"),
-    ("projects/other/databases/x/documents/c/a", "other x c|a"),
+const REFERENCES: [(&str, &str); 8] = [
+    ("~/c/a", "demo (default) c/a"),
+    ("projects/other/databases/x/documents/c/a", "other x c/a"),
     (
         "projects/other/databases/x/documents/c/a/d/b",
-        "other x c|a|d|b",
+        "other x c/a/d/b",
     ),
     ("projects/other/databases/x/documents/c", "P3"),
     ("projects/other/databases/x/documents", "P3"),
@@ -65,10 +86,10 @@ pub(super) const REFERENCES: [(&str, &str); 8] = [
 ];
 
 /// What has collections in the root.
-pub(super) const PARENTS: [(&str, &str); 10] = [
+const PARENTS: [(&str, &str); 10] = [
     ("~", ""),
-    ("~/c/a", "c|a"),
-    ("~/c/a/d/b", "c|a|d|b"),
+    ("~/c/a", "c/a"),
+    ("~/c/a/d/b", "c/a/d/b"),
     ("~/c", "P3"),
     ("~/", "P3"),
     ("~//", "P4"),
@@ -78,8 +99,20 @@ pub(super) const PARENTS: [(&str, &str); 10] = [
     ("~/../a", "P6"),
 ];
 
+/// The root's database.
+const DATABASES: [(&str, &str); 8] = [
+    ("projects/demo/databases/(default)", "the root's"),
+    ("projects/demo/databases/other", "P2"),
+    ("projects/other/databases/(default)", "P2"),
+    ("~", "P1"),
+    ("projects/demo/databases/(default)/", "P1"),
+    ("projects/demo/databases", "P1"),
+    ("projects//databases/(default)", "P1"),
+    ("", "P1"),
+];
+
 /// Field paths.
-pub(super) const FIELDS: [(&str, &str); 34] = [
+const FIELDS: [(&str, &str); 34] = [
     ("a", "a"),
     ("a.b", "a|b"),
     ("_a1.B_2", "_a1|B_2"),
@@ -153,7 +186,7 @@ pub(super) const LIMITS: [(&[(&str, usize)], &str); 11] = [
 ];
 
 /// How a field path is read, and printed again.
-pub(super) const PRINTED: [(&str, &str); 5] = [
+const PRINTED: [(&str, &str); 5] = [
     ("`a b`.c", "`a b`.c"),
     ("`a`.`_1`", "a._1"),
     ("``.`1`", "``.`1`"),
@@ -176,24 +209,96 @@ pub(super) const NAMES: [(&str, usize, bool, bool); 11] = [
     ("a", 1501, true, true),
 ];
 
-/// Of the ids `c a m 1 m 2`: how many are the parent's, a collection id, how many are the document's, and whether the
-/// collection, or the group, covers the document.
-pub(super) const SCOPES: [(usize, &str, usize, bool, bool); 9] = [
-    (0, "c", 2, true, true),
-    (0, "m", 2, false, false),
-    (0, "c", 4, false, false),
-    (0, "m", 4, false, true),
-    (2, "m", 4, true, true),
-    (2, "m", 6, false, true),
-    (4, "m", 6, true, true),
-    (4, "m", 4, false, false),
-    (2, "c", 2, false, false),
+/// How many of the ids `c a m 1 m 2` are a parent's, a collection id, a document's name, and whether the collection, or the
+/// group, covers the document.
+pub(super) const SCOPES: [(usize, &str, &str, bool, bool); 9] = [
+    (0, "c", "p/d/c/a", true, true),
+    (0, "m", "p/d/c/a", false, false),
+    (0, "c", "p/d/c/a/m/1", false, false),
+    (0, "m", "p/d/c/a/m/1", false, true),
+    (2, "m", "p/d/c/a/m/1", true, true),
+    (2, "m", "p/d/c/a/m/1/m/2", false, true),
+    (4, "m", "p/d/c/a/m/1/m/2", true, true),
+    (4, "m", "p/d/c/a/m/1", false, false),
+    (2, "c", "p/d/c/a", false, false),
 ];
 
+/// A collection's id, how many shards there are, and its shard.
 pub(super) const SHARDS: [(&str, u32, u32); 5] = [
     ("c", 2, 1),
     ("d", 2, 0),
     ("messages", 4, 0),
     ("c", 1, 0),
     ("c", 16, 3),
+];
+
+/// Names in their order, each a project, a database and ids. No byte of an id counts as a slash.
+pub(super) const RISING: [&str; 41] = [
+    "a/b",
+    "a/b/\0",
+    "a/b/\0/c",
+    "a/b/\0a",
+    "a/b/ /a",
+    "a/b/!",
+    "a/b/-",
+    "a/b/-/a",
+    "a/b/--",
+    "a/b/.a",
+    "a/b/.a/b",
+    "a/b/.a-",
+    "a/b/0",
+    "a/b/0/0",
+    "a/b/0.",
+    "a/b/0é",
+    "a/b/a",
+    "a/b/a/",
+    "a/b/a//b",
+    "a/b/a/\0",
+    "a/b/a/-",
+    "a/b/a/x",
+    "a/b/a/x/b",
+    "a/b/a/x-/b",
+    "a/b/a\0",
+    "a/b/a-b",
+    "a/b/a-b/c",
+    "a/b/a.",
+    "a/b/a0",
+    "a/b/aa",
+    "a/b/a\u{7f}",
+    "a/b/aé",
+    "a/b/aé/a",
+    "a/b/aé-",
+    "a/b/é",
+    "a/b/€",
+    "a/b/😀",
+    "a/b-/a",
+    "a/b0",
+    "a-/b",
+    "b/a",
+];
+
+/// A name, its ids, their number, the last of them, and what they add to its size.
+pub(super) const PARTS: [(&str, &str, usize, &str, usize); 4] = [
+    ("p/d", "", 0, "", 0),
+    ("p/d/", "", 1, "", 1),
+    ("p/d/c/a", "c/a", 2, "a", 4),
+    ("p/d/c//é", "c//é", 3, "é", 6),
+];
+
+/// A method, a member and an item, and the places of the method, of its member, of an item of that, and of a member of
+/// the item.
+pub(super) const WAYS: [(&str, &str, u64, &str); 3] = [
+    (
+        "commit",
+        "writes",
+        0,
+        "commit commit.writes commit.writes[0] commit.writes[0].writes",
+    ),
+    (
+        "a",
+        "b",
+        18_446_744_073_709_551_615,
+        "a a.b a.b[18446744073709551615] a.b[18446744073709551615].b",
+    ),
+    ("", "commit", 3, " commit commit[3] commit[3].commit"),
 ];

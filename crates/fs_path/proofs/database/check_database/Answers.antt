@@ -1,4 +1,4 @@
-use Rattle.fs_path.specs.DatabaseLaws.{database_taken, bad_database}
+use Rattle.fs_path.proofs.Databases.{database_taken, bad_database}
 use Rattle.fs_path.proofs.database.check_database.Goals as goal
 
 pub returns-clause-taken : goal.returns-clause-taken

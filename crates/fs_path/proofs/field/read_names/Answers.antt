@@ -1,7 +1,7 @@
 use Rattle.std.proofs.Common.{◌≡◌, ◌<◌, ◌++◌, length, ◌+◌, ◌-◌, true, false, [], ◌∷◌, refl, arith, take, drop, string_bytes, get_or, subst, ap, sym, ◌∙◌}
 use Rattle.std.proofs.lemmas.Str.{IsCharBoundary-start, IsCharBoundary-after_ascii}
 use Rattle.std.specs.Str.{IsCharBoundary}
-use Rattle.fs_path.specs.Field.{Reading, field_of, field_from, moved, takes, is_opening}
+use Rattle.fs_path.specs.FieldReader.{Reading, read_of, field_from, moved, takes, is_opening}
 use Rattle.fs_path.proofs.Readings.{read_on, taken, marked, dotted, never_both, marks_ascii}
 use Rattle.fs_path.proofs.field.read_names.Goals as goal
 use Rattle.fs_path.proofs.field.read_names.Goals.{then-not-takes+in_ok-push_str, else-not-takes, then-is_opening+in_ok-push, else-is_opening}
@@ -27,7 +27,7 @@ loop-at-preserved c =
     let next = c.in-Some.next in
     let front = string_bytes c.loop-at.name in
     let slice = take (at - c.loop-at.from) (drop c.loop-at.from text) in
-    let goes : (q : Reading) → moved read b next ≡ q → field_from q (at + 1) (drop (at + 1) text) ≡ field_of text = λ q e. ap (λ x. field_from x (at + 1) (drop (at + 1) text)) (sym e) ∙ now in
+    let goes : (q : Reading) → moved read b next ≡ q → field_from q (at + 1) (drop (at + 1) text) ≡ read_of text = λ q e. ap (λ x. field_from x (at + 1) (drop (at + 1) text)) (sym e) ∙ now in
     elim c.if-not-takes.branch [
       | then-not-takes+in_ok-push_str w ↦
           let marks : takes stage next ≡ false = sym c.takes.ensures ∙ w.if-not-takes.true in

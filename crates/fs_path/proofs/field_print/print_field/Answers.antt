@@ -1,7 +1,7 @@
 use Rattle.std.proofs.Common.{◌≡◌, ◌<◌, ◌++◌, length, string_bytes, arith, ap, ◌∙◌}
 use Rattle.std.proofs.lemmas.List.{take_all}
 use Rattle.fs_path.specs.Field.{field_of, field_text, name_text}
-use Rattle.fs_path.specs.FieldLaws.{field_again}
+use Rattle.fs_path.proofs.FieldReads.{field_again}
 use Rattle.fs_path.proofs.Escapes.{first_name, next_name}
 use Rattle.fs_path.proofs.field_print.print_field.Goals as goal
 use Rattle.fs_path.proofs.field_print.print_field.Goals.{then-i-gt0+in_ok-push_str, else-i-gt0}

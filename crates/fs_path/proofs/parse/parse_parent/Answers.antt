@@ -1,5 +1,5 @@
 use Rattle.std.proofs.lemmas.Result.{IfOk-weaker}
-use Rattle.fs_path.specs.DocumentLaws.{parent_found, parent_only, bad_parent}
+use Rattle.fs_path.proofs.Documents.{parent_found, parent_only, bad_parent}
 use Rattle.fs_path.proofs.parse.parse_parent.Goals as goal
 
 pub returns-clause-found : goal.returns-clause-found

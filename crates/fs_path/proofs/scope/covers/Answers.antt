@@ -1,6 +1,6 @@
 use Rattle.std.proofs.Common.{IsTrue, ◌↔◌, sym, subst}
 use Rattle.fs_path.specs.Scope.{Covers}
-use Rattle.fs_path.specs.ScopeLaws.{covers_law}
+use Rattle.fs_path.proofs.Scopes.{covers_law}
 use Rattle.fs_path.proofs.scope.covers.Goals as goal
 
 pub returns-clause-meaning : goal.returns-clause-meaning

@@ -1,6 +1,6 @@
 use Rattle.std.proofs.Common.{IsTrue, ◌↔◌, sym, subst}
 use Rattle.fs_path.specs.Segment.{IsReserved}
-use Rattle.fs_path.specs.SegmentLaws.{reserved_law}
+use Rattle.fs_path.proofs.Reserved.{reserved_law}
 use Rattle.fs_path.proofs.segment.is_reserved.Goals as goal
 
 pub returns-clause-meaning : goal.returns-clause-meaning

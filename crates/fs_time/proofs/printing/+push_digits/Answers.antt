@@ -1,6 +1,6 @@
 use Rattle.std.proofs.Common.{arith, append-nil}
 use Rattle.std.proofs.lemmas.Grind.{common_steps}
-use Rattle.fs_time.specs.TextLaws.{no_digits, last_digit}
+use Rattle.fs_time.proofs.Digits.{no_digits, last_digit}
 use Rattle.fs_time.proofs.printing.+push_digits.Goals as goal
 
 pub returns-then-places-eq0 : goal.returns-then-places-eq0

@@ -1,6 +1,6 @@
 use Rattle.std.proofs.Common.{arith}
 use Rattle.std.proofs.lemmas.Int.{ints}
-use Rattle.fs_time.specs.ReadingLaws.{less_offset}
+use Rattle.fs_time.proofs.Civil.{less_offset}
 use Rattle.fs_time.proofs.reading.nanos_of.Goals as goal
 
 pub returns-clause-value : goal.returns-clause-value

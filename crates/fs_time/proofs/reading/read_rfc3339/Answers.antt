@@ -1,6 +1,7 @@
 use Rattle.std.proofs.Common.{◌∙◌, ap, subst}
 use Rattle.fs_time.specs.Rfc3339.{time_of}
-use Rattle.fs_time.specs.RoundTrip.{Means, means, found, no_memory, bad_text, out_of_range, one_text, time_of-time_text}
+use Rattle.fs_time.proofs.Means.{Means, means, found, no_memory, bad_text, out_of_range, one_text}
+use Rattle.fs_time.proofs.RoundTrip.{time_of-time_text}
 use Rattle.fs_time.proofs.reading.read_rfc3339.Goals as goal
 
 pub returns-clause-memory : goal.returns-clause-memory

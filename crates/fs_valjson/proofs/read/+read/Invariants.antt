@@ -2,6 +2,7 @@ use Rattle.std.proofs.Common.{◌≡◌, ◌+◌, ◌*◌, List, ◌++◌, map, 
 use Rattle.serde_json.specs.Data.{depth, items_depth, members_depth}
 use Rattle.serde_json.specs.View.{view as json, items_view, members_view}
 use Rattle.serde_json.proofs.Views.{Entry}
+use Rattle.fs_path.specs.Way.{place_of}
 use Rattle.fs_valjson.specs.Reading.{items_at, entries_at}
 use Rattle.fs_valjson.proofs.Lists.{behind}
 use Rattle.fs_valjson.proofs.read.+read.Given as goal
@@ -33,7 +34,7 @@ decreases-read_entries l = 2 * members_depth (members_view l.members.now.entries
 -- the values so far, and the reading of the rest
 abbrev pub invariant-read_items-loop-i : goal.invariant-read_items-loop-i
 invariant-read_items-loop-i l =
-    behind l.values (items_at (items_view (drop l.i l.items)) l.i l.place) ≡ items_at (items_view l.items) 0 l.place
+    behind l.values (items_at (items_view (drop l.i l.items)) l.i (place_of l.place)) ≡ items_at (items_view l.items) 0 (place_of l.place)
 
 -- the fields so far are those of the first members, and the reading of the rest comes behind them
 abbrev pub invariant-read_entries-loop-key : goal.invariant-read_entries-loop-key
@@ -41,5 +42,5 @@ invariant-read_entries-loop-key l = record {
   done : List Entry;
   whole : l.members.entries ≡ done ++ l.key-iterator;
   keys : map (λ f. f.0) l.fields ≡ map (λ e. string_bytes e.0) done;
-  reading : behind l.fields (entries_at (members_view l.key-iterator) l.place) ≡ entries_at (members_view l.members.entries) l.place;
+  reading : behind l.fields (entries_at (members_view l.key-iterator) (place_of l.place)) ≡ entries_at (members_view l.members.entries) (place_of l.place);
 }

@@ -6,7 +6,8 @@ use Rattle.fs_path.specs.TextOrder.{text_cmp}
 use Rattle.fs_value.specs.Data.{timestamp, members_of}
 use Rattle.fs_value.specs.View.{view, field_view}
 use Rattle.fs_json.specs.Time.{time_at}
-use Rattle.fs_valjson.specs.Writing.{json_of, members_json, IsHeld}
+use Rattle.fs_valjson.specs.Valid.{IsHeld}
+use Rattle.fs_valjson.specs.Writing.{value_json, members_json}
 use Rattle.fs_valjson.proofs.Again.{on_ok_always}
 use Rattle.fs_valjson.proofs.Written.{one_value, items_push, held_push, one_field, put_last, members_held_push, rising_taken}
 use Rattle.fs_valjson.proofs.write.+write.Goals as goal
@@ -35,7 +36,7 @@ write_members-loop-field-preserved t c =
     let one = one_field fs l.field-index f c.loop-field-test.true c.field-item.is in
     let rise : IsTrue (is_sorted text_cmp (map field_view fs)) = rw c.as_slice-field-items.ensures.value c.as_slice-field-items.ensures.rise in
     let last : IsTrue (is_sorted text_cmp (so_far ++ (f.key, view f.value) ∷ [])) = rw one at (rising_taken (l.field-index + 1) fs rise) in
-    let step : members_view c.put.new.map.entries ≡ put f.key (json_of (view f.value)) (members_json (members_of so_far)) =
+    let step : members_view c.put.new.map.entries ≡ put f.key (value_json (view f.value)) (members_json (members_of so_far)) =
     rw (c.in_ok-put.ensures.ok, c.as_str.ensures.value, c.in_ok-value.ensures.value, l.invariant.written) refl in
     rw one (record {
       written = step ∙ put_last so_far f.key (view f.value) last;

@@ -2,7 +2,8 @@ use Rattle.std.proofs.Common.{sym, ap, ◌∙◌}
 use Rattle.std.proofs.lemmas.Cmp.{tied_itself}
 use Rattle.fs_value.specs.Data.{object, members_of, fields_of}
 use Rattle.fs_value.specs.DataLaws.{fields_of-members_of}
-use Rattle.fs_value.specs.ValueOrder.{members_cmp, value_cmp_total, members_same}
+use Rattle.fs_value.specs.ValueOrder.{members_cmp}
+use Rattle.fs_value.specs.ValueOrderLaws.{value_cmp_total, members_same}
 use Rattle.fs_value.proofs.Comparing.{told_same}
 use Rattle.fs_value.proofs.order.fields_same.Goals as goal
 

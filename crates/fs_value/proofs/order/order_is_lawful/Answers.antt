@@ -1,4 +1,5 @@
-use Rattle.fs_value.specs.ValueOrder.{value_cmp_total, value_alike, array_cmp, map_cmp}
+use Rattle.fs_value.specs.ValueOrderLaws.{value_cmp_total}
+use Rattle.fs_value.proofs.Lawful.{value_alike, array_cmp, map_cmp}
 use Rattle.fs_value.proofs.order.order_is_lawful.Goals as goal
 
 pub returns : goal.returns

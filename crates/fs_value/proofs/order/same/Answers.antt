@@ -1,5 +1,6 @@
 use Rattle.std.proofs.lemmas.Cmp.{tied_itself}
-use Rattle.fs_value.specs.ValueOrder.{value_cmp, value_cmp_total, value_same}
+use Rattle.fs_value.specs.ValueOrder.{value_cmp}
+use Rattle.fs_value.specs.ValueOrderLaws.{value_cmp_total, value_same}
 use Rattle.fs_value.proofs.Comparing.{told_same}
 use Rattle.fs_value.proofs.order.same.Goals as goal
 

@@ -2,9 +2,10 @@ use Rattle.std.proofs.Common.{◌≡◌, ◌<◌, length, ap, sym, ◌∙◌, su
 use Rattle.std.proofs.lemmas.Result.{on_ok_weaker}
 use Rattle.std.specs.Prelude.{OnOk}
 use Rattle.std.specs.FinMap.{get}
-use Rattle.fsemu.specs.Batch.{after_writes, with_kept, restored}
+use Rattle.fsemu.specs.Batch.{after_writes, with_kept}
+use Rattle.fsemu.specs.Detours.{restored}
 use Rattle.fsemu.proofs.Batches.{one_write}
-use Rattle.fsemu.proofs.Settling.{get-after_commit}
+use Rattle.fsemu.proofs.Leaving.{get-after_commit}
 use Rattle.fsemu.proofs.batch.commit.Goals as goal
 
 pub returns-then-len-lt2-clause-documents : goal.returns-then-len-lt2-clause-documents
@@ -15,8 +16,8 @@ returns-then-len-lt2-clause-documents c =
     let same = ap (λ ws. after_writes docs ws c.args.time) c.into_vec-writes.ensures ∙ one_write docs c.args.writes c.args.time short in
     subst (λ left. OnOk c.carry_out_all.result (c.carry_out_all.new.documents ≡ left)) same c.carry_out_all.ensures.documents
 
-pub returns-then-len-lt2-clause-settled : goal.returns-then-len-lt2-clause-settled
-returns-then-len-lt2-clause-settled c =
+pub returns-then-len-lt2-clause-left : goal.returns-then-len-lt2-clause-left
+returns-then-len-lt2-clause-left c =
     on_ok_weaker c.carry_out_all.result (λ is name. ap (λ docs. get docs name) is ∙ get-after_commit c.args.documents.now c.args.writes c.args.time name)
     (returns-then-len-lt2-clause-documents c)
 
@@ -27,10 +28,10 @@ returns-clause-documents c =
     let writes = c.into_vec-writes.ensures in
     let seen = c.deref.ensures.value ∙ writes in
     c.in_ok-keep_all.ensures
-    ∙ ap (restored befores) c.in_ok-reported.ensures.documents
+    ∙ ap (restored befores) c.in_ok-results.ensures.documents
     ∙ sym (c.in_ok-befores.ensures (after_writes docs c.into_vec-writes.result.items c.args.time))
     ∙ (λ i. with_kept docs (seen i) (after_writes docs (writes i) c.args.time))
 
-pub returns-clause-settled : goal.returns-clause-settled
-returns-clause-settled c name =
+pub returns-clause-left : goal.returns-clause-left
+returns-clause-left c name =
     ap (λ docs. get docs name) (returns-clause-documents c) ∙ get-after_commit c.args.documents.now c.args.writes c.args.time name

@@ -1,5 +1,5 @@
 use Rattle.std.proofs.Common.{◌≡◌}
-use Rattle.fsemu.specs.Batch.{restored}
+use Rattle.fsemu.specs.Detours.{restored}
 use Rattle.fsemu.proofs.batch.keep_all.Given as goal
 
 abbrev pub invariant-loop-before : goal.invariant-loop-before

@@ -2,6 +2,7 @@ use Rattle.std.proofs.Common.{◌≡◌, ◌+◌, ◌∷◌, Ok, drop, sym, ap, 
 use Rattle.std.proofs.lemmas.List.{drop_more}
 use Rattle.serde_json.specs.View.{view, items_view}
 use Rattle.fs_path.specs.Place.{item_place}
+use Rattle.fs_path.specs.Way.{place_of}
 use Rattle.fsemu.specs.Request.{write_at, writes_in}
 use Rattle.fsemu.proofs.Reading.{behind, next_write}
 use Rattle.fsemu.proofs.read.read_items.Goals as goal
@@ -9,7 +10,7 @@ use Rattle.fsemu.proofs.read.read_items.Goals as goal
 pub loop-i-preserved : goal.loop-i-preserved
 loop-i-preserved c =
     let items = c.args.items.now in
-    let place = c.args.place.now in
+    let place = place_of c.args.place.now in
     let root = c.args.root.now in
     let i = c.loop-i.i in
     let x = c.index-items-i.result in

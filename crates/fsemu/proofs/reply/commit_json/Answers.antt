@@ -8,12 +8,12 @@ use Rattle.fsemu.proofs.reply.commit_json.Goals as goal
 
 pub returns-else-is_empty-clause-value : goal.returns-else-is_empty-clause-value
 returns-else-is_empty-clause-value c =
-    IfOk-weaker c.timed_with.result _ (λ v. view v ≡ commit_json c.args.time c.args.reported.now)
-    (λ v h. h ∙ commit_full c.args.time c.args.reported.now c.in_ok-results.results (view c.in_ok-time.time) c.in_ok-time.ensures.value c.in_ok-results.ensures (ap (λ s. length s == 0) (sym c.as_slice.ensures.value) ∙ sym c.is_empty.ensures ∙ c.if-is_empty.false))
+    IfOk-weaker c.timed_with.result _ (λ v. view v ≡ commit_json c.args.time c.args.results.now)
+    (λ v h. h ∙ commit_full c.args.time c.args.results.now c.in_ok-items.items (view c.in_ok-time.time) c.in_ok-time.ensures.value c.in_ok-items.ensures (ap (λ s. length s == 0) (sym c.as_slice.ensures.value) ∙ sym c.is_empty.ensures ∙ c.if-is_empty.false))
     c.timed_with.ensures
 
 pub returns-else-is_empty-clause-no_float : goal.returns-else-is_empty-clause-no_float
 returns-else-is_empty-clause-no_float c =
     IfOk-weaker c.timed_with.result _ (λ v. has_float (view v) ≡ false)
-    (λ v h. ap has_float (h ∙ commit_full c.args.time c.args.reported.now c.in_ok-results.results (view c.in_ok-time.time) c.in_ok-time.ensures.value c.in_ok-results.ensures (ap (λ s. length s == 0) (sym c.as_slice.ensures.value) ∙ sym c.is_empty.ensures ∙ c.if-is_empty.false)) ∙ commit_has_none c.args.time c.args.reported.now)
+    (λ v h. ap has_float (h ∙ commit_full c.args.time c.args.results.now c.in_ok-items.items (view c.in_ok-time.time) c.in_ok-time.ensures.value c.in_ok-items.ensures (ap (λ s. length s == 0) (sym c.as_slice.ensures.value) ∙ sym c.is_empty.ensures ∙ c.if-is_empty.false)) ∙ commit_has_none c.args.time c.args.results.now)
     c.timed_with.ensures

@@ -3,10 +3,10 @@ use Rattle.std.specs.Bool.{OnTrue, OnFalse}
 use Rattle.fs_edge.specs.declared.status.Status.TheVariants as status
 use Rattle.fsemu.specs.Run.{Wrote}
 use Rattle.fsemu.specs.Step.{start}
-use Rattle.fsemu.specs.Stop.{status_of}
-use Rattle.fsemu.specs.Taken.{Gained, GainedFront}
+use Rattle.fsemu.specs.Gathering.{status_of}
+use Rattle.fsemu.specs.Moved.{Gained, GainedFront}
 use Rattle.fsemu.specs.Transcript.{played, transcript}
-use Rattle.fsemu.specs.declared.gather.TheConstants.{INPUT_LIMIT}
+use Rattle.fsemu.specs.Limits.{longest_input}
 use Rattle.fsemu.proofs.Flow.{on_err_anyhow}
 use Rattle.fsemu.proofs.Ending.{if_taken, if_all_taken, front_of_transcript, wrote_here, ended_whole, ended_full}
 use Rattle.fsemu.proofs.run.replay.Goals as goal
@@ -50,9 +50,9 @@ returns-clause-transcript g c = λ ok.
 pub returns-clause-limit : goal.returns-clause-limit
 returns-clause-limit g c = λ limit.
     let full = ended_full c.in_ok-input.input.stop (sym c.status.ensures ∙ limit) in
-    if_taken _ _ c.in_ok-input.input.bytes.items (λ taken. length taken ≡ INPUT_LIMIT) c.in_ok-input.ensures.taken (c.in_ok-input.ensures.full.0 full)
+    if_taken _ _ c.in_ok-input.input.bytes.items (λ taken. length taken ≡ longest_input) c.in_ok-input.ensures.taken (c.in_ok-input.ensures.full.0 full)
 
 pub returns-clause-limit_told : goal.returns-clause-limit_told
 returns-clause-limit_told g c =
-    if_taken _ _ c.in_ok-input.input.bytes.items (λ taken. length taken ≡ INPUT_LIMIT → (c.status.result ≡ status.InputLimit) ⊎ (c.status.result ≡ status.WriteFault)) c.in_ok-input.ensures.taken
+    if_taken _ _ c.in_ok-input.input.bytes.items (λ taken. length taken ≡ longest_input → (c.status.result ≡ status.InputLimit) ⊎ (c.status.result ≡ status.WriteFault)) c.in_ok-input.ensures.taken
     (λ long. inl (c.status.ensures ∙ ap status_of (c.in_ok-input.ensures.full.1 long)))

@@ -1,0 +1,126 @@
+//! Times what names and documents cost: `fs_bench measure` prints nanoseconds. Without that word it does nothing.
+#![tactic(auto)]
+
+use fs_path::{Bytes, DocName, Text};
+use fs_time::Micros;
+use fs_value::{Document, Fields, SharedFields, Value, Values};
+use std::alloc::{AllocError, Global};
+use std::time::Instant;
+use std::{env, io};
+
+/// How often each step is made.
+const ROUNDS: u32 = 2_000_000;
+
+fn main(rt: HostRuntime) -> io::Result<()> {
+    for word in env::args(&rt)? {
+        if word.as_str() == "measure" {
+            measure(&rt)?;
+        }
+    }
+    Ok(())
+}
+
+fn measure(rt: &HostRuntime) -> io::Result<()> {
+    let alloc = rt.alloc();
+    let one = a_name(alloc, "m000001")?;
+    let other = a_name(alloc, "m000002")?;
+    let start = Instant::now(rt)?;
+    let less = times_less(&one, &other);
+    let compared = start.elapsed(rt)?.as_nanos() / ROUNDS as u128;
+    println!(rt;
+        "comparing two names that differ in the last id: {compared} ns ({less} times less)"
+    )?;
+    let document = a_document(alloc)?;
+    let start = Instant::now(rt)?;
+    let copies = copies_of(alloc, &document)?;
+    let copied = start.elapsed(rt)?.as_nanos() / ROUNDS as u128;
+    println!(rt; "copying a document of ten fields, and dropping it: {copied} ns ({copies} copies)")
+}
+
+fn times_less(one: &DocName, other: &DocName) -> u32 {
+    let mut less = 0u32;
+    for round in 0..ROUNDS {
+        // The two take turns, so that no round knows its answer from the one before.
+        let (a, b) = if round % 2 == 0 {
+            (one, other)
+        } else {
+            (other, one)
+        };
+        if a.cmp(b).is_lt() {
+            less = less.saturating_add(1);
+        }
+    }
+    less
+}
+
+fn copies_of(alloc: Global, document: &Document) -> Result<u32, AllocError> {
+    let mut copies = 0u32;
+    for _ in 0..ROUNDS {
+        let copy = document.copy(alloc)?;
+        if copy.created == document.created {
+            copies = copies.saturating_add(1);
+        }
+    }
+    Ok(copies)
+}
+
+fn a_name(alloc: Global, id: &str) -> Result<DocName, AllocError> {
+    let path = format!(in alloc; "demo/(default)/rooms/r12/messages/{id}")?;
+    DocName::of_path(path).ok_or(AllocError)
+}
+
+fn text(alloc: Global, bytes: usize) -> Result<Value, AllocError> {
+    let mut text = String::new(alloc);
+    for _ in 0..bytes {
+        text.push('a')?;
+    }
+    Ok(Value::String(Text::of(text)))
+}
+
+fn put(alloc: Global, fields: &mut Fields, key: &str, value: Value) -> Result<(), AllocError> {
+    fields.put(Text::from_str(alloc, key)?, value)
+}
+
+fn some_fields(alloc: Global) -> Result<Fields, AllocError> {
+    let mut fields = Fields::new(alloc);
+    put(alloc, &mut fields, "name", text(alloc, 24)?)?;
+    put(alloc, &mut fields, "text", text(alloc, 120)?)?;
+    put(alloc, &mut fields, "count", Value::Integer(4_611_686_018))?;
+    put(alloc, &mut fields, "open", Value::Boolean(true))?;
+    put(alloc, &mut fields, "none", Value::Null)?;
+    put(
+        alloc,
+        &mut fields,
+        "at",
+        Value::Timestamp(Micros::new(1_704_067_200_000_001).unwrap()),
+    )?;
+    let data = Bytes::from_slice(alloc, b"ABCDEFGHIJKLMNOPQRSTUVWXYZabc")?;
+    put(alloc, &mut fields, "data", Value::Bytes(data))?;
+    put(
+        alloc,
+        &mut fields,
+        "owner",
+        Value::Reference(a_name(alloc, "u000001")?),
+    )?;
+    Ok(fields)
+}
+
+fn a_document(alloc: Global) -> Result<Document, AllocError> {
+    let mut fields = some_fields(alloc)?;
+    let mut tags = Values::new(alloc);
+    for _ in 0..4 {
+        tags.push(text(alloc, 6)?)?;
+    }
+    put(alloc, &mut fields, "tags", Value::Array(tags))?;
+    let mut place = Fields::new(alloc);
+    put(alloc, &mut place, "city", text(alloc, 10)?)?;
+    put(alloc, &mut place, "zip", Value::Integer(12_345))?;
+    put(alloc, &mut fields, "place", Value::Map(place))?;
+    let now = Micros::new(1_704_067_200_000_001).unwrap();
+    Ok(Document {
+        name: a_name(alloc, "m000001")?,
+        fields: SharedFields::of(alloc, fields)?,
+        created: now,
+        updated: now,
+    })
+}

@@ -1,0 +1,11 @@
+pub mod Calendar
+pub mod Chains
+pub mod Civil
+pub mod Digits
+pub mod Means
+pub mod Moments
+pub mod Pieces
+pub mod Printed
+pub mod RoundTrip
+pub mod Rounding
+pub mod Shown
