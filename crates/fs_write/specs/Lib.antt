@@ -1,0 +1,9 @@
+pub mod Batch
+pub mod OneWrite
+pub mod Operation
+pub mod Refused
+pub mod Rules
+pub mod Staging
+pub mod Transforms
+pub mod ValueRules
+pub mod WrittenName

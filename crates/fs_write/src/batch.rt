@@ -1,0 +1,155 @@
+//! The writes of a commit, one after another.
+ghost use Rattle.std.specs.Prelude.{◌≡◌, ◌≢◌, ◌<◌, ◌^◌, IsTrue, IfOk, IfErr, Ok, Err, Some, length};
+ghost use Rattle.std.specs.FinMap.{get, is_sorted};
+ghost use Rattle.fs_path.specs.NameOrder.{name_cmp};
+ghost use Rattle.fs_status.specs.Refusal.{refusal_of};
+ghost use Rattle.fs_status.specs.declared.reason.Reason.TheVariants.{Memory};
+ghost use Rattle.fs_value.specs.Named.{by_name};
+ghost use Rattle.fs_write.specs.Batch.{Docs, docs_of, batch, is_unchanged, IsOutcome};
+ghost use Rattle.fs_write.specs.OneWrite.{one_write};
+ghost use Rattle.fs_write.specs.Refused.{refused};
+ghost use Rattle.fs_write.specs.Staging.{staged_at, both_of, IsStage, IsTaken, IsNext, TellsStage};
+ghost use Rattle.fs_write.specs.WrittenName.{written_name};
+
+use crate::change::{Change, Changes};
+use crate::one_write::{carry_out, is_same};
+use crate::write::{Write, Writes};
+use crate::write_result::{WriteResult, WriteResults};
+use fs_path::DocName;
+use fs_status::Refusal;
+use fs_time::Micros;
+use fs_value::{Document, Documents};
+use std::alloc::{AllocError, Global};
+use std::collections::BTreeMap;
+
+// A document that is written: as it was before the commit, and as the writes so far leave it.
+#[derive(Drop, Debug)]
+struct Staged {
+    before: Option<Document>,
+    now: Option<Document>,
+}
+
+// A name's document before it is written. Both copies share its fields.
+fn stage_first(alloc: Global, docs: &Documents, name: &DocName) -> Result<Staged, AllocError>
+    requires { IsTrue (is_sorted name_cmp (by_name docs.now)) }
+    ensures before { IfOk result (λ s. s.before ≡ get (docs_of docs.now) name.now) }
+    ensures now { IfOk result (λ s. s.now ≡ get (docs_of docs.now) name.now) }
+{
+    match docs.find(name) {
+        Some(document) => Ok(Staged {
+            before: Some(document.copy(alloc)?),
+            now: Some(document.copy(alloc)?),
+        }),
+        None => Ok(Staged {
+            before: None,
+            now: None,
+        }),
+    }
+}
+
+// A name's document as it is staged, or where it isn't written yet, as it is there.
+fn take(
+    alloc: Global,
+    docs: &Documents,
+    stage: &mut BTreeMap<DocName, Staged>,
+    name: &DocName,
+) -> Result<Staged, AllocError>
+    requires { IsTrue (is_sorted name_cmp (by_name docs.now)) }
+    ensures value { IfOk result (λ s. (s.before, s.now)
+        ≡ both_of (get (docs_of docs.now) name.now) (staged_at name.now stage.old.entries)) }
+    ensures taken { IfOk result (λ s. IsTaken stage.old.entries stage.new.entries name.now) }
+{
+    match stage.remove(name) {
+        Some(staged) => Ok(staged),
+        None => stage_first(alloc, docs, name),
+    }
+}
+
+// Carries out one more write, of this number, on its document as the writes before it left it.
+fn write_next(
+    alloc: Global,
+    docs: &Documents,
+    stage: &mut BTreeMap<DocName, Staged>,
+    write: &Write,
+    number: u32,
+    time: Micros,
+) -> Result<WriteResult, Refusal>
+    requires { IsTrue (is_sorted name_cmp (by_name docs.now)) }
+    ensures ok { IfOk result (λ r. (after : Docs) → IsStage (docs_of docs.now) stage.old.entries after
+        → IsNext (docs_of docs.now) stage.old.entries stage.new.entries write.now time r after) }
+    ensures err { IfErr result (λ e. e ≢ refusal_of Memory
+        → (after : Docs) → IsStage (docs_of docs.now) stage.old.entries after
+        → refused number (one_write (get after (written_name write.now)) write.now time) ≡ Some e) }
+{
+    let name = write.name();
+    let staged = take(alloc, docs, stage, name)?;
+    let (now, answer) = carry_out(alloc, staged.now, write, number, time)?;
+    let written = Staged {
+        before: staged.before,
+        now,
+    };
+    stage.insert(name.copy(alloc)?, written)?;
+    Ok(answer)
+}
+
+fn is_unchanged(before: &Option<Document>, after: &Option<Document>) -> bool
+    ensures { result ≡ is_unchanged before.now after.now }
+{
+    match (before, after) {
+        (None, None) => true,
+        (Some(one), Some(other)) => is_same(&one.fields, &other.fields),
+        _ => false,
+    }
+}
+
+// The changes of the documents that were written.
+fn changes_of(alloc: Global, stage: BTreeMap<DocName, Staged>) -> Result<Changes, AllocError>
+    ensures { IfOk result (λ changes. TellsStage stage.entries changes) }
+{
+    let mut changes = Changes::new(alloc);
+    for (name, staged) in stage {
+        if !is_unchanged(&staged.before, &staged.now) {
+            changes.push(Change {
+                name,
+                before: staged.before,
+                after: staged.now,
+            })?;
+        }
+    }
+    Ok(changes)
+}
+
+/// Carries out the writes of a commit at a time, each on what those before it left. It answers the changes in the order of
+/// names and the writes' results in theirs, or the refusal of the first write that is refused, with its number counted
+/// from 0; then nothing is changed. Where memory runs out, it is refused for that.
+///
+/// Of the documents, whose names rise, only those matter that the writes name. A document whose fields are in the end what
+/// they were isn't changed, whatever came between:
+///
+///     docs             c/a {n: 1} since time 5
+///     writes at 9      c/a to {n: 2}, c/b to {n: 1}, c/a to {n: 1}
+///     changes          c/b from none to {n: 1}, created and updated at 9
+///     results          9, 9, 9
+pub fn apply_batch(
+    alloc: Global,
+    docs: &Documents,
+    writes: &Writes,
+    time: Micros,
+) -> Result<(Changes, WriteResults), Refusal>
+    requires rising { IsTrue (is_sorted name_cmp (by_name docs.now)) }
+    requires few { length writes.now < 2 ^ 32 }
+    ensures ok { IfOk result (λ r. IsOutcome (docs_of docs.now) writes.now time r.0 r.1) }
+    ensures err { IfErr result (λ e. e ≢ refusal_of Memory → batch (docs_of docs.now) writes.now time ≡ Err e) }
+{
+    let mut stage = BTreeMap::new(alloc);
+    let mut results = WriteResults::new(alloc);
+    for write in writes.as_slice() {
+        let number = results.len() as u32;
+        let answer = write_next(alloc, docs, &mut stage, write, number, time)?;
+        results.push(answer)?;
+    }
+    Ok((changes_of(alloc, stage)?, results))
+}
+
+#[cfg(test)]
+mod tests;

@@ -1,0 +1,184 @@
+//! One write, on the document of its name.
+ghost use Rattle.std.specs.Prelude.{◌≡◌, ◌≢◌, IfOk, IfErr, OnOk, Ok, Some, option_map};
+ghost use Rattle.fs_status.specs.Refusal.{refusal_of};
+ghost use Rattle.fs_status.specs.declared.reason.Reason.TheVariants.{Memory};
+ghost use Rattle.fs_write.specs.OneWrite.{unmet, merged, fields_there, fields_left, same_fields, document_left, unfit, one_write};
+ghost use Rattle.fs_write.specs.Refused.{reason_of, refused};
+ghost use Rattle.fs_write.specs.Transforms.{transformed, transform_results};
+
+use crate::apply::apply_transforms;
+use crate::paths::Paths;
+use crate::transform::Transforms;
+use crate::value_rules::are_fields_deep;
+use crate::write::{Act, Precondition, Write};
+use crate::write_result::WriteResult;
+use fs_path::DocName;
+use fs_status::{Reason, Refusal};
+use fs_time::Micros;
+use fs_value::{
+    Document, Fields, LARGEST_DOCUMENT, SharedFields, Values, fields_same, get, set, size, unset,
+};
+use std::alloc::{AllocError, Global};
+
+// Why a precondition isn't met, for the write of this number.
+fn unmet(condition: &Precondition, there: &Option<Document>, write: u32) -> Option<Reason>
+    ensures { result ≡ option_map (reason_of write) (unmet condition.now there.now) }
+{
+    match condition {
+        Precondition::None => None,
+        Precondition::Exists(wanted) => match (*wanted, there) {
+            (true, None) => Some(Reason::Missing(write)),
+            (false, Some(_)) => Some(Reason::Exists(write)),
+            _ => None,
+        },
+        Precondition::UpdateTime(time) => match there {
+            Some(document) if document.updated == *time => None,
+            Some(document) => Some(Reason::OtherTime(write, Some(document.updated))),
+            None => Some(Reason::OtherTime(write, None)),
+        },
+    }
+}
+
+// The fields at the paths of a mask become those of the input, or are deleted where the input hasn't them.
+fn merge(alloc: Global, fields: &mut Fields, input: &Fields, mask: &Paths) -> Result<(), AllocError>
+    ensures { OnOk result (fields.new ≡ merged mask.now input.now fields.old) }
+{
+    for path in mask.as_slice() {
+        match get(input, path) {
+            Some(value) => set(alloc, fields, path, value.copy(alloc)?)?,
+            None => unset(fields, path),
+        }
+    }
+    Ok(())
+}
+
+fn fields_there(alloc: Global, there: &Option<Document>) -> Result<Fields, AllocError>
+    ensures { IfOk result (λ fs. fs ≡ fields_there there.now) }
+{
+    match there {
+        Some(document) => document.fields.as_fields().copy(alloc),
+        None => Ok(Fields::new(alloc)),
+    }
+}
+
+// The fields that an act leaves, or none where it leaves no document.
+fn fields_left(
+    alloc: Global,
+    act: &Act,
+    there: &Option<Document>,
+) -> Result<Option<SharedFields>, AllocError>
+    ensures { IfOk result (λ r. r ≡ fields_left act.now there.now) }
+{
+    match act {
+        Act::Set { fields, .. } => Ok(Some(fields.copy()?)),
+        Act::Merge { fields, mask, .. } => {
+            let mut left = fields_there(alloc, there)?;
+            merge(alloc, &mut left, fields.as_fields(), mask)?;
+            Ok(Some(SharedFields::of(alloc, left)?))
+        }
+        Act::Delete { .. } => Ok(None),
+    }
+}
+
+// The fields after the transforms, and the transforms' results.
+fn transform(
+    alloc: Global,
+    fields: SharedFields,
+    transforms: &Transforms,
+    time: Micros,
+) -> Result<(SharedFields, Values), AllocError>
+    ensures fields { IfOk result (λ r. r.0 ≡ transformed transforms.now time fields) }
+    ensures results { IfOk result (λ r. r.1 ≡ transform_results transforms.now time fields) }
+{
+    // Then the document goes on sharing the fields that the write was given.
+    if transforms.is_empty() {
+        return Ok((fields, Values::new(alloc)));
+    }
+    let mut fields = fields.into_fields(alloc)?;
+    let results = apply_transforms(alloc, &mut fields, transforms, time)?;
+    Ok((SharedFields::of(alloc, fields)?, results))
+}
+
+/// Whether fields are the same.
+pub(crate) fn is_same(a: &SharedFields, b: &SharedFields) -> bool
+    ensures { result ≡ same_fields a.now b.now }
+{
+    let one = a.as_fields();
+    let other = b.as_fields();
+    fields_same(one, other)
+}
+
+// The document that these fields make of the one that is there.
+fn document_left(
+    alloc: Global,
+    there: Option<Document>,
+    name: &DocName,
+    fields: SharedFields,
+    time: Micros,
+) -> Result<Document, AllocError>
+    ensures { IfOk result (λ d. d ≡ document_left there name.now fields time) }
+{
+    let created = match there {
+        None => time,
+        Some(before) => {
+            if is_same(&before.fields, &fields) {
+                return Ok(before);
+            }
+            before.created
+        }
+    };
+    Ok(Document {
+        name: name.copy(alloc)?,
+        fields,
+        created,
+        updated: time,
+    })
+}
+
+// Why a document may not be left, for the write of this number.
+fn unfit(document: &Document, write: u32) -> Option<Reason>
+    ensures { result ≡ option_map (reason_of write) (unfit document.now) }
+{
+    if are_fields_deep(document.fields.as_fields()) {
+        return Some(Reason::DeepAfter(write));
+    }
+    let bytes = size(document);
+    if bytes > LARGEST_DOCUMENT {
+        return Some(Reason::LargeAfter(write, bytes));
+    }
+    None
+}
+
+/// Carries out the write of this number in its commit, on the document that is there or none. It answers the document
+/// that is left, if one is, and the write's result.
+pub(crate) fn carry_out(
+    alloc: Global,
+    there: Option<Document>,
+    write: &Write,
+    number: u32,
+    time: Micros,
+) -> Result<(Option<Document>, WriteResult), Refusal>
+    ensures ok { IfOk result (λ r. one_write there write.now time ≡ Ok r) }
+    ensures err { IfErr result (λ e. e ≢ refusal_of Memory → refused number (one_write there write.now time) ≡ Some e) }
+{
+    if let Some(reason) = unmet(&write.condition, &there, number) {
+        return Err(Refusal::of(reason));
+    }
+    let Some(fields) = fields_left(alloc, &write.act, &there)? else {
+        let answer = WriteResult {
+            updated: None,
+            transforms: Values::new(alloc),
+        };
+        return Ok((None, answer));
+    };
+    let (fields, transforms) = transform(alloc, fields, &write.transforms, time)?;
+    let document = document_left(alloc, there, write.name(), fields, time)?;
+    if let Some(reason) = unfit(&document, number) {
+        return Err(Refusal::of(reason));
+    }
+    let answer = WriteResult {
+        updated: Some(document.updated),
+        transforms,
+    };
+    Ok((Some(document), answer))
+}
