@@ -10,7 +10,8 @@ commits  each line commits a document of one integer
 reads    a thousand documents of one integer are committed, and then each line reads one of them
 
 Then the memory of a document is measured: what a run that commits to so many names takes more at its peak than one that
-commits as many documents to one name.
+commits as many documents to one name. At last lines of 10 MB are carried out: how long each takes, and what the run takes
+more at its peak than one without lines, by the line's bytes.
 """
 import json
 import os
@@ -169,6 +170,39 @@ def measure_memory(name, lines, seed, fields):
     print("%s: %d documents, %.0f bytes each" % (name, lines, more / lines))
 
 
+def large_documents(rand):
+    """A commit of 500 documents, each with a map of many maps of ten fields."""
+    writes = []
+    for i in range(500):
+        fields = {"m%02d" % k: {"mapValue": {"fields": ten_fields(rand)}} for k in range(26)}
+        writes.append({"update": {"name": "%s/c/d%03d" % (DOCUMENTS, i), "fields": fields}})
+    return {"commit": {"database": ROOT, "writes": writes}}
+
+
+def small_values(rand):
+    """A commit of one array of as many small values as a document may have."""
+    values = [{"integerValue": str(rand.randrange(10))} for _ in range(75000)]
+    values += [{"nullValue": None} for _ in range(270000)] + [{"booleanValue": rand.random() < 0.5} for _ in range(140000)]
+    return {"commit": {"database": ROOT, "writes": [
+        {"update": {"name": DOCUMENTS + "/c/a", "fields": {"a": {"arrayValue": {"values": values}}}}}]}}
+
+
+def long_mask(rand):
+    """A commit of an update with a mask of very many paths, in no order."""
+    paths = ["f%06d" % i for i in range(1000000)]
+    rand.shuffle(paths)
+    return {"commit": {"database": ROOT, "writes": [
+        {"update": {"name": DOCUMENTS + "/c/a"}, "updateMask": {"fieldPaths": paths}}]}}
+
+
+def measure_line(name, request):
+    script = script_of([request])
+    seconds, peak, written = best_of(script, 3)
+    less = best_of(b"", 3)[1]
+    print("%s: a line of %.1f MB, %.2f s, %.1f times its bytes, %s" % (
+        name, len(script) / 1e6, seconds, (peak - less) * 1024 / len(script), written[:40].decode()))
+
+
 def main():
     lines = int(sys.argv[1]) if len(sys.argv) > 1 else 20000
     seed = int(sys.argv[2]) if len(sys.argv) > 2 else 1
@@ -178,6 +212,8 @@ def main():
         measure(name, requests(lines, random.Random(seed)))
     measure_memory("one integer", 5 * lines, seed, one_field)
     measure_memory("ten fields", 5 * lines, seed, ten_fields)
+    for name, request in (("documents", large_documents), ("small values", small_values), ("mask", long_mask)):
+        measure_line(name, request(random.Random(seed)))
 
 
 main()

@@ -10,8 +10,6 @@ mod real;
 mod sink;
 mod source;
 mod status;
-#[cfg(test)]
-mod tests;
 
 pub use clock::Clock;
 pub use doors::{Door, Doors};

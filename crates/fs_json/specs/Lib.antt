@@ -5,3 +5,4 @@ pub mod Integer
 pub mod Base64
 pub mod Paths
 pub mod Time
+pub mod FieldPathLaws

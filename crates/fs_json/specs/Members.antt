@@ -10,7 +10,7 @@ use Rattle.serde_json.specs.Find.{get_member, as_object}
 use Rattle.fs_json.specs.Names.{snake_of, spells}
 use Rattle.fs_json.specs.Answer.{or_fault, ◌>>=◌}
 use Rattle.fs_json.specs.declared.bad.Bad.{Bad}
-use Rattle.fs_json.specs.declared.bad.Bad.TheVariants.{At}
+use Rattle.fs_json.specs.declared.bad.Bad.TheVariants.{At, Method}
 
 -- whether a member counts as there: one whose value is null counts as absent, but for `nullValue`
 abbrev pub is_given : List ℕ → Data → Bool
@@ -45,6 +45,13 @@ member_at name d place = option_map_or (λ ms. member_in name ms place) (as_obje
 -- the member of this name, which has to be there: else its own place is at fault
 abbrev pub required_at : List ℕ → Data → List ℕ → Result Data Bad
 required_at name d place = member_at name d place >>= or_fault G (member_place place name)
+
+-- ---- members that aren't built
+
+-- none of these is there; the first that is, is told
+abbrev pub unbuilt_at : List (List ℕ) → Data → List ℕ → Result ⊤ Bad
+unbuilt_at [] d place = Ok tt
+unbuilt_at (name ∷ names) d place = member_at name d place >>= λ found. option_map_or (λ _. Err (Method name)) found (unbuilt_at names d place)
 
 -- ---- no other members
 

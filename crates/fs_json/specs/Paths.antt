@@ -1,8 +1,12 @@
--- Names of documents in JSON: strings, read by the grammar of names.
-use Rattle.std.specs.Prelude.{ℕ, List, Option, Some, None, Result, Ok, Err, alloc_error}
+-- Names of documents and field paths in JSON: strings, each read by its grammar.
+use Rattle.std.specs.Prelude.{ℕ, List, [], ◌∷◌, length, Option, Some, None, Result, Ok, Err, alloc_error}
+use Rattle.std.proofs.Math.Nat.{zero-lt-suc}
 use Rattle.fs_path.specs.Document.{document_of, reference_of}
+use Rattle.fs_path.specs.Field.{field_of}
 use Rattle.fs_path.specs.Refusal.{rule_of}
 use Rattle.fs_path.specs.declared.error.PathError.{PathError}
+use Rattle.fs_path.specs.declared.error.PathError.TheVariants.{BadQuote}
+use Rattle.fs_path.specs.declared.field.FieldPath.{FieldPath}
 use Rattle.fs_path.specs.declared.name.DocName.{DocName}
 use Rattle.fs_path.specs.declared.name.Root.{Root}
 use Rattle.fs_path.specs.declared.place.Rule.{Rule}
@@ -30,3 +34,20 @@ reference_at d place = or_fault G place (as_str d) >>= λ text. path_at place (r
 -- the name of a document of this root
 abbrev pub document_name_at : Root → Data → List ℕ → Result DocName Bad
 document_name_at root d place = or_fault G place (as_str d) >>= λ text. path_at place (document_of root text)
+
+-- the path of these names, of which there is at least one
+abbrev pub path_of : List (List ℕ) → Result FieldPath PathError
+path_of [] = Err (BadQuote 0)
+path_of (name ∷ names) = Ok (record { parts = name ∷ names; some = zero-lt-suc (length names) })
+
+-- what was read of a field path's text, as a path
+abbrev pub named : Result (List (List ℕ)) PathError → Result FieldPath PathError
+named (Ok names) = path_of names
+named (Err e) = Err e
+
+abbrev pub field_path_of : List ℕ → Result FieldPath PathError
+field_path_of text = named (field_of text)
+
+-- a field path
+abbrev pub field_path_at : Data → List ℕ → Result FieldPath Bad
+field_path_at d place = or_fault G place (as_str d) >>= λ text. path_at place (field_path_of text)

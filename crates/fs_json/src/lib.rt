@@ -7,15 +7,13 @@ mod members;
 mod names;
 mod paths;
 mod scalars;
-#[cfg(test)]
-mod tests;
 mod times;
 mod write;
 
 pub use bad::Bad;
 pub use binary::{base64_forms, bytes};
-pub use members::{at_most_one_of, member, one_of, only, only_of_two, required};
-pub use paths::{document_name, reference, unless_refused};
+pub use members::{at_most_one_of, member, one_of, only, only_of_two, refuse_unbuilt, required};
+pub use paths::{document_name, field_path, reference, unless_refused};
 pub use scalars::{integer, list, small, text, truth};
 pub use times::{time, write_time};
 pub use write::{write_bytes, write_integer, write_text};

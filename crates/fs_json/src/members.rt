@@ -7,11 +7,11 @@ ghost use Rattle.serde_json.specs.Data.{Data};
 ghost use Rattle.serde_json.specs.View.{view, members_view};
 ghost use Rattle.serde_json.specs.Find.{get_member};
 ghost use Rattle.fs_json.specs.Answer.{Gives};
-ghost use Rattle.fs_json.specs.Members.{at_most_one_at, chosen, first_twice, first_unknown, given_at, is_given, is_second, member_at, first_spelled, none_or_one, one_of_at, only_at, required_at};
+ghost use Rattle.fs_json.specs.Members.{at_most_one_at, chosen, first_twice, first_unknown, given_at, is_given, is_second, member_at, first_spelled, none_or_one, one_of_at, only_at, required_at, unbuilt_at};
 
 use crate::bad::Bad;
 use crate::names::{is_snake, spells};
-use fs_path::{Rule, Way};
+use fs_path::{Rule, Text, Way};
 use serde_json::{Map, Value};
 use std::alloc::Global;
 
@@ -126,6 +126,19 @@ pub fn only_of_two(
     match first_unknown(members, these, those).or(first_twice(members, these, those)) {
         Some(key) => Err(Bad::at(alloc, Rule::G, &place.member(key))),
         None => Ok(()),
+    }
+}
+
+/// Refuses the first of these members that is there, whatever its value: each is one of Firestore's that isn't built.
+pub fn refuse_unbuilt(alloc: Global, v: &Value, names: &[&str], place: &Way<'_>) -> Result<(), Bad>
+    ensures { Gives (λ u. u) result (unbuilt_at (map (λ n. n.now) names.now) (view v.now) (place_of place.now)) }
+{
+    match names {
+        [] => Ok(()),
+        [name, rest @ ..] => match member(alloc, v, name, place)? {
+            Some(_) => Err(Bad::Method(Text::from_str(alloc, name)?)),
+            None => refuse_unbuilt(alloc, v, rest, place),
+        },
     }
 }
 

@@ -1,7 +1,7 @@
 pub mod Segments
 pub mod Reserved
 pub mod PathOrder
-pub mod Names
+pub mod NameTexts
 pub mod Refusals
 pub mod Spellings
 pub mod Documents

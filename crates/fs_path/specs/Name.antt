@@ -1,6 +1,7 @@
 -- The name of a document, and the one text that holds it: `demo/(default)/c/a` has the project `demo`, the database
 -- `(default)` and the ids `c` and `a`.
 use Rattle.std.specs.Prelude.{ℕ, ◌<◌, List, [], ◌∷◌, length}
+use Rattle.std.specs.List.{join_with_byte}
 use Rattle.fs_path.specs.Segment.{segments}
 
 -- a document's name
@@ -20,3 +21,7 @@ name_in path = named (segments path)
 -- a text that holds a name: there is a project and a database
 abbrev pub IsPath : List ℕ → Type 0
 IsPath path = 1 < length (segments path)
+
+-- the text that holds a name
+abbrev pub path_of : Name → List ℕ
+path_of n = join_with_byte 47 (n.project ∷ n.database ∷ n.ids)

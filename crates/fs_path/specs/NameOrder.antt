@@ -1,11 +1,13 @@
 -- Document names go segment by segment: project, database, and then the ids. A name that begins another comes first.
 -- (Cloud Firestore documentation, "Data types": references are ordered by path elements.)
-use Rattle.std.specs.Prelude.{◌≡◌, Bool, refl}
+use Rattle.std.specs.Prelude.{◌≡◌, Bool, true, refl}
+use Rattle.std.specs.Hash.{str}
 use Rattle.std.specs.declared.cmp.Ordering.{Ordering}
 use Rattle.std.specs.declared.cmp.Ordering.TheVariants.{Less, Equal, Greater}
 use Rattle.std.specs.Ordering.{ordering_then, then_cmp, on, eq_by_cmp, as_partial_cmp}
-use Rattle.std.specs.Cmp.{IsTotalOrder, IsEquivalence, IsPartialEquivalence, IsPartialOrder, partial_equiv_from_equiv, partial_order_from_agreeing_total}
+use Rattle.std.specs.Cmp.{Equal-is, IsTotalOrder, IsEquivalence, IsPartialEquivalence, IsPartialOrder, partial_equiv_from_equiv, partial_order_from_agreeing_total}
 use Rattle.std.proofs.lemmas.Cmp.{then_total, on_total, eq_by_cmp_equiv}
+use Rattle.fs_path.specs.Name.{path_of}
 use Rattle.fs_path.specs.declared.name.DocName.{DocName}
 use Rattle.fs_path.specs.TextOrder.{text_cmp, ids_cmp, text_cmp_total, text_same, ids_cmp_total, ids_same}
 
@@ -41,3 +43,7 @@ name_eq_partial = partial_equiv_from_equiv name_eq_equiv
 
 pub name_po : IsPartialOrder name_eq (as_partial_cmp name_cmp)
 name_po = partial_order_from_agreeing_total name_cmp name_cmp_total (λ _ _. refl) (λ _ _. refl)
+
+-- equal names feed a hasher alike
+pub name_hashed_alike : (a b : DocName) → name_eq a b ≡ true → str (path_of a) ≡ str (path_of b)
+name_hashed_alike a b same = λ i. str (path_of (name_same a b ((Equal-is _).0 same) i))

@@ -38,3 +38,7 @@ pub record IsId (id : List ℕ) : Type 0 where
   pub free : is_reserved id ≡ false
   pub no_dots : is_dots id ≡ false
   pub short : length id ≤ max_id
+
+-- no collection and no document may have this id
+abbrev pub is_bad_id : List ℕ → Bool
+is_bad_id id = is_empty id || (has_slash id || (is_reserved id || (is_dots id || is_long id)))

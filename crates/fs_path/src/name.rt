@@ -8,6 +8,7 @@ use crate::segment::{count_of, first_segment, segment_at};
 use crate::text::Text;
 use std::alloc::{AllocError, Global};
 use std::cmp::Ordering;
+use std::hash::{Hash, Hasher};
 use std::marker::Model;
 
 /// The root of a server's documents: its project and its database.
@@ -210,5 +211,20 @@ impl Ord for DocName {
     #[tactic(auto, using(crate::proofs::PathOrder::name_cmp_paths))]
     fn cmp(&self, other: &DocName) -> Ordering {
         compare_paths(self.path.as_bytes(), other.path.as_bytes())
+    }
+}
+
+impl Hash for DocName {
+    ghost use Rattle.std.specs.Hash as fed;
+    ghost use Rattle.fs_path.specs.Name.{path_of};
+    ghost use Rattle.fs_path.specs.NameOrder.{name_hashed_alike};
+
+    ghost hash_input = { λ n. fed.str (path_of n) };
+
+    ghost respects_eq = { name_hashed_alike };
+
+    #[tactic(auto, using(crate::proofs::NameTexts::path_again))]
+    fn hash<H: Hasher>(&self, state: &mut H) {
+        self.path.as_str().hash(state);
     }
 }

@@ -1,8 +1,10 @@
 //! The segments of a path.
 ghost use Rattle.std.specs.Prelude.{◌≡◌, ◌↔◌, ◌∷◌, IsTrue, ◌<◌, false, length, slice_get, IfSome, Some};
 ghost use Rattle.std.specs.Option.{option_copied};
-ghost use Rattle.fs_path.specs.Segment.{segments, has_slash, is_reserved, is_dots, IsReserved};
+ghost use Rattle.fs_path.specs.Segment.{segments, has_slash, is_reserved, is_dots, is_bad_id, IsReserved};
 ghost use Rattle.fs_path.specs.Cursor.{rest_segments};
+
+use crate::limits::MAX_ID;
 
 /// The text before the first slash, and the text after it where there is one: of `c/a/x/b` it gives `c` and `a/x/b`.
 pub fn first_segment(text: &str) -> (&str, Option<&str>)
@@ -66,4 +68,18 @@ pub(crate) fn is_dots(text: &str) -> bool
     ensures { result ≡ is_dots text.now }
 {
     text == "." || text == ".."
+}
+
+/// Whether no collection and no document may have this id: it is empty, has a slash, matches `__.*__`, is `.` or `..`, or is
+/// longer than 1,500 bytes. (Cloud Firestore documentation, "Usage and limits": collections, documents, and fields.)
+pub fn is_bad_id(id: &str) -> bool
+    ensures { result ≡ is_bad_id id.now }
+{
+    id.is_empty() || has_slash(id) || is_reserved(id) || is_dots(id) || id.len() > MAX_ID
+}
+
+fn has_slash(text: &str) -> bool
+    ensures { result ≡ has_slash text.now }
+{
+    text.as_bytes().iter().any(|b| *b == b'/')
 }

@@ -6,8 +6,6 @@ mod id;
 mod printing;
 mod reason;
 mod refusal;
-#[cfg(test)]
-mod tests;
 
 pub use code::Code;
 pub use id::Id;

@@ -6,8 +6,6 @@ mod micros;
 mod parts;
 mod printing;
 mod reading;
-#[cfg(test)]
-mod tests;
 
 pub use error::TimeError;
 pub use micros::Micros;

@@ -115,3 +115,9 @@ pub document_put : (created updated : json.Data) (name : List ℕ) (fields : jso
     ≡ json.member (codes "createTime") created (with_fields fields (json.member (codes "name") (json.string name) (json.member (codes "updateTime") updated json.no_members)))
 document_put created updated name json.no_members = refl
 document_put created updated name (json.member k d ms) = refl
+
+-- the same of an update's document
+pub update_put : (name : List ℕ) (fields : json.Members)
+    → json.put (codes "name") (json.string name) (with_fields_put fields json.no_members) ≡ with_fields fields (json.member (codes "name") (json.string name) json.no_members)
+update_put name json.no_members = refl
+update_put name (json.member k d ms) = refl

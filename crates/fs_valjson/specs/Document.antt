@@ -3,6 +3,7 @@ use Rattle.std.specs.Prelude.{ℕ, ℤ, pos, List, [], ◌∷◌, Result, Ok, co
 use Rattle.std.specs.Option.{option_map_or}
 use Rattle.fs_path.specs.Document.{document_text}
 use Rattle.fs_path.specs.Place.{member_place}
+use Rattle.fs_path.specs.declared.name.DocName.{DocName}
 use Rattle.fs_path.specs.declared.name.Root.{Root}
 use Rattle.serde_json.specs.Data as json
 use Rattle.fs_value.specs.Data.{Data, members_of}
@@ -48,3 +49,11 @@ unfoldable pub document_json : Document → json.Data
 document_json d =
     json.object (json.member (codes "createTime") (time_json d.created) (with_fields (members_json (members_of d.fields))
     (json.member (codes "name") (json.string (document_text d.name)) (json.member (codes "updateTime") (time_json d.updated) json.no_members))))
+
+-- a document as an update has it, without times
+unfoldable pub update_json : DocName → List (List ℕ × Data) → json.Data
+update_json name fields = json.object (with_fields (members_json (members_of fields)) (json.member (codes "name") (json.string (document_text name)) json.no_members))
+
+-- the document that it is read as
+abbrev pub untimed : DocName → List (List ℕ × Data) → Document
+untimed name fields = record { name = name; fields = fields; created = pos 0; updated = pos 0 }

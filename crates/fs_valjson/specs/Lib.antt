@@ -3,3 +3,4 @@ pub mod Reading
 pub mod Steps
 pub mod Writing
 pub mod Valid
+pub mod FloatLaws

@@ -6,7 +6,7 @@ use Rattle.fs_path.specs.Place.{member_place, item_place}
 use Rattle.fs_path.specs.declared.place.Rule.TheVariants.{G}
 use Rattle.serde_json.specs.Data as json
 use Rattle.serde_json.specs.Find.{as_bool, as_str}
-use Rattle.fs_value.specs.Data.{Data, null, boolean, integer, timestamp, string, bytes, reference, array, object, items_of}
+use Rattle.fs_value.specs.Data.{Data, null, boolean, integer, timestamp, string, bytes, reference, array, items_of}
 use Rattle.fs_value.specs.FieldPaths.{map_of}
 use Rattle.fs_json.specs.Answer.{or_fault, ◌>>=◌}
 use Rattle.fs_json.specs.Base64.{bytes_of}

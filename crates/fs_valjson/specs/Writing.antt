@@ -2,7 +2,7 @@
 use Rattle.std.specs.Prelude.{ℕ, List, codes}
 use Rattle.fs_path.specs.Document.{document_text, IsDocument}
 use Rattle.serde_json.specs.Data as json
-use Rattle.fs_value.specs.Data.{Data, null, boolean, integer, timestamp, string, bytes, reference, array, object, Items, no_items, item, Members, no_members, member}
+use Rattle.fs_value.specs.Data.{Data, null, boolean, integer, timestamp, string, bytes, reference, array, object, Items, no_items, item, Members, no_members, member, items_of}
 use Rattle.fs_json.specs.Base64.{bytes_json}
 use Rattle.fs_json.specs.Integer.{integer_json}
 use Rattle.fs_json.specs.Time.{time_json}
@@ -39,6 +39,13 @@ abbrev mutual
   pub members_json : Members → json.Members
   members_json no_members = json.no_members
   members_json (member k d ms) = json.member k (value_json d) (members_json ms)
+
+-- the content of an array, and a list of values
+abbrev pub array_json : List Data → json.Data
+array_json ds = list_content (items_json (items_of ds))
+
+abbrev pub list_json : List Data → json.Data
+list_json ds = json.array (items_json (items_of ds))
 
 -- ---- what is read back
 

@@ -4,9 +4,9 @@ ghost use Rattle.fs_value.specs.Data.{items_of, members_of};
 ghost use Rattle.fs_value.specs.View.{view};
 ghost use Rattle.serde_json.specs.Written.{has_float};
 ghost use Rattle.serde_json.specs.View.{view as json, items_view, members_view};
-ghost use Rattle.fs_valjson.specs.Reading.{value_at};
+ghost use Rattle.fs_valjson.specs.Reading.{array_at, list_at, value_at};
 ghost use Rattle.fs_valjson.specs.Valid.{IsHeld, ItemsAreHeld, MembersAreHeld};
-ghost use Rattle.fs_valjson.specs.Writing.{value_json, items_json, members_json, list_content, fields_content, with_one, HasNames};
+ghost use Rattle.fs_valjson.specs.Writing.{value_json, items_json, members_json, list_content, fields_content, array_json, list_json, with_one, HasNames, ItemsHaveNames};
 
 use crate::names::{
     ARRAY_VALUE, BOOLEAN_VALUE, BYTES_VALUE, FIELDS, INTEGER_VALUE, MAP_VALUE, NULL_VALUE,
@@ -32,6 +32,27 @@ pub fn write_value(alloc: Global, v: &Value) -> Result<serde_json::Value, AllocE
     write(alloc, v)
 }
 
+/// Writes the content of an array: an object whose member `values` has its elements, or that is empty where there are
+/// none.
+pub fn write_array(alloc: Global, values: &Values) -> Result<serde_json::Value, AllocError>
+    ensures value { IfOk result (λ j. json j ≡ array_json values.now) }
+    ensures no_float { IfOk result (λ j. has_float (json j) ≡ false) }
+    ensures reads_back { IfOk result (λ j. (place : List ℕ) → ItemsHaveNames (items_of values.now)
+        → array_at (json j) place ≡ Ok values.now) }
+{
+    write_content(alloc, values)
+}
+
+/// Writes a list of values.
+pub fn write_list(alloc: Global, values: &Values) -> Result<serde_json::Value, AllocError>
+    ensures value { IfOk result (λ j. json j ≡ list_json values.now) }
+    ensures no_float { IfOk result (λ j. has_float (json j) ≡ false) }
+    ensures reads_back { IfOk result (λ j. (place : List ℕ) → ItemsHaveNames (items_of values.now)
+        → list_at (json j) place ≡ Ok values.now) }
+{
+    Ok(serde_json::Value::Array(write_items(alloc, values)?))
+}
+
 #[cycle(write)]
 fn write(alloc: Global, v: &Value) -> Result<serde_json::Value, AllocError>
     ensures value { IfOk result (λ j. json j ≡ value_json (view v.now)) }
@@ -52,21 +73,30 @@ fn write(alloc: Global, v: &Value) -> Result<serde_json::Value, AllocError>
                 serde_json::Value::String(text.into_string()),
             )
         }
-        Value::Array(values) => with_one(alloc, ARRAY_VALUE, write_array(alloc, values)?),
+        Value::Array(values) => with_one(alloc, ARRAY_VALUE, write_content(alloc, values)?),
         Value::Map(fields) => with_one(alloc, MAP_VALUE, write_map(alloc, fields)?),
     }
 }
 
 #[cycle(write)]
-fn write_array(alloc: Global, values: &Values) -> Result<serde_json::Value, AllocError>
+fn write_content(alloc: Global, values: &Values) -> Result<serde_json::Value, AllocError>
     ensures value { IfOk result (λ j. json j ≡ list_content (items_json (items_of values.now))) }
+    ensures held { OnOk result (ItemsAreHeld (items_of values.now)) }
+{
+    let items = write_items(alloc, values)?;
+    list_content(alloc, items)
+}
+
+#[cycle(write)]
+fn write_items(alloc: Global, values: &Values) -> Result<Vec<serde_json::Value>, AllocError>
+    ensures value { IfOk result (λ l. items_view l.items ≡ items_json (items_of values.now)) }
     ensures held { OnOk result (ItemsAreHeld (items_of values.now)) }
 {
     let mut items = Vec::with_capacity(alloc, values.len())?;
     for value in values.as_slice() {
         items.push(write(alloc, value)?)?;
     }
-    list_content(alloc, items)
+    Ok(items)
 }
 
 #[cycle(write)]

@@ -134,6 +134,9 @@ impl DocumentMap {
     pub fn documents(&self, alloc: Global) -> Result<Documents, AllocError>
         ensures value { IfOk result (λ ds. ds ≡ map.values self.now) }
         ensures rise { IfOk result (λ ds. IsTrue (map.is_sorted name_cmp (by_name ds))) }
+
+        // Each by its own name, they are those of the map.
+        ensures same { IfOk result (λ ds. map.from_sorted (by_name ds) ≡ self.now) }
     {
         let mut items = Vec::with_capacity(alloc, self.documents.len())?;
         for (name, held) in &self.documents {

@@ -11,8 +11,6 @@ mod order;
 mod ordered;
 mod path;
 mod shared;
-#[cfg(test)]
-mod tests;
 mod value;
 mod values;
 

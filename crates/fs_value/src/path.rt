@@ -171,6 +171,3 @@ pub fn paths_are_lawful()
     ensures unset_keys { (p : List (List ℕ)) (ks : List (List ℕ)) (k : List ℕ) (l : List ℕ) (fs : List (List ℕ × Data)) → l ≢ k
         → get_fields (p ++ l ∷ []) (unset_fields (p ++ k ∷ ks) fs) ≡ get_fields (p ++ l ∷ []) fs }
 {}
-
-#[cfg(test)]
-mod tests;

@@ -14,7 +14,7 @@ use Rattle.fs_value.specs.declared.document.Document.{Document}
 use Rattle.fs_write.specs.Batch.{Docs, with_document, after_write, next_write, all_writes, batch, is_unchanged, change_of, changes_by_name, IsOutcome, changed_to, document_after}
 use Rattle.fs_write.specs.OneWrite.{Fault, one_write}
 use Rattle.fs_write.specs.Refused.{reason_of}
-use Rattle.fs_write.specs.WrittenName.{written_name, act_name}
+use Rattle.fs_write.specs.WrittenName.{written_name, act_name, is_written}
 use Rattle.fs_write.specs.declared.change.Change.{Change}
 use Rattle.fs_write.specs.declared.write.Act.TheVariants.{Delete}
 use Rattle.fs_write.specs.declared.write.Write.{Write}
@@ -35,7 +35,7 @@ same_ok p q is = ap (so_far_in p) is
 
 -- ---- the first refusal
 
-all_appended : (xs ys : List Write) (p : Result (Docs × List WriteResult) Refusal) (t : ℤ) → all_writes p (xs ++ ys) t ≡ all_writes (all_writes p xs t) ys t
+pub all_appended : (xs ys : List Write) (p : Result (Docs × List WriteResult) Refusal) (t : ℤ) → all_writes p (xs ++ ys) t ≡ all_writes (all_writes p xs t) ys t
 all_appended [] ys p t = refl
 all_appended (x ∷ xs) ys p t = all_appended xs ys (next_write p x t) t
 
@@ -171,11 +171,6 @@ refused_alike (w ∷ ws) docs other rs t e agree is =
     next_refused w ws docs other rs t e (λ x at. agree x (later_one w ws x at)) (λ x y qs agreed h. refused_alike ws x y qs t e agreed h) (one_write (get docs (written_name w)) w t) (one_write (get other (written_name w)) w t)
     (ap (λ o. one_write o w t) (sym (agree w (first_one w ws)))) is
 
--- whether some write has this name
-written : List Write → DocName → Bool
-written [] q = false
-written (w ∷ ws) q = is_at (name_cmp (written_name w)) q || written ws q
-
 either_false : (a b : Bool) → (a || b) ≡ false → (a ≡ false) × (b ≡ false)
 either_false true b h = absurd (cc)
 either_false false b h = (refl, h)
@@ -189,20 +184,18 @@ next_untouched w ws docs rs t p q here more (Ok done) is =
     ∙ get-with_document docs (written_name w) done.0 q
     ∙ ap (λ b. cond b done.0 (get docs q)) here
 
-untouched : (ws : List Write) (docs : Docs) (rs : List WriteResult) (t : ℤ) (p : Docs × List WriteResult) (q : DocName) → written ws q ≡ false → all_writes (Ok (docs, rs)) ws t ≡ Ok p → get p.0 q ≡ get docs q
-unfolding written
+pub untouched : (ws : List Write) (docs : Docs) (rs : List WriteResult) (t : ℤ) (p : Docs × List WriteResult) (q : DocName) → is_written q ws ≡ false → all_writes (Ok (docs, rs)) ws t ≡ Ok p → get p.0 q ≡ get docs q
 untouched [] docs rs t p q apart is = ap (λ (x : Docs × List WriteResult). get x.0 q) (sym (same_ok (docs, rs) p is))
 untouched (w ∷ ws) docs rs t p q apart is =
-    let both = either_false (is_at (name_cmp (written_name w)) q) (written ws q) apart in
+    let both = either_false (is_at (name_cmp (written_name w)) q) (is_written q ws) apart in
     next_untouched w ws docs rs t p q both.0 (λ x qs h. untouched ws x qs t p q both.1 h) (one_write (get docs (written_name w)) w t) is
 
-next_agrees : (w : Write) (ws : List Write) (docs other : Docs) (q : DocName) (b : Bool) → get docs (written_name w) ≡ get other (written_name w) → (written ws q ≡ true → get docs q ≡ get other q)
-    → is_at (name_cmp (written_name w)) q ≡ b → (b || written ws q) ≡ true → get docs q ≡ get other q
+next_agrees : (w : Write) (ws : List Write) (docs other : Docs) (q : DocName) (b : Bool) → get docs (written_name w) ≡ get other (written_name w) → (is_written q ws ≡ true → get docs q ≡ get other q)
+    → is_at (name_cmp (written_name w)) q ≡ b → (b || is_written q ws) ≡ true → get docs q ≡ get other q
 next_agrees w ws docs other q true here more ties is = subst (λ n. get docs n ≡ get other n) (name_at (written_name w) q ties) here
 next_agrees w ws docs other q false here more ties is = more is
 
-written_agrees : (ws : List Write) (docs other : Docs) (q : DocName) → Agree ws docs other → written ws q ≡ true → get docs q ≡ get other q
-unfolding written
+written_agrees : (ws : List Write) (docs other : Docs) (q : DocName) → Agree ws docs other → is_written q ws ≡ true → get docs q ≡ get other q
 written_agrees [] docs other q agree is = absurd (cc)
 written_agrees (w ∷ ws) docs other q agree is =
     next_agrees w ws docs other q (is_at (name_cmp (written_name w)) q) (agree w (first_one w ws)) (λ h. written_agrees ws docs other q (λ x at. agree x (later_one w ws x at)) h) refl is
@@ -210,7 +203,7 @@ written_agrees (w ∷ ws) docs other q agree is =
 no_change : (q : DocName) (o : Option Document) → change_of q o o ≡ None
 no_change q o = ap (λ b. cond b None (Some (record { name = q; before = o; after = o }))) (unchanged_itself o)
 
-change_alike : (ws : List Write) (docs other after then : Docs) (rs qs : List WriteResult) (t : ℤ) (q : DocName) (b : Bool) → written ws q ≡ b → Agree ws docs other
+change_alike : (ws : List Write) (docs other after then : Docs) (rs qs : List WriteResult) (t : ℤ) (q : DocName) (b : Bool) → is_written q ws ≡ b → Agree ws docs other
     → all_writes (Ok (docs, [])) ws t ≡ Ok (after, rs) → all_writes (Ok (other, [])) ws t ≡ Ok (then, qs) → (get docs q ≡ get other q → get after q ≡ get then q)
     → change_of q (get docs q) (get after q) ≡ change_of q (get other q) (get then q)
 change_alike ws docs other after then rs qs t q true is agree one two same =
@@ -231,7 +224,7 @@ law_named docs other ws t cs rs agree had =
       done = a.1;
       changed = record {
         rise = had.changed.rise;
-        told = λ q. had.changed.told q ∙ change_alike ws docs other had.after a.0 rs rs t q (written ws q) refl agree had.done a.1 (a.2 q);
+        told = λ q. had.changed.told q ∙ change_alike ws docs other had.after a.0 rs rs t q (is_written q ws) refl agree had.done a.1 (a.2 q);
       };
     }
 

@@ -1,8 +1,12 @@
+pub mod AfterLaws
 pub mod Arrays
 pub mod BatchLaws
 pub mod Elements
 pub mod Fields
+pub mod Names
 pub mod Numbers
+pub mod Overlaps
 pub mod StageChanges
 pub mod Stages
+pub mod ValueSets
 pub mod WriteLaws

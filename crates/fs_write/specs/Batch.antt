@@ -5,7 +5,7 @@
 --     at 9     c/a to {n: 2}; c/b to {n: 2}; c/b to {n: 1}; c/d to {n: 1}; c/d deleted
 --     after    c/a {n: 2}, updated at 9       c/b is the one of before      no c/d: the one change is that of c/a
 -- (Cloud Firestore documentation, "Transactions and batched writes".)
-use Rattle.std.specs.Prelude.{◌≡◌, ℤ, IsTrue, Bool, true, false, List, [], ◌∷◌, ◌++◌, map, length, Option, Some, None, Result, Ok, Err, if◌then◌else◌}
+use Rattle.std.specs.Prelude.{◌≡◌, ℤ, IsTrue, IfSome, Bool, true, false, List, [], ◌∷◌, ◌++◌, map, length, Option, Some, None, Result, Ok, Err, if◌then◌else◌}
 use Rattle.std.specs.FinMap.{FinMap, find, get, insert, remove, from_sorted, is_sorted}
 use Rattle.fs_path.specs.NameOrder.{name_cmp}
 use Rattle.fs_path.specs.declared.name.DocName.{DocName}
@@ -72,6 +72,10 @@ changes_by_name changes = map (λ c. (c.name, c)) changes
 pub record AreChanges (before after : Docs) (changes : List Change) : Type 0 where
   pub rise : IsTrue (is_sorted name_cmp (changes_by_name changes))
   pub told : (name : DocName) → find name_cmp name (changes_by_name changes) ≡ change_of name (get before name) (get after name)
+
+-- the documents of a change bear its name
+abbrev pub IsNamed : Change → Type 0
+IsNamed c = IfSome c.before (λ d. d.name ≡ c.name) × IfSome c.after (λ d. d.name ≡ c.name)
 
 -- ---- what a commit comes to
 

@@ -1,4 +1,7 @@
+pub mod After
 pub mod Batch
+pub mod Limits
+pub mod Neighbours
 pub mod OneWrite
 pub mod Operation
 pub mod Refused
@@ -6,4 +9,5 @@ pub mod Rules
 pub mod Staging
 pub mod Transforms
 pub mod ValueRules
+pub mod ValueSets
 pub mod WrittenName

@@ -1,11 +1,12 @@
 //! The writes of a commit, one after another.
 ghost use Rattle.std.specs.Prelude.{◌≡◌, ◌≢◌, ◌<◌, ◌^◌, IsTrue, IfOk, IfErr, Ok, Err, Some, length};
 ghost use Rattle.std.specs.FinMap.{get, is_sorted};
+ghost use Rattle.std.specs.List.{AllByRecursion};
 ghost use Rattle.fs_path.specs.NameOrder.{name_cmp};
 ghost use Rattle.fs_status.specs.Refusal.{refusal_of};
 ghost use Rattle.fs_status.specs.declared.reason.Reason.TheVariants.{Memory};
 ghost use Rattle.fs_value.specs.Named.{by_name};
-ghost use Rattle.fs_write.specs.Batch.{Docs, docs_of, batch, is_unchanged, IsOutcome};
+ghost use Rattle.fs_write.specs.Batch.{Docs, docs_of, batch, is_unchanged, IsNamed, IsOutcome};
 ghost use Rattle.fs_write.specs.OneWrite.{one_write};
 ghost use Rattle.fs_write.specs.Refused.{refused};
 ghost use Rattle.fs_write.specs.Staging.{staged_at, both_of, IsStage, IsTaken, IsNext, TellsStage};
@@ -139,6 +140,7 @@ pub fn apply_batch(
     requires rising { IsTrue (is_sorted name_cmp (by_name docs.now)) }
     requires few { length writes.now < 2 ^ 32 }
     ensures ok { IfOk result (λ r. IsOutcome (docs_of docs.now) writes.now time r.0 r.1) }
+    ensures named { IfOk result (λ r. AllByRecursion IsNamed r.0) }
     ensures err { IfErr result (λ e. e ≢ refusal_of Memory → batch (docs_of docs.now) writes.now time ≡ Err e) }
 {
     let mut stage = BTreeMap::new(alloc);
@@ -150,6 +152,3 @@ pub fn apply_batch(
     }
     Ok((changes_of(alloc, stage)?, results))
 }
-
-#[cfg(test)]
-mod tests;

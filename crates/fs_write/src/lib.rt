@@ -2,15 +2,15 @@
 #![tactic(auto)]
 
 mod apply;
+mod array;
 mod batch;
 mod change;
 mod laws;
+mod limits;
 mod one_write;
 mod operation;
-mod paths;
+mod overlap;
 mod rules;
-#[cfg(test)]
-mod tests;
 mod transform;
 mod value_rules;
 mod write;
@@ -21,8 +21,9 @@ pub use apply::apply_transforms;
 pub use batch::apply_batch;
 pub use change::{Change, Changes};
 pub use laws::operations_are_lawful;
-pub use paths::Paths;
-pub use rules::check;
+pub use limits::LONGEST_TRANSFORM_PATH;
+pub use overlap::overlap_with;
+pub use rules::{check, check_with};
 pub use transform::{Operation, Transform, Transforms};
 pub use write::{Act, Precondition, Write, Writes};
 pub use write_laws::{batches_are_lawful, writes_are_lawful};

@@ -7,12 +7,11 @@ ghost use Rattle.fs_write.specs.Refused.{reason_of, refused};
 ghost use Rattle.fs_write.specs.Transforms.{transformed, transform_results};
 
 use crate::apply::apply_transforms;
-use crate::paths::Paths;
 use crate::transform::Transforms;
 use crate::value_rules::are_fields_deep;
 use crate::write::{Act, Precondition, Write};
 use crate::write_result::WriteResult;
-use fs_path::DocName;
+use fs_path::{DocName, Paths};
 use fs_status::{Reason, Refusal};
 use fs_time::Micros;
 use fs_value::{

@@ -1,8 +1,9 @@
 //! What each operation of a transform makes of a field.
 ghost use Rattle.std.specs.Prelude.{◌≡◌, [], IfOk, option_map, unwrap_or};
 ghost use Rattle.fs_value.specs.View.{view};
-ghost use Rattle.fs_write.specs.Operation.{integer_in, whole_milliseconds, elements_in, has_value, append_missing, remove_all, value_after};
+ghost use Rattle.fs_write.specs.Operation.{integer_in, whole_milliseconds, elements_in, value_after};
 
+use crate::array::{append_missing, remove_all};
 use crate::transform::Operation;
 use fs_time::Micros;
 use fs_value::{Value, Values};
@@ -76,57 +77,4 @@ fn elements_in(there: Option<&Value>) -> Option<&Values>
         Some(Value::Array(elements)) => Some(elements),
         _ => None,
     }
-}
-
-// These elements and those values, each unless it is there by then.
-fn append_missing(
-    alloc: Global,
-    there: Option<&Values>,
-    values: &Values,
-) -> Result<Values, AllocError>
-    ensures { IfOk result (λ vs. vs ≡ append_missing (unwrap_or (option_map (λ vs. vs.now) there.entry) []) values.now) }
-{
-    let mut elements = match there {
-        Some(elements) => elements.copy(alloc)?,
-        None => Values::new(alloc),
-    };
-    for value in values.as_slice() {
-        if !has_value(&elements, value) {
-            elements.push(value.copy(alloc)?)?;
-        }
-    }
-    Ok(elements)
-}
-
-// These elements without those values.
-fn remove_all(alloc: Global, there: Option<&Values>, values: &Values) -> Result<Values, AllocError>
-    ensures { IfOk result (λ vs. vs ≡ remove_all (unwrap_or (option_map (λ vs. vs.now) there.entry) []) values.now) }
-{
-    match there {
-        Some(elements) => without(alloc, elements, values),
-        None => Ok(Values::new(alloc)),
-    }
-}
-
-fn without(alloc: Global, elements: &Values, values: &Values) -> Result<Values, AllocError>
-    ensures { IfOk result (λ vs. vs ≡ remove_all elements.now values.now) }
-{
-    let mut kept = Values::new(alloc);
-    for element in elements.as_slice() {
-        if !has_value(values, element) {
-            kept.push(element.copy(alloc)?)?;
-        }
-    }
-    Ok(kept)
-}
-
-fn has_value(values: &Values, value: &Value) -> bool
-    ensures { result ≡ has_value values.now (view value.now) }
-{
-    for one in values.as_slice() {
-        if value == one {
-            return true;
-        }
-    }
-    false
 }

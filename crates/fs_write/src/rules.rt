@@ -1,8 +1,10 @@
 //! The rules that a write may break though it was read.
-ghost use Rattle.std.specs.Prelude.{◌≡◌, [], option_map, unwrap_or};
+ghost use Rattle.std.specs.Prelude.{◌≡◌, [], IfOk, option_map, unwrap_or};
 ghost use Rattle.std.specs.List.{list_any};
-ghost use Rattle.fs_write.specs.Rules.{input, masked, is_delete, operand, overlap, some_overlap, path_has_bad_name, transform_has_bad_name, write_has_bad_name, is_deep_transform, is_deep_write, transform_has_arrays, write_has_array_in_array, rule_of_write};
+ghost use Rattle.fs_write.specs.Rules.{input, masked, is_delete, operand, some_overlap, path_has_bad_name, transform_has_bad_name, write_has_bad_name, is_deep_transform, is_deep_write, transform_has_arrays, write_has_array_in_array, rule_of_write};
 
+use crate::limits::LONGEST_TRANSFORM_PATH;
+use crate::overlap::{some_overlap, some_overlap_with};
 use crate::transform::{Operation, Transform};
 use crate::value_rules::{
     are_fields_deep, are_items_deep, fields_have_array_in_array, fields_have_bad_name,
@@ -11,16 +13,35 @@ use crate::value_rules::{
 use crate::write::{Act, Write};
 use fs_path::{FieldPath, is_bad_field_name};
 use fs_value::{Fields, Values};
+use std::alloc::{AllocError, Global};
 
-/// The least rule of writes that a write breaks, or none. It takes no memory.
+/// The least rule of writes that a write breaks, or none. It takes no memory, but compares each path of the mask with each:
+/// `check_with` doesn't.
 ///
 /// 2: two paths of the mask are equal, or one begins the other. 3: a delete with transforms. 5: a field has a name that no
-/// document may have. 6: a value nests deeper than `DEEPEST_VALUE`. 7: an array directly holds an array. (Cloud Firestore
-/// documentation, "Usage and limits"; v1 reference, "Write" and "DocumentMask".)
+/// document may have. 6: a value nests deeper than `DEEPEST_VALUE`, or a transform's path has more names than
+/// `LONGEST_TRANSFORM_PATH`. 7: an array directly holds an array. (Cloud Firestore documentation, "Usage and limits"; v1
+/// reference, "Write" and "DocumentMask".)
 pub fn check(write: &Write) -> Option<u8>
     ensures { result ≡ rule_of_write write.now }
 {
-    if some_overlap(masked(&write.act)) {
+    least_rule(write, some_overlap(masked(&write.act)))
+}
+
+/// The least rule of writes that a write breaks, or none, as `check` tells it. The paths of the mask are sorted, for which it
+/// takes memory; it refuses only for want of it.
+pub fn check_with(alloc: Global, write: &Write) -> Result<Option<u8>, AllocError>
+    ensures { IfOk result (λ r. r ≡ rule_of_write write.now) }
+{
+    Ok(least_rule(write, some_overlap_with(alloc, masked(&write.act))?))
+}
+
+// The least rule that a write breaks, whose mask has paths that overlap or hasn't.
+fn least_rule(write: &Write, overlaps: bool) -> Option<u8>
+    requires { overlaps ≡ some_overlap (masked write.now.act) }
+    ensures { result ≡ rule_of_write write.now }
+{
+    if overlaps {
         Some(2)
     } else if is_delete(&write.act) && !write.transforms.is_empty() {
         Some(3)
@@ -76,31 +97,6 @@ fn operand(operation: &Operation) -> Option<&Values>
     }
 }
 
-fn overlap(a: &FieldPath, b: &FieldPath) -> bool
-    ensures { result ≡ overlap a.now b.now }
-{
-    let (p, q) = (a.parts.as_slice(), b.parts.as_slice());
-    p.starts_with(q) || q.starts_with(p)
-}
-
-fn overlaps_one(path: &FieldPath, others: &[FieldPath]) -> bool
-    ensures { result ≡ list_any (overlap path.now) others.now }
-{
-    others.iter().any(|other| overlap(path, other))
-}
-
-// Whether two of these paths are equal, or one begins the other.
-fn some_overlap(paths: &[FieldPath]) -> bool
-    ensures { result ≡ some_overlap paths.now }
-{
-    for (i, path) in paths.iter().enumerate() {
-        if overlaps_one(path, &paths[i + 1..]) {
-            return true;
-        }
-    }
-    false
-}
-
 fn path_has_bad_name(path: &FieldPath) -> bool
     ensures { result ≡ path_has_bad_name path.now }
 {
@@ -140,7 +136,8 @@ fn has_bad_name(write: &Write) -> bool
 fn is_deep_transform(transform: &Transform) -> bool
     ensures { result ≡ is_deep_transform transform.now }
 {
-    operand(&transform.operation).is_some_and(|values| are_items_deep(values))
+    transform.path.parts.len() > LONGEST_TRANSFORM_PATH
+        || operand(&transform.operation).is_some_and(|values| are_items_deep(values))
 }
 
 fn are_transforms_deep(transforms: &[Transform]) -> bool

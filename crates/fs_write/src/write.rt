@@ -1,7 +1,7 @@
 //! The writes of a commit.
-use crate::paths::Paths;
+
 use crate::transform::Transforms;
-use fs_path::DocName;
+use fs_path::{DocName, Paths};
 use fs_time::Micros;
 use fs_value::SharedFields;
 use std::alloc::{AllocError, Global};

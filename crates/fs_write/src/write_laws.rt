@@ -11,12 +11,13 @@ ghost use Rattle.fs_value.specs.FieldPaths.{get_fields, IsApart};
 ghost use Rattle.fs_value.specs.Limits.{deepest_value, largest_document};
 ghost use Rattle.fs_value.specs.Size.{document_size};
 ghost use Rattle.fs_value.specs.declared.document.Document.{Document};
+ghost use Rattle.fs_write.specs.After.{after_batch};
 ghost use Rattle.fs_write.specs.Batch.{Docs, batch, is_unchanged, document_after, IsOutcome};
 ghost use Rattle.fs_write.specs.OneWrite.{Fault, merged, fields_left, one_write};
 ghost use Rattle.fs_write.specs.Refused.{reason_of};
 ghost use Rattle.fs_write.specs.Rules.{some_overlap};
 ghost use Rattle.fs_write.specs.Transforms.{transformed};
-ghost use Rattle.fs_write.specs.WrittenName.{written_name};
+ghost use Rattle.fs_write.specs.WrittenName.{written_name, is_written};
 ghost use Rattle.fs_write.specs.declared.change.Change.{Change};
 ghost use Rattle.fs_write.specs.declared.write.Act.TheVariants.{Set, Delete};
 ghost use Rattle.fs_write.specs.declared.write.Precondition.TheVariants as condition;
@@ -61,7 +62,8 @@ pub fn writes_are_lawful()
 /// The laws of batches, for all documents, writes and times. A batch whose first refused write has some number is refused
 /// with that number, and a refused batch has no changes. There is one list of changes, and one of results. A name whose
 /// document ends with the existence and the fields of before has its document of before, and any other has what the writes
-/// left. A delete alone leaves none. Only the documents that the writes name matter.
+/// left; the documents after the batch are those, and after a refused one those of before. A name that isn't written has its
+/// document of before, and of one that is, the last write decides. A delete alone leaves none. Only the documents that the writes name matter.
 pub fn batches_are_lawful()
     ensures first_refused { (docs : Docs) (done : List Write) (w : Write) (rest : List Write) (t : ℤ) (so_far : Docs × List WriteResult) (fault : Fault)
         → batch docs done t ≡ Ok so_far → one_write (get so_far.0 (written_name w)) w t ≡ Err fault
@@ -74,6 +76,20 @@ pub fn batches_are_lawful()
         → is_unchanged (get docs name) (get had.after name) ≡ true → document_after docs cs name ≡ get docs name }
     ensures differs { (docs : Docs) (ws : List Write) (t : ℤ) (cs : List Change) (rs : List WriteResult) (name : DocName) (had : IsOutcome docs ws t cs rs)
         → is_unchanged (get docs name) (get had.after name) ≡ false → document_after docs cs name ≡ get had.after name }
+    ensures left { (docs : Docs) (ws : List Write) (t : ℤ) (cs : List Change) (rs : List WriteResult) (name : DocName)
+        → IsOutcome docs ws t cs rs → get (after_batch docs ws t) name ≡ document_after docs cs name }
+    ensures as_it_was { (docs : Docs) (ws : List Write) (t : ℤ) (done : Docs × List WriteResult) → batch docs ws t ≡ Ok done
+        → (name : DocName) (before : Document) (after : Document) → get docs name ≡ Some before → get done.0 name ≡ Some after
+        → before.fields ≡ after.fields → get (after_batch docs ws t) name ≡ Some before }
+    ensures unwritten { (docs : Docs) (ws : List Write) (t : ℤ) (name : DocName) → is_written name ws ≡ false
+        → get (after_batch docs ws t) name ≡ get docs name }
+    ensures refused_stays { (docs : Docs) (ws : List Write) (t : ℤ) (e : Refused) → batch docs ws t ≡ Err e → after_batch docs ws t ≡ docs }
+    ensures set_last { (docs : Docs) (earlier : List Write) (w : Write) (later : List Write) (t : ℤ) (done : Docs × List WriteResult) (name : DocName) (fs : List (List ℕ × Data))
+        → batch docs (earlier ++ w ∷ later) t ≡ Ok done → w.act ≡ Set name fs → w.transforms ≡ [] → is_written name later ≡ false
+        → option_map (λ d. d.fields) (get (after_batch docs (earlier ++ w ∷ later) t) name) ≡ Some fs }
+    ensures delete_last { (docs : Docs) (earlier : List Write) (w : Write) (later : List Write) (t : ℤ) (done : Docs × List WriteResult) (name : DocName)
+        → batch docs (earlier ++ w ∷ later) t ≡ Ok done → w.act ≡ Delete name → is_written name later ≡ false
+        → get (after_batch docs (earlier ++ w ∷ later) t) name ≡ None }
     ensures one_delete { (docs : Docs) (w : Write) (t : ℤ) (cs : List Change) (rs : List WriteResult) (name : DocName)
         → IsOutcome docs (w ∷ []) t cs rs → w.act ≡ Delete name → document_after docs cs name ≡ None }
     ensures named { (docs : Docs) (other : Docs) (ws : List Write) (t : ℤ) (cs : List Change) (rs : List WriteResult)

@@ -1,11 +1,9 @@
 mod Flow
 mod Cutting
+mod Commits
 mod Written
 mod Ending
 pub mod Floats
-mod Batches
-mod Leaving
 mod Lawful
-mod Reading
 mod Json
 mod OneLine

@@ -12,7 +12,8 @@ use Rattle.fsemu.specs.declared.request.Line.{Line}
 use Rattle.fsemu.specs.declared.request.Line.TheVariants as line
 use Rattle.fsemu.specs.declared.request.Request.{Request}
 use Rattle.fsemu.specs.declared.request.Request.TheVariants.{Commit, GetDocument, Refused}
-use Rattle.fsemu.specs.Step.{start, CanCommit, after_request, after_reading, after_line, line_output}
+use Rattle.fs_write.specs.declared.write.Write.{Write}
+use Rattle.fsemu.specs.Step.{start, CanCommit, is_over, after_commit, after_request, after_reading, after_line, line_output}
 use Rattle.fsemu.specs.Transcript.{lines_of, all_but_last, written, played, transcript}
 
 some_lines_at : (b : Bool) (x : ℕ) (lines : List (List ℕ)) → (line : List ℕ) × (more : List (List ℕ)) × (cond b ([] ∷ lines) (onto_first x lines) ≡ line ∷ more)
@@ -73,8 +74,12 @@ played_front false script = written_front start 1 (lines_of script)
 
 -- ---- times
 
+over_rises : (s : State) (writes : List Write) (over : Bool) → (s.last ≤ℤ (cond over s (after_commit s writes)).last) × ((cond over s (after_commit s writes)).last ≤ℤ (s.last +ℤ pos 1))
+over_rises s writes true = (omega (arith, ints), omega (arith, ints))
+over_rises s writes false = (omega (arith, ints), omega (arith, ints))
+
 request_rises : (s : State) (r : Request) → (s.last ≤ℤ (after_request s r).last) × ((after_request s r).last ≤ℤ (s.last +ℤ pos 1))
-request_rises s (Commit writes) = (omega (arith, ints), omega (arith, ints))
+request_rises s (Commit writes) = over_rises s writes (is_over writes)
 request_rises s (GetDocument name) = (omega (arith, ints), omega (arith, ints))
 request_rises s (Refused reason) = (omega (arith, ints), omega (arith, ints))
 

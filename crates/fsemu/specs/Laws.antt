@@ -1,22 +1,20 @@
 -- What the laws of scripts speak of.
-use Rattle.std.specs.Prelude.{◌≡◌, ℕ, Bool, true, false, ◌||◌, ◌==◌, List, [], ◌∷◌, ◌++◌}
+use Rattle.std.specs.Prelude.{◌≡◌, ℕ, Bool, false, not, ◌||◌, ◌==◌, List, [], ◌∷◌, ◌++◌}
 use Rattle.std.specs.List.{list_any}
-use Rattle.std.specs.Ordering.{eq_by_cmp}
-use Rattle.fs_path.specs.NameOrder.{name_cmp}
 use Rattle.fs_path.specs.declared.name.DocName.{DocName}
-use Rattle.fsemu.specs.Batch.{name_of}
+use Rattle.fs_write.specs.WrittenName.{is_written}
+use Rattle.fs_write.specs.declared.write.Write.{Write}
 use Rattle.fsemu.specs.Line.{line_of}
-use Rattle.fsemu.specs.Step.{after_line}
+use Rattle.fsemu.specs.Step.{after_line, is_over}
 use Rattle.fsemu.specs.declared.request.Line.{Line}
 use Rattle.fsemu.specs.declared.request.Line.TheVariants as line
 use Rattle.fsemu.specs.declared.request.Request.{Request}
 use Rattle.fsemu.specs.declared.request.Request.TheVariants.{Commit, GetDocument, Refused}
-use Rattle.fsemu.specs.declared.request.Write.{Write}
 use Rattle.fsemu.specs.declared.state.State.{State}
 
--- whether a line asks for a commit
+-- whether a line asks for a commit, and not for one of too many writes
 abbrev pub commits : Request → Bool
-commits (Commit writes) = true
+commits (Commit writes) = not (is_over writes)
 commits (GetDocument name) = false
 commits (Refused reason) = false
 
@@ -37,11 +35,6 @@ asked_writes line.Empty = []
 asked_writes line.NotBuilt = []
 asked_writes (line.Refused reason) = []
 asked_writes (line.Asked asked) = writes_of asked.request
-
--- whether one of the writes is of a name
-abbrev pub is_written : DocName → List Write → Bool
-is_written name [] = false
-is_written name (write ∷ writes) = eq_by_cmp name_cmp name (name_of write) || is_written name writes
 
 -- whether one of the lines writes a name
 abbrev pub is_written_in : DocName → State → List (List ℕ) → Bool

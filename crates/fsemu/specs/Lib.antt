@@ -1,5 +1,3 @@
-pub mod Batch
-pub mod Detours
 pub mod Gathering
 pub mod Laws
 pub mod Limits
@@ -7,7 +5,6 @@ pub mod Line
 pub mod Moved
 pub mod Reply
 pub mod Request
-pub mod Rules
 pub mod Run
 pub mod Step
 pub mod Transcript

@@ -3,7 +3,11 @@ use Rattle.std.specs.Prelude.{ℕ}
 
 -- the longest line that is read, in bytes without its newline
 abbrev pub longest_line : ℕ
-longest_line = 65536
+longest_line = 10485760
+
+-- the most writes of a commit
+abbrev pub most_writes : ℕ
+most_writes = 500
 
 -- so many bytes end a run, and no more are taken
 abbrev pub longest_input : ℕ

@@ -13,7 +13,7 @@ use Rattle.fs_json.specs.declared.bad.Bad.{Bad}
 use Rattle.fs_json.specs.declared.bad.Bad.TheVariants.{At, Method}
 use Rattle.fs_status.specs.declared.reason.Reason.{Reason}
 use Rattle.fs_status.specs.declared.reason.Reason.TheVariants as reasons
-use Rattle.fs_status.specs.declared.reason.LineFault.TheVariants.{NotAnObject}
+use Rattle.fs_status.specs.declared.reason.LineFault.TheVariants.{NotAnObject, HasBytes}
 use Rattle.fsemu.specs.Limits.{longest_line}
 use Rattle.fsemu.specs.Request.{commit_at, get_at, reason_of, or_refused}
 use Rattle.fsemu.specs.declared.request.Asked.{Asked}
@@ -83,7 +83,11 @@ line_in root (Some d) = if is_unbuilt_form d then line.NotBuilt else line_from (
 abbrev pub json_of : List ℕ → Option Data
 json_of bytes = if is_utf8 bytes then read bytes else None
 
+-- why a line of so many bytes isn't read
+abbrev pub too_long : ℕ → Reason
+too_long bytes = reasons.Line (HasBytes bytes)
+
 -- what a line is read as
 abbrev pub line_of : Root → List ℕ → Line
 line_of root [] = line.Empty
-line_of root (b ∷ bs) = if nat_lt longest_line (length (b ∷ bs)) then line.NotBuilt else line_in root (json_of (b ∷ bs))
+line_of root (b ∷ bs) = if nat_lt longest_line (length (b ∷ bs)) then line.Refused (too_long (length (b ∷ bs))) else line_in root (json_of (b ∷ bs))

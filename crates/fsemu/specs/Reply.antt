@@ -6,17 +6,23 @@ use Rattle.serde_json.specs.View.{items_of}
 use Rattle.serde_json.specs.Written.{compact_text}
 use Rattle.fs_json.specs.Time.{time_json}
 use Rattle.fs_status.specs.Message.{message_text}
-use Rattle.fs_status.specs.Reason.{code_of}
+use Rattle.fs_status.specs.Refusal.{refusal_of}
 use Rattle.fs_status.specs.Status.{http_of, status_text}
 use Rattle.fs_status.specs.declared.code.Code.{Code}
 use Rattle.fs_status.specs.declared.reason.Reason.{Reason}
+use Rattle.fs_status.specs.declared.refusal.Refusal.{Refusal}
+use Rattle.fs_writejson.specs.Results.{result_json}
+use Rattle.fs_write.specs.declared.write_result.WriteResult.{WriteResult}
 
 -- `{"code":404,"message":"..","status":"NOT_FOUND"}`
 abbrev pub error_json : Code → List ℕ → Data
 error_json code message = object (member (codes "code") (number (unsigned (http_of code))) (member (codes "message") (string message) (member (codes "status") (string (status_text code)) no_members)))
 
+abbrev pub refusal_json : Refusal → Data
+refusal_json refusal = error_json refusal.code (message_text refusal.reason)
+
 abbrev pub refused_json : Reason → Data
-refused_json reason = error_json (code_of reason) (message_text reason)
+refused_json reason = refusal_json (refusal_of reason)
 
 -- the id, where the request had one
 abbrev pub with_id : Option (List ℕ) → Members → Members
@@ -38,13 +44,8 @@ error_reply session id error = object (member (codes "error") error (with_id id 
 abbrev pub line_error : Data → ℕ → Data
 line_error error n = object (member (codes "error") error (member (codes "line") (number (unsigned n)) no_members))
 
--- a delete has no update time
-abbrev pub write_result_json : Option ℤ → Data
-write_result_json None = object no_members
-write_result_json (Some time) = object (member (codes "updateTime") (time_json time) no_members)
-
-abbrev pub write_results_json : List (Option ℤ) → Items
-write_results_json results = items_of (map write_result_json results)
+abbrev pub write_results_json : List WriteResult → Items
+write_results_json results = items_of (map result_json results)
 
 -- an empty list of results is left out
 abbrev pub with_results : Items → Members
@@ -52,7 +53,7 @@ with_results no_items = no_members
 with_results (item d ds) = member (codes "writeResults") (array (item d ds)) no_members
 
 -- `{"commitTime":"..","writeResults":[..]}`
-abbrev pub commit_json : ℤ → List (Option ℤ) → Data
+abbrev pub commit_json : ℤ → List WriteResult → Data
 commit_json time results = object (member (codes "commitTime") (time_json time) (with_results (write_results_json results)))
 
 -- a value on a line of its own

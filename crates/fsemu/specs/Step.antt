@@ -1,15 +1,21 @@
 -- Where a script starts, and what a line does.
-use Rattle.std.specs.Prelude.{ℕ, ℤ, pos, ◌+ℤ◌, List, [], Option, Some, None, codes}
+use Rattle.std.specs.Prelude.{◌≡◌, ℕ, ℤ, pos, ◌+ℤ◌, List, [], Option, Some, None, Bool, Result, Ok, Err, length, nat_lt, if◌then◌else◌, codes}
 use Rattle.std.specs.FinMap.{empty, get}
 use Rattle.serde_json.specs.Data.{Data}
 use Rattle.fs_time.specs.Moment.{IsMoment}
 use Rattle.fs_value.specs.declared.document.Document.{Document}
 use Rattle.fs_status.specs.declared.code.Code.TheVariants.{Unimplemented}
 use Rattle.fs_status.specs.declared.reason.Reason.TheVariants as reasons
+use Rattle.fs_status.specs.Refusal.{at_limit}
+use Rattle.fs_status.specs.declared.refusal.Refusal.{Refusal}
 use Rattle.fs_valjson.specs.Document.{document_json}
-use Rattle.fsemu.specs.Batch.{after_commit, write_results}
+use Rattle.fs_write.specs.After.{after_batch}
+use Rattle.fs_write.specs.Batch.{Docs, batch}
+use Rattle.fs_write.specs.declared.write.Write.{Write}
+use Rattle.fs_write.specs.declared.write_result.WriteResult.{WriteResult}
+use Rattle.fsemu.specs.Limits.{most_writes}
 use Rattle.fsemu.specs.Line.{line_of}
-use Rattle.fsemu.specs.Reply.{error_json, refused_json, result_reply, error_reply, line_error, commit_json, json_line}
+use Rattle.fsemu.specs.Reply.{error_json, refusal_json, refused_json, result_reply, error_reply, line_error, commit_json, json_line}
 use Rattle.fsemu.specs.declared.request.Line.{Line}
 use Rattle.fsemu.specs.declared.request.Line.TheVariants as line
 use Rattle.fsemu.specs.declared.request.Request.{Request}
@@ -28,9 +34,27 @@ next_time s = s.last +ℤ pos 1
 abbrev pub CanCommit : State → Type 0
 CanCommit s = IsMoment (next_time s)
 
--- a commit changes the documents and uses its time; nothing else changes anything
+-- what a commit answers to its writes: their results, or the refusal of the first that is refused
+abbrev pub answer_of : Result (Docs × List WriteResult) Refusal → Result (List WriteResult) Refusal
+answer_of (Ok done) = Ok done.1
+answer_of (Err refusal) = Err refusal
+
+-- the documents after a commit, and what it answers
+pub record IsCommitted (before after : Docs) (writes : List Write) (time : ℤ) (answer : Result (List WriteResult) Refusal) : Type 0 where
+  pub documents : after ≡ after_batch before writes time
+  pub answers : answer ≡ answer_of (batch before writes time)
+
+-- a commit has too many writes, and so is refused before it uses a time
+abbrev pub is_over : List Write → Bool
+is_over writes = nat_lt most_writes (length writes)
+
+abbrev pub after_commit : State → List Write → State
+after_commit s writes = record { root = s.root; documents = after_batch s.documents writes (next_time s); last = next_time s }
+
+-- a commit changes the documents and uses its time, and one whose writes are refused its time alone; nothing else changes
+-- anything
 abbrev pub after_request : State → Request → State
-after_request s (Commit writes) = record { root = s.root; documents = after_commit s.documents writes (next_time s); last = next_time s }
+after_request s (Commit writes) = if is_over writes then s else after_commit s writes
 after_request s (GetDocument name) = s
 after_request s (Refused reason) = s
 
@@ -39,8 +63,14 @@ abbrev pub found_reply : State → List ℕ → Option (List ℕ) → Option Doc
 found_reply s session id None = error_reply session id (refused_json (reasons.NoDocument s.last))
 found_reply s session id (Some document) = result_reply session id (document_json document)
 
+abbrev pub commit_reply : ℤ → List ℕ → Option (List ℕ) → Result (List WriteResult) Refusal → Data
+commit_reply time session id (Ok results) = result_reply session id (commit_json time results)
+commit_reply time session id (Err refusal) = error_reply session id (refusal_json refusal)
+
 abbrev pub reply : State → List ℕ → Option (List ℕ) → Request → Data
-reply s session id (Commit writes) = result_reply session id (commit_json (next_time s) (write_results s.documents writes (next_time s)))
+reply s session id (Commit writes) =
+    if is_over writes then error_reply session id (refusal_json (at_limit (codes "writes") most_writes))
+    else commit_reply (next_time s) session id (answer_of (batch s.documents writes (next_time s)))
 reply s session id (GetDocument name) = found_reply s session id (get s.documents name)
 reply s session id (Refused reason) = error_reply session id (refused_json reason)
 

@@ -1,7 +1,10 @@
 //! How much a run reads.
 
 /// The longest line that is read, in bytes without its newline.
-pub const LONGEST_LINE: usize = 65_536;
+pub const LONGEST_LINE: usize = 10_485_760;
+
+/// The most writes that a commit may have.
+pub const MOST_WRITES: usize = 500;
 
 /// So many bytes end a run. No more are taken from the source.
 pub const LONGEST_INPUT: usize = 4_294_967_296;

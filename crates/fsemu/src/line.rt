@@ -132,7 +132,8 @@ pub fn read_line(alloc: Global, root: &Root, line: &[u8]) -> Result<Line, AllocE
         return Ok(Line::Empty);
     }
     if line.len() > LONGEST_LINE {
-        return Ok(Line::NotBuilt);
+        let bytes = line.len() as u64;
+        return Ok(Line::Refused(Reason::Line(LineFault::HasBytes(bytes))));
     }
     match json_of(alloc, line)? {
         Some(v) => line_in(alloc, root, &v),

@@ -1,7 +1,7 @@
 //! fsemu: a local Cloud Firestore for tests of transactions, listeners and offline clients.
 #![tactic(auto)]
 
-mod batch;
+mod commit;
 mod gather;
 mod laws;
 mod limits;
@@ -13,7 +13,6 @@ mod program;
 mod read;
 mod reply;
 mod request;
-mod rules;
 mod run;
 mod state;
 mod step;

@@ -2,14 +2,15 @@
 ghost use Rattle.std.specs.Prelude.{◌≡◌, ◌++◌, Some, IfOk, OnOk, codes, false};
 ghost use Rattle.serde_json.specs.Data.{object, member, no_members};
 ghost use Rattle.serde_json.specs.View.{items_view, view};
-ghost use Rattle.serde_json.specs.Written.{has_float};
-ghost use Rattle.fsemu.specs.Reply.{error_json, refused_json, result_reply, error_reply, line_error, write_result_json, write_results_json, commit_json, json_line};
+ghost use Rattle.serde_json.specs.Written.{has_float, items_have_float};
+ghost use Rattle.fsemu.specs.Reply.{error_json, refusal_json, result_reply, error_reply, line_error, write_results_json, commit_json, json_line};
 
-use crate::batch::WriteResults;
 use fs_json::write_time;
 use fs_path::Text;
-use fs_status::{Code, Reason, Refusal, message};
+use fs_status::{Code, Refusal, message};
 use fs_time::Micros;
+use fs_write::WriteResults;
+use fs_writejson::write_result;
 use serde_json::{Value, json};
 use std::alloc::{AllocError, Global};
 
@@ -22,12 +23,11 @@ pub fn error_json(alloc: Global, code: Code, message: &str) -> Result<Value, All
 }
 
 /// The error of a refusal.
-pub fn refused(alloc: Global, reason: Reason) -> Result<Value, AllocError>
-    ensures value { IfOk result (λ v. view v ≡ refused_json reason) }
+pub fn refusal_json(alloc: Global, refusal: &Refusal) -> Result<Value, AllocError>
+    ensures value { IfOk result (λ v. view v ≡ refusal_json refusal.now) }
     ensures no_float { IfOk result (λ v. has_float (view v) ≡ false) }
 {
-    let refusal = Refusal::of(reason);
-    let text = message(alloc, &refusal)?;
+    let text = message(alloc, refusal)?;
     error_json(alloc, refusal.code, text.as_str())
 }
 
@@ -71,28 +71,13 @@ pub fn line_error(alloc: Global, error: Value, number: u64) -> Result<Value, All
     json!(in alloc; {"error": error, "line": number})
 }
 
-fn updated_json(alloc: Global, time: Micros) -> Result<Value, AllocError>
-    ensures { IfOk result (λ v. view v ≡ write_result_json (Some time)) }
-{
-    let time = write_time(alloc, time)?;
-    json!(in alloc; {"updateTime": time})
-}
-
-fn write_result_json(alloc: Global, update_time: Option<Micros>) -> Result<Value, AllocError>
-    ensures { IfOk result (λ v. view v ≡ write_result_json update_time) }
-{
-    match update_time {
-        Some(time) => updated_json(alloc, time),
-        None => json!(in alloc; {}),
-    }
-}
-
 fn write_results_json(alloc: Global, results: &WriteResults) -> Result<Vec<Value>, AllocError>
-    ensures { IfOk result (λ items. items_view items.items ≡ write_results_json results.now) }
+    ensures value { IfOk result (λ items. items_view items.items ≡ write_results_json results.now) }
+    ensures no_float { IfOk result (λ items. items_have_float (items_view items.items) ≡ false) }
 {
     let mut items = Vec::with_capacity(alloc, results.as_slice().len())?;
     for one in results.as_slice() {
-        items.push(write_result_json(alloc, *one)?)?;
+        items.push(write_result(alloc, one)?)?;
     }
     Ok(items)
 }

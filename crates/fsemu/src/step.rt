@@ -3,20 +3,22 @@ ghost use Rattle.std.specs.Prelude.{◌≡◌, ◌++◌, pos, ◌+ℤ◌, IfOk, 
 ghost use Rattle.fs_time.specs.Moment.{IsMoment};
 ghost use Rattle.serde_json.specs.View.{view};
 ghost use Rattle.serde_json.specs.Written.{has_float};
-ghost use Rattle.fsemu.specs.Reply.{error_reply, refused_json};
-ghost use Rattle.fsemu.specs.Step.{CanCommit, next_time, reply, after_request, after_reading, output_of, after_line, line_output};
+ghost use Rattle.fsemu.specs.Reply.{error_reply, refusal_json};
+ghost use Rattle.fsemu.specs.Step.{CanCommit, next_time, commit_reply, reply, after_request, after_reading, output_of, after_line, line_output};
 
-use crate::batch::commit;
+use crate::commit::commit;
+use crate::limits::MOST_WRITES;
 use crate::line::read_line;
 use crate::reply::{
-    commit_json, error_json, error_reply, line_error, push_line, refused, result_reply,
+    commit_json, error_json, error_reply, line_error, push_line, refusal_json, result_reply,
 };
-use crate::request::{Asked, Line, Request, Writes};
+use crate::request::{Asked, Line, Request};
 use crate::state::State;
 use fs_path::{DocName, Text};
-use fs_status::{Code, Reason};
+use fs_status::{Code, Reason, Refusal};
 use fs_time::Micros;
 use fs_valjson::write_document;
+use fs_write::{WriteResults, Writes};
 use serde_json::Value;
 use std::alloc::{AllocError, Global};
 
@@ -40,23 +42,45 @@ fn carry_out_commit(
     ensures no_float { IfOk result (λ v. has_float (view v) ≡ false) }
     ensures state { OnOk result (state.new ≡ after_request state.old (Request.Commit writes)) }
 {
+    if writes.len() > MOST_WRITES {
+        let refusal = Refusal::at_limit(alloc, "writes", MOST_WRITES as u64)?;
+        return refuse(alloc, session, id, &refusal);
+    }
     let time = next_time(state);
-    let results = commit(alloc, &mut state.documents, writes, time)?;
+    let answer = commit(alloc, &mut state.documents, &writes, time)?;
     state.last = time;
-    let answer = commit_json(alloc, time, &results)?;
-    result_reply(alloc, session, id, answer)
+    commit_reply(alloc, time, session, id, answer)
+}
+
+fn commit_reply(
+    alloc: Global,
+    time: Micros,
+    session: &str,
+    id: &Option<Text>,
+    answer: Result<WriteResults, Refusal>,
+) -> Result<Value, AllocError>
+    ensures reply { IfOk result (λ v. view v ≡ commit_reply time session.now id.now answer) }
+    ensures no_float { IfOk result (λ v. has_float (view v) ≡ false) }
+{
+    match answer {
+        Ok(results) => {
+            let answer = commit_json(alloc, time, &results)?;
+            result_reply(alloc, session, id, answer)
+        }
+        Err(refusal) => refuse(alloc, session, id, &refusal),
+    }
 }
 
 fn refuse(
     alloc: Global,
     session: &str,
     id: &Option<Text>,
-    reason: Reason,
+    refusal: &Refusal,
 ) -> Result<Value, AllocError>
-    ensures reply { IfOk result (λ v. view v ≡ error_reply session.now id.now (refused_json reason)) }
+    ensures reply { IfOk result (λ v. view v ≡ error_reply session.now id.now (refusal_json refusal.now)) }
     ensures no_float { IfOk result (λ v. has_float (view v) ≡ false) }
 {
-    let error = refused(alloc, reason)?;
+    let error = refusal_json(alloc, refusal)?;
     error_reply(alloc, session, id, error)
 }
 
@@ -75,7 +99,10 @@ fn read_out(
             let answer = write_document(alloc, &document)?;
             result_reply(alloc, session, id, answer)
         }
-        None => refuse(alloc, session, id, Reason::NoDocument(state.last)),
+        None => {
+            let refusal = Refusal::of(Reason::NoDocument(state.last));
+            refuse(alloc, session, id, &refusal)
+        }
     }
 }
 
@@ -95,7 +122,7 @@ fn carry_out_request(alloc: Global, state: &mut State, asked: Asked) -> Result<V
     match request {
         Request::Commit(writes) => carry_out_commit(alloc, state, session, &id, writes),
         Request::GetDocument(name) => read_out(alloc, state, session, &id, &name),
-        Request::Refused(reason) => refuse(alloc, session, &id, reason),
+        Request::Refused(reason) => refuse(alloc, session, &id, &Refusal::of(reason)),
     }
 }
 
@@ -118,7 +145,7 @@ fn carry_out_read(
             push_line(alloc, out, &line_error(alloc, error, number)?)
         }
         Line::Refused(reason) => {
-            let error = refused(alloc, reason)?;
+            let error = refusal_json(alloc, &Refusal::of(reason))?;
             push_line(alloc, out, &line_error(alloc, error, number)?)
         }
         Line::Asked(asked) => {

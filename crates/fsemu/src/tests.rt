@@ -1,3 +1,4 @@
+mod rows;
 mod tables;
 
 use crate::program::{exit_code, words_of};
@@ -5,6 +6,7 @@ use crate::run::run;
 use fs_edge::{MemoryClock, MemoryDoors, MemorySink, MemorySource, Moments, Pace, Paces, Status};
 use fs_path::Bytes;
 use fs_time::Micros;
+use rows::WRITES;
 use std::alloc::{AllocError, Global};
 use std::process::Abort;
 use std::test::Fail;
@@ -168,15 +170,106 @@ fn a_line_that_is_not_built_gives_an_error_line(rt: HostRuntime) -> Result<(), F
     for line in FORMS.lines() {
         expect(&rt, alloc, line, NOT_BUILT)?;
     }
-    // A line is read up to its limit.
+    Ok(())
+}
+
+#[test]
+fn a_line_is_read_up_to_its_limit(rt: HostRuntime) -> Result<(), Fail> {
+    let alloc = rt.alloc();
     let mut line = full(alloc, A_READ)?;
-    for _ in line.len()..65_536 {
+    for _ in line.len()..10_485_760 {
         line.push(' ')?;
     }
     let (text, _) = played(alloc, "replay", line.as_bytes())?;
     assert!(rt; text.as_str().starts_with("{\"error\":{\"code\":404"));
-    line.push(' ')?;
-    expect(&rt, alloc, line.as_str(), NOT_BUILT)
+    // A longer one isn't, and the next is.
+    let script = format!(in alloc; "{line} \n{A_COMMIT}\n")?;
+    let want = format!(in alloc; "{TOO_LONG}{ITS_REPLY}")?;
+    expect(&rt, alloc, script.as_str(), want.as_str())
+}
+
+const TOO_LONG: &str =
+    r#"{"error":{"code":400,"message":"line has 10485761 bytes","status":"INVALID_ARGUMENT"},"line":1}
+"#;
+
+/// Replays each case of a table: lines up to those behind `>`, which are what they write.
+fn each_is_written(rt: &impl Abort, alloc: Global, table: &str) -> Result<(), Fail> {
+    let mut script = String::new(alloc);
+    let mut want = String::new(alloc);
+    for line in table.lines() {
+        if let Some(written) = line.strip_prefix("> ") {
+            want.push_str(written)?;
+            want.push('\n')?;
+        } else if line.starts_with('{') {
+            script.push_str(line)?;
+            script.push('\n')?;
+        } else if !script.is_empty() {
+            expect(rt, alloc, script.as_str(), want.as_str())?;
+            script.clear();
+            want.clear();
+        }
+    }
+    expect(rt, alloc, script.as_str(), want.as_str())
+}
+
+#[test]
+fn writes_are_carried_out_and_answered(rt: HostRuntime) -> Result<(), Fail> {
+    each_is_written(&rt, rt.alloc(), WRITES)
+}
+
+/// A commit of so many deletes.
+fn deletes(alloc: Global, count: usize) -> Result<String, AllocError> {
+    let mut text = String::from_str(
+        alloc,
+        "{\"session\":\"s\",\"commit\":{\"database\":\"@\",\"writes\":[",
+    )?;
+    for i in 0..count {
+        text.push_str(if i == 0 { "" } else { "," })?;
+        text.push_str("{\"delete\":\"~/c/a\"}")?;
+    }
+    text.push_str("]}}")?;
+    Ok(text)
+}
+
+#[test]
+fn a_commit_has_up_to_five_hundred_writes(rt: HostRuntime) -> Result<(), Fail> {
+    let alloc = rt.alloc();
+    let refused =
+        "{\"error\":{\"code\":429,\"message\":\"limit writes 500\",\"status\":\"RESOURCE_EXHAUSTED\"},\"session\":\"s\"}\n";
+    // It has used no time.
+    for (count, want) in [
+        (
+            500,
+            "{\"result\":{\"commitTime\":\"2024-01-01T00:00:00.000001Z\"",
+        ),
+        (501, refused),
+    ] {
+        let script = deletes(alloc, count)?;
+        let (text, _) = played(alloc, "replay", full(alloc, script.as_str())?.as_bytes())?;
+        assert!(rt; text.as_str().starts_with(want), "{count}");
+    }
+    let script = format!(in alloc; "{}\n{A_COMMIT}", deletes(alloc, 501)?)?;
+    let want = format!(in alloc; "{refused}{ITS_REPLY}")?;
+    expect(&rt, alloc, script.as_str(), want.as_str())
+}
+
+#[test]
+fn a_document_has_up_to_one_mebibyte(rt: HostRuntime) -> Result<(), Fail> {
+    let alloc = rt.alloc();
+    let refused =
+        "{\"error\":{\"code\":400,\"message\":\"write 0: document has 1048577 bytes\",\"status\":\"INVALID_ARGUMENT\"}";
+    for (bytes, want) in [(1_048_521, "{\"result\":"), (1_048_522, refused)] {
+        let mut value = String::new(alloc);
+        for _ in 0..bytes {
+            value.push('s')?;
+        }
+        let script = format!(in alloc;
+            "{{\"session\":\"s\",\"commit\":{{\"database\":\"@\",\"writes\":[{{\"update\":{{\"name\":\"~/c/a\",\"fields\":{{\"b\":{{\"stringValue\":\"{value}\"}}}}}}}}]}}}}"
+        )?;
+        let (text, _) = played(alloc, "replay", full(alloc, script.as_str())?.as_bytes())?;
+        assert!(rt; text.as_str().starts_with(want), "{bytes}");
+    }
+    Ok(())
 }
 
 #[test]

@@ -51,6 +51,12 @@ pub const COMMITS: &str = r#"{} -> G at commit.database
 {"database":"@","writes":[{"update":{}}]} -> G at commit.writes[0].update.name
 {"database":"@","writes":[{"update":{"name":"~/c/a"},"x":1}]} -> G at commit.writes[0].x
 {"database":"@","writes":[{"update":{"name":"~/c/a","fields":1}}]} -> G at commit.writes[0].update.fields
+{"database":"@","writes":[{"update":{"name":"~/c/a"},"updateMask":{"fieldPaths":["a..b"]}}]} -> P9 2 at commit.writes[0].updateMask.fieldPaths[0]
+{"database":"@","writes":[{"update":{"name":"~/c/a"},"currentDocument":{"exists":true,"updateTime":"x"}}]} -> G at commit.writes[0].currentDocument
+{"database":"@","writes":[{"update":{"name":"~/c/a"},"updateTransforms":[{"fieldPath":"n"}]}]} -> G at commit.writes[0].updateTransforms[0]
+{"database":"@","writes":[{"update":{"name":"~/c/a"},"updateTransforms":[{"fieldPath":"n","increment":{"nullValue":null}}]},{"delete":"~/c"}]} -> P3 at commit.writes[1].delete
+{"database":"@","writes":[{"update":{"name":"~/c/a"},"updateTransforms":[{"fieldPath":"n","increment":{"nullValue":null}}]},{"delete":"~/c/a"}]} -> E4 at commit.writes[0]
+{"database":"@","writes":[{"delete":"~/c/a"},{"delete":"~/c/a","updateMask":{}}]} -> E3 at commit.writes[1]
 {"database":"@","writes":[{"update":{"name":"~/c/a","createTime":"x"}}]} -> T1 at commit.writes[0].update.createTime
 {"database":"@","writes":[{"update":{"name":"~/c/a","updateTime":5}}]} -> G at commit.writes[0].update.updateTime
 {"x":1,"database":1} -> G at commit.x"#;
@@ -120,9 +126,7 @@ pub const UNBUILT: &str = r#""runQuery":{} -> method runQuery
 "commit":{"database":"@","transaction":1} -> method transaction
 "commit":{"database":"@","writes":[{"transform":{}}]} -> method transform
 "commit":{"database":"@","writes":[{"verify":"~/c/a"}]} -> method verify
-"commit":{"database":"@","writes":[{"delete":"~/c/a","update_mask":{}}]} -> method updateMask
-"commit":{"database":"@","writes":[{"delete":"~/c/a","updateTransforms":[]}]} -> method updateTransforms
-"commit":{"database":"@","writes":[{"delete":"~/c/a","currentDocument":{}}]} -> method currentDocument"#;
+"commit":{"database":"@","writes":[{"delete":"~/c/a"},{"verify":null,"transform":{}}]} -> method transform"#;
 
 /// Lines that are no requests, and their errors.
 pub const LINES: &str = r#"{ -> line is not a JSON object

@@ -2,7 +2,7 @@ use Rattle.std.proofs.Common.{◌≡◌, ◌++◌, codes, string_bytes, ap, ◌�
 use Rattle.std.specs.Option.{option_copied}
 use Rattle.fs_path.specs.Cursor.{after_slash}
 use Rattle.fs_path.specs.Document.{document_text}
-use Rattle.fs_path.proofs.Names.{slashed_rest, name_pieces}
+use Rattle.fs_path.proofs.NameTexts.{slashed_rest, name_pieces}
 use Rattle.fs_path.proofs.print.name_text.Goals as goal
 
 pub returns : goal.returns

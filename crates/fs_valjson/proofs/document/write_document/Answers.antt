@@ -10,7 +10,7 @@ use Rattle.fs_valjson.specs.Document.{document_at, document_json}
 use Rattle.fs_valjson.specs.Writing.{members_json}
 use Rattle.fs_valjson.specs.Valid.{MembersAreHeld}
 use Rattle.serde_json.specs.Written.{has_float}
-use Rattle.fs_valjson.proofs.Floats.{document_float}
+use Rattle.fs_valjson.specs.FloatLaws.{document_float}
 use Rattle.fs_valjson.proofs.Again.{document_again}
 use Rattle.fs_valjson.specs.Valid.{IsTimeHeld}
 use Rattle.fs_valjson.proofs.Written.{document_put}

@@ -18,8 +18,8 @@ write-returns-in_ok-write_time-in-Timestamp-clause-held t c =
     let held : IsHeld (timestamp c.in-Timestamp.t) = λ place. ap (λ d. time_at d place) (sym w.value) ∙ w.reads_back place in
     rw c.in-Timestamp.is (on_ok_always c.with_one-in-Timestamp.result held)
 
-pub write_array-loop-value-preserved : goal.write_array-loop-value-preserved
-write_array-loop-value-preserved t c =
+pub write_items-loop-value-preserved : goal.write_items-loop-value-preserved
+write_items-loop-value-preserved t c =
     let l = c.loop-value in
     let one = one_value c.as_slice-value-items.result.now l.value-index c.value-item.result c.loop-value-test.true c.value-item.is in
     rw (c.in_ok-push.ensures.items, one) (record {

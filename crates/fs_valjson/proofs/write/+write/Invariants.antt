@@ -9,8 +9,11 @@ use Rattle.fs_valjson.proofs.write.+write.Given as goal
 abbrev pub decreases-write : goal.decreases-write
 decreases-write l = 2 * weight (view l.v.now)
 
-abbrev pub decreases-write_array : goal.decreases-write_array
-decreases-write_array l = 2 * items_weight (items_of l.values.now)
+abbrev pub decreases-write_content : goal.decreases-write_content
+decreases-write_content l = 2 * items_weight (items_of l.values.now) + 1
+
+abbrev pub decreases-write_items : goal.decreases-write_items
+decreases-write_items l = 2 * items_weight (items_of l.values.now)
 
 abbrev pub decreases-write_map : goal.decreases-write_map
 decreases-write_map l = 2 * members_weight (members_of l.fields.now) + 1
@@ -19,8 +22,8 @@ abbrev pub decreases-write_members : goal.decreases-write_members
 decreases-write_members l = 2 * members_weight (members_of l.fields.now)
 
 -- the values so far are written
-abbrev pub invariant-write_array-loop-value : goal.invariant-write_array-loop-value
-invariant-write_array-loop-value l = record {
+abbrev pub invariant-write_items-loop-value : goal.invariant-write_items-loop-value
+invariant-write_items-loop-value l = record {
   written : items_view l.items.items ≡ items_json (items_of (map view (take l.value-index l.value-items)));
   held : ItemsAreHeld (items_of (map view (take l.value-index l.value-items)));
 }

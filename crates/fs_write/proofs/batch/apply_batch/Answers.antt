@@ -3,6 +3,7 @@ use Rattle.std.proofs.lemmas.List.{length-append}
 use Rattle.std.proofs.lemmas.Result.{err_from_is_err_and}
 use Rattle.fs_write.specs.Batch.{docs_of, all_writes}
 use Rattle.fs_write.specs.declared.write_result.WriteResult.{WriteResult}
+use Rattle.fs_write.proofs.Names.{changes_named}
 use Rattle.fs_write.proofs.StageChanges.{batch_changes}
 use Rattle.fs_write.proofs.Stages.{so_far_none, so_far_more, so_far_refused, next_of, none_left}
 use Rattle.fs_write.proofs.batch.apply_batch.Goals as goal
@@ -40,3 +41,7 @@ returns-clause-ok c =
       done = had.so_far ∙ ap (λ ws. all_writes (Ok (had.after, c.loop-write.results)) ws c.args.time) (none_left c.args.writes.now c.as_slice-write-items.result.now c.loop-write.write-index c.as_slice-write-items.ensures c.loop-write-test.false);
       changed = batch_changes (docs_of c.args.docs.now) had.after c.loop-write.stage.entries c.in_ok-changes_of.field-0 had.shows c.in_ok-changes_of.ensures;
     }
+
+pub returns-clause-named : goal.returns-clause-named
+returns-clause-named c =
+    changes_named c.args.docs.now c.args.writes.now c.args.time c.in_ok-changes_of.field-0 c.loop-write.results c.requires.rising (returns-clause-ok c)

@@ -1,3 +1,4 @@
+use Rattle.fs_write.proofs.AfterLaws as after
 use Rattle.fs_write.proofs.BatchLaws as laws
 use Rattle.fs_write.proofs.write_laws.batches_are_lawful.Goals as goal
 
@@ -8,6 +9,12 @@ returns c = record {
   one_list = laws.law_one_list;
   back = laws.law_back;
   differs = laws.law_differs;
+  left = after.law_left;
+  as_it_was = after.law_as_it_was;
+  unwritten = after.law_unwritten;
+  refused_stays = after.law_refused_stays;
+  set_last = after.law_set_last;
+  delete_last = after.law_delete_last;
   one_delete = laws.law_one_delete;
   named = laws.law_named;
   named_refused = laws.law_named_refused;

@@ -1,5 +1,5 @@
 use Rattle.std.proofs.Common.{◌+◌, length, sum_by, sym, ap, ◌∙◌}
-use Rattle.fs_path.proofs.Names.{segments-size}
+use Rattle.fs_path.proofs.NameTexts.{segments-size}
 use Rattle.fs_path.proofs.name.DocName.ids_size.Goals as goal
 
 pub returns-in-Some : goal.returns-in-Some

@@ -4,7 +4,7 @@ use Rattle.std.specs.List.{flat_map}
 use Rattle.fs_path.specs.Spelling.{slashed}
 use Rattle.fs_path.specs.Name.{named}
 use Rattle.fs_path.specs.Segment.{segments}
-use Rattle.fs_path.proofs.Names.{path_parts, some_path}
+use Rattle.fs_path.proofs.NameTexts.{path_parts, some_path}
 use Rattle.fs_path.proofs.name.DocName.new.Goals as goal
 
 pub invariant_of-result : goal.invariant_of-result

@@ -3,7 +3,7 @@ use Rattle.std.specs.Option.{option_copied}
 use Rattle.fs_path.specs.Cursor.{rest_segments, after_slash}
 use Rattle.fs_path.specs.Name.{named}
 use Rattle.fs_path.specs.Segment.{segments}
-use Rattle.fs_path.proofs.Names.{head_parts, path_pieces, some_path}
+use Rattle.fs_path.proofs.NameTexts.{head_parts, path_pieces, some_path}
 use Rattle.fs_path.proofs.name.DocName.of_head.Goals as goal
 
 pub invariant_of-result : goal.invariant_of-result

@@ -2,7 +2,7 @@ use Rattle.std.proofs.Common.{◌∷◌, string_bytes, ap, sym, ◌∙◌}
 use Rattle.std.specs.Option.{option_copied}
 use Rattle.fs_path.specs.Cursor.{rest_segments}
 use Rattle.fs_path.specs.Segment.{segments}
-use Rattle.fs_path.proofs.Names.{some_rest}
+use Rattle.fs_path.proofs.NameTexts.{some_rest}
 use Rattle.fs_path.proofs.name.DocName.of_path.Goals as goal
 
 pub invariant_of-result : goal.invariant_of-result

@@ -1,0 +1,12 @@
+-- A law that other crates cite: a field path is the one of its names.
+use Rattle.std.proofs.Common.{◌≡◌, ℕ, ◌<◌, List, [], ◌∷◌, length, Ok, ap, arith}
+use Rattle.std.proofs.Math.Bridge.{le_prop}
+use Rattle.fs_path.specs.declared.field.FieldPath.{FieldPath}
+use Rattle.fs_json.specs.Paths.{path_of}
+
+of_names : (names : List (List ℕ)) (some : 0 < length names) → path_of names ≡ Ok (record { parts = names; some = some })
+of_names [] some = absurd (omega arith)
+of_names (name ∷ names) some = ap (λ h. Ok (record { parts = name ∷ names; some = h })) (le_prop _ _)
+
+pub path_of-is : (p : FieldPath) → path_of p.parts ≡ Ok p
+path_of-is p = of_names p.parts p.some

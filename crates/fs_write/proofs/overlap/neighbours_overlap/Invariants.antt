@@ -1,0 +1,7 @@
+use Rattle.std.proofs.Common.{◌≡◌, ◌-◌, drop}
+use Rattle.fs_write.specs.Neighbours.{paths_at, neighbours_overlap}
+use Rattle.fs_write.proofs.overlap.neighbours_overlap.Given as goal
+
+-- no path so far overlaps the next, so the rest decides
+abbrev pub invariant-loop-i : goal.invariant-loop-i
+invariant-loop-i l = neighbours_overlap (paths_at l.paths) ≡ neighbours_overlap (paths_at (drop (l.i - 1) l.paths))

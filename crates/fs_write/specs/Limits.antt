@@ -1,0 +1,7 @@
+-- The limits of writes.
+use Rattle.std.specs.Prelude.{ℕ}
+
+-- the most names that a transform's path may have. A value there would nest deeper than the JSON of any request may, and so
+-- deeper than a document may
+abbrev pub longest_transform_path : ℕ
+longest_transform_path = 127

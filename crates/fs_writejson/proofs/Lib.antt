@@ -1,0 +1,6 @@
+pub mod Again
+pub mod Floats
+pub mod Least
+pub mod Lists
+pub mod Put
+pub mod Written

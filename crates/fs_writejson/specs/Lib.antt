@@ -1,0 +1,11 @@
+pub mod Walk
+pub mod Mask
+pub mod Transform
+pub mod Condition
+pub mod Draft
+pub mod Rules
+pub mod Written
+pub mod Results
+pub mod Valid
+pub mod Steps
+pub mod Held

@@ -1,0 +1,21 @@
+-- The JSON of the result of a write. (v1 reference, "WriteResult".)
+--
+--     updated at 2024, an increment came to 3     {"transformResults":[{"integerValue":"3"}],"updateTime":"2024-01-01T00:00:00Z"}
+--     a delete                                    {}
+use Rattle.std.specs.Prelude.{ℤ, List, [], ◌∷◌, Option, Some, None, codes}
+use Rattle.serde_json.specs.Data as json
+use Rattle.fs_value.specs.Data.{Data}
+use Rattle.fs_json.specs.Time.{time_json}
+use Rattle.fs_valjson.specs.Writing.{list_json}
+use Rattle.fs_write.specs.declared.write_result.WriteResult.{WriteResult}
+
+abbrev pub updated_member : Option ℤ → json.Members
+updated_member None = json.no_members
+updated_member (Some time) = json.member (codes "updateTime") (time_json time) json.no_members
+
+abbrev pub with_results : List Data → json.Members → json.Members
+with_results [] rest = rest
+with_results (d ∷ ds) rest = json.member (codes "transformResults") (list_json (d ∷ ds)) rest
+
+unfoldable pub result_json : WriteResult → json.Data
+result_json r = json.object (with_results r.transforms (updated_member r.updated))

@@ -1,0 +1,132 @@
+//! Reads writes.
+ghost use Rattle.std.specs.Prelude.{◌≡◌, List, Option, option_map};
+ghost use Rattle.fs_path.specs.Way.{place_of};
+ghost use Rattle.fs_path.specs.declared.field.FieldPath.{FieldPath};
+ghost use Rattle.fs_json.specs.Answer.{Gives};
+ghost use Rattle.serde_json.specs.View.{items_view, view as json};
+ghost use Rattle.fs_write.specs.declared.write.Act.{Act as Acted};
+ghost use Rattle.fs_writejson.specs.Draft.{act_at, draft_at, drafts_at, mask_in, with_mask};
+ghost use Rattle.fs_writejson.specs.Rules.{write_at};
+ghost use Rattle.fs_writejson.specs.Walk.{each_at};
+
+use crate::condition::read_condition_of;
+use crate::draft::{Draft, Drafts};
+use crate::mask::read_mask;
+use crate::names::{DELETE, UNBUILT_MEMBERS, UPDATE, UPDATE_MASK, WRITE_MEMBERS};
+use crate::rules::permitted;
+use crate::transform::read_transforms_of;
+use fs_json::{Bad, document_name, list, member, only, refuse_unbuilt};
+use fs_path::{Paths, Root, Rule, Way};
+use fs_valjson::read_document;
+use fs_write::{Act, Write};
+use serde_json::Value;
+use std::alloc::Global;
+
+/// Reads one write: the walk, and then the rules of writes, which are told at its place. (v1 reference, "Write".)
+pub fn read_write(alloc: Global, root: &Root, v: &Value, place: &Way<'_>) -> Result<Write, Bad>
+    ensures { Gives (λ w. w) result (write_at root.now (json v.now) (place_of place.now)) }
+{
+    let draft = read_draft(alloc, root, v, place)?;
+    permitted(alloc, draft, place)
+}
+
+/// Reads the writes of a commit, each walked whole before the next. Their rules are tested by `judge`, since they come
+/// after the walk of the whole request.
+pub fn read_drafts(alloc: Global, root: &Root, v: &Value, place: &Way<'_>) -> Result<Drafts, Bad>
+    ensures { Gives (λ ds. ds) result (drafts_at root.now (json v.now) (place_of place.now)) }
+{
+    read_items(alloc, root, list(alloc, v, place)?, place)
+}
+
+fn read_items(alloc: Global, root: &Root, items: &[Value], place: &Way<'_>) -> Result<Drafts, Bad>
+    ensures { Gives (λ ds. ds) result
+        (each_at (draft_at root.now) (items_view items.now) 0 (place_of place.now)) }
+{
+    let mut drafts = Drafts::new(alloc);
+    for (i, item) in items.iter().enumerate() {
+        let draft = read_draft(alloc, root, item, &place.item(i as u64))?;
+        drafts.push(draft)?;
+    }
+    Ok(drafts)
+}
+
+/// The walk of a write.
+///
+/// At the way `x` the reader of `{"update":{"name":1},"updateMask":{"fieldPaths":["a..b"]}}` refuses at `x.update.name`,
+/// and where the name is good at `x.updateMask.fieldPaths[0]`. `{"delete":1,"verify":"a"}` is refused at `x.delete`, and
+/// where that is a name, `verify` is told as not built.
+#[tactic(auto, unfolding(crate::specs::Draft::draft_at))]
+fn read_draft(alloc: Global, root: &Root, v: &Value, place: &Way<'_>) -> Result<Draft, Bad>
+    ensures { Gives (λ d. d) result (draft_at root.now (json v.now) (place_of place.now)) }
+{
+    only(alloc, v, &WRITE_MEMBERS, place)?;
+    let update = member(alloc, v, UPDATE, place)?;
+    let delete = member(alloc, v, DELETE, place)?;
+    let act = read_act(alloc, root, v, place, update, delete)?;
+    refuse_unbuilt(alloc, v, &UNBUILT_MEMBERS, place)?;
+    let mask = read_mask_of(alloc, v, place)?;
+    let (transforms, is_numeric) = read_transforms_of(alloc, v, place)?;
+    let condition = read_condition_of(alloc, v, place)?;
+    let (act, idle_mask) = with_mask(act, mask);
+    Ok(Draft {
+        write: Write {
+            act,
+            transforms,
+            condition,
+        },
+        idle_mask,
+        is_numeric,
+    })
+}
+
+/// What a write does: just one of an update, which has no mask yet, and a delete.
+fn read_act(
+    alloc: Global,
+    root: &Root,
+    v: &Value,
+    place: &Way<'_>,
+    update: Option<&Value>,
+    delete: Option<&Value>,
+) -> Result<Act, Bad>
+    ensures { Gives (λ a. a) result (act_at root.now (json v.now) (place_of place.now)
+        (option_map (λ x. json x.now) update.entry) (option_map (λ x. json x.now) delete.entry)) }
+{
+    match (update, delete) {
+        (Some(document), None) => {
+            let document = read_document(alloc, root, document, &place.member(UPDATE))?;
+            Ok(Act::Set {
+                name: document.name,
+                fields: document.fields,
+            })
+        }
+        (None, Some(name)) => {
+            let name = document_name(alloc, root, name, &place.member(DELETE))?;
+            Ok(Act::Delete { name })
+        }
+        (None, None) => {
+            refuse_unbuilt(alloc, v, &UNBUILT_MEMBERS, place)?;
+            Err(Bad::at(alloc, Rule::E(1), place))
+        }
+        (Some(_), Some(_)) => Err(Bad::at(alloc, Rule::E(1), place)),
+    }
+}
+
+fn read_mask_of(alloc: Global, write: &Value, place: &Way<'_>) -> Result<Option<Paths>, Bad>
+    ensures { Gives {Y = Option (List FieldPath)} (λ mask. mask) result
+        (mask_in (json write.now) (place_of place.now)) }
+{
+    match member(alloc, write, UPDATE_MASK, place)? {
+        Some(mask) => Ok(Some(read_mask(alloc, mask, &place.member(UPDATE_MASK))?)),
+        None => Ok(None),
+    }
+}
+
+/// An update with its mask, which may be absent. A delete may have none: one that it is given stands beside it.
+fn with_mask(act: Act, mask: Option<Paths>) -> (Act, Option<Paths>)
+    ensures { result ≡ with_mask act mask }
+{
+    match (act, mask) {
+        (Act::Set { name, fields }, Some(mask)) => (Act::Merge { name, fields, mask }, None),
+        (act, mask) => (act, mask),
+    }
+}

@@ -1,0 +1,60 @@
+//! Writes the results of writes.
+ghost use Rattle.std.specs.Prelude.{◌≡◌, false, IfOk, OnOk};
+ghost use Rattle.serde_json.specs.View.{members_view, view as json};
+ghost use Rattle.serde_json.specs.Written.{has_float};
+ghost use Rattle.fs_writejson.specs.Results.{result_json};
+ghost use Rattle.fs_writejson.specs.Steps.{with_results_put, with_updated_put};
+
+use crate::names::{TRANSFORM_RESULTS, UPDATE_TIME};
+use fs_json::write_time;
+use fs_time::Micros;
+use fs_valjson::write_list;
+use fs_value::Values;
+use fs_write::WriteResult;
+use serde_json::{Map, Value};
+use std::alloc::{AllocError, Global};
+
+/// Writes the result of a write. What it hasn't is left out: the time of a delete, and transforms where there were none.
+/// (v1 reference, "WriteResult".)
+pub fn write_result(alloc: Global, answer: &WriteResult) -> Result<Value, AllocError>
+    ensures value { IfOk result (λ j. json j ≡ result_json answer.now) }
+    ensures no_float { IfOk result (λ j. has_float (json j) ≡ false) }
+{
+    let mut members = Map::new(alloc);
+    put_updated(alloc, &mut members, answer.updated)?;
+    put_results(alloc, &mut members, &answer.transforms)?;
+    Ok(Value::Object(members))
+}
+
+fn put_updated(
+    alloc: Global,
+    members: &mut Map<String, Value>,
+    updated: Option<Micros>,
+) -> Result<(), AllocError>
+    ensures { OnOk result (members_view members.new.entries
+        ≡ with_updated_put updated (members_view members.old.entries)) }
+{
+    match updated {
+        Some(time) => serde_json::put(members, alloc, UPDATE_TIME, write_time(alloc, time)?),
+        None => Ok(()),
+    }
+}
+
+fn put_results(
+    alloc: Global,
+    members: &mut Map<String, Value>,
+    results: &Values,
+) -> Result<(), AllocError>
+    ensures { OnOk result (members_view members.new.entries
+        ≡ with_results_put results.now (members_view members.old.entries)) }
+{
+    if results.is_empty() {
+        return Ok(());
+    }
+    serde_json::put(
+        members,
+        alloc,
+        TRANSFORM_RESULTS,
+        write_list(alloc, results)?,
+    )
+}

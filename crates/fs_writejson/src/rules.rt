@@ -1,0 +1,57 @@
+//! The rules that writes may break though they were walked.
+ghost use Rattle.std.specs.Prelude.{◌≡◌, IfOk};
+ghost use Rattle.fs_path.specs.Way.{place_of};
+ghost use Rattle.fs_json.specs.Answer.{Gives};
+ghost use Rattle.fs_writejson.specs.Rules.{judged_at, permitted_at, rule_of_draft, rules_at};
+
+use crate::draft::{Draft, Drafts};
+use fs_json::Bad;
+use fs_path::{Rule, Way};
+use fs_write::{Write, Writes, check_with, overlap_with};
+use std::alloc::{AllocError, Global};
+
+/// The writes of a commit, once no rule of writes is broken: the first write that breaks one is told at its place in the
+/// list, with the least of its rules. 2: two paths of the mask are equal, or one begins the other, also in a mask that a
+/// delete may not have. 3: a delete with a mask or transforms. 4: the operand of `increment`, `maximum` or `minimum` isn't
+/// an integer. Then those that `fs_write::check` tells.
+pub fn judge(alloc: Global, drafts: Drafts, place: &Way<'_>) -> Result<Writes, Bad>
+    ensures { Gives (λ ws. ws) result (judged_at drafts (place_of place.now)) }
+{
+    refuse_broken(alloc, drafts.as_slice(), place)?;
+    let writes = drafts.into_vec().into_iter().map(|draft| draft.write);
+    Ok(Writes::of(writes.collect(alloc)?))
+}
+
+fn refuse_broken(alloc: Global, drafts: &[Draft], place: &Way<'_>) -> Result<(), Bad>
+    ensures { Gives (λ u. u) result (rules_at drafts.now 0 (place_of place.now)) }
+{
+    for (i, draft) in drafts.iter().enumerate() {
+        if let Some(rule) = rule_of_draft(alloc, draft)? {
+            return Err(Bad::at(alloc, Rule::E(rule), &place.item(i as u64)));
+        }
+    }
+    Ok(())
+}
+
+/// The write of a draft that breaks no rule.
+pub(crate) fn permitted(alloc: Global, draft: Draft, place: &Way<'_>) -> Result<Write, Bad>
+    ensures { Gives (λ w. w) result (permitted_at draft (place_of place.now)) }
+{
+    match rule_of_draft(alloc, &draft)? {
+        Some(rule) => Err(Bad::at(alloc, Rule::E(rule), place)),
+        None => Ok(draft.write),
+    }
+}
+
+/// The least rule that a draft breaks, or none.
+fn rule_of_draft(alloc: Global, draft: &Draft) -> Result<Option<u8>, AllocError>
+    ensures { IfOk result (λ r. r ≡ rule_of_draft draft.now) }
+{
+    if let Some(mask) = &draft.idle_mask {
+        return Ok(Some(if overlap_with(alloc, mask)? { 2 } else { 3 }));
+    }
+    match check_with(alloc, &draft.write)? {
+        Some(rule) if rule < 4 => Ok(Some(rule)),
+        rule => Ok(if draft.is_numeric { rule } else { Some(4) }),
+    }
+}
