@@ -1,0 +1,195 @@
+//! What the forms in memory do by their paces, and the real ones over readers and writers that fail or stop short.
+use fs_edge::{
+    Clock, Door, Doors, Gave, Heard, Hearings, Link, MemoryClock, MemoryDoors, MemoryLink,
+    MemorySink, MemorySource, Moments, Pace, Paces, RealSink, RealSource, Sent, Sink, Source,
+    Status, Took,
+};
+use fs_path::{Bytes, Text};
+use fs_time::Micros;
+use std::io;
+use std::io::{ErrorKind, Read, Write};
+use std::process::Abort;
+use std::test::Fail;
+
+/// A reader or writer that fails at its first call, and then moves at most two bytes at each.
+#[derive(Drop)]
+struct FailsOnce<T> {
+    inner: T,
+    has_failed: bool,
+}
+
+impl<R: Read> Read for FailsOnce<R> {
+    fn read(&mut self, buf: &mut [u8]) -> io::Result<usize> {
+        if !self.has_failed {
+            self.has_failed = true;
+            return Err(ErrorKind::Other.into());
+        }
+        let most = buf.len().min(2);
+        self.inner.read(&mut buf[..most])
+    }
+}
+
+impl<W: Write> Write for FailsOnce<W> {
+    fn write(&mut self, buf: &[u8]) -> io::Result<usize> {
+        if !self.has_failed {
+            self.has_failed = true;
+            return Err(ErrorKind::Other.into());
+        }
+        let most = buf.len().min(2);
+        self.inner.write(&buf[..most])
+    }
+
+    fn flush(&mut self) -> io::Result<()> {
+        self.inner.flush()
+    }
+}
+
+/// Reads again and again into a buffer of four bytes: what each read gives, and the bytes that it put there.
+fn check_reads<S: Source>(rt: &impl Abort, source: &mut S, wants: &[(Took, &str)]) {
+    for (want, text) in wants {
+        let mut buffer = [0u8; 4];
+        let took = source.read(&mut buffer);
+        assert_eq!(rt; took, *want);
+        if let Took::Bytes(count) = took {
+            assert_eq!(rt; &buffer[..count], text.as_bytes());
+        }
+    }
+}
+
+/// Writes pieces: what each write gives.
+fn check_writes<K: Sink>(rt: &impl Abort, sink: &mut K, wants: &[(&str, Gave)]) {
+    for (piece, want) in wants {
+        assert_eq!(rt; sink.write(piece.as_bytes()), *want);
+    }
+}
+
+#[test]
+fn sources_give_their_bytes_in_order(rt: HostRuntime) -> Result<(), Fail> {
+    let alloc = rt.alloc();
+    let paces = Paces::of(vec![in alloc; Pace::AtMost(2), Pace::Fail]?);
+    let by_paces = [
+        (Took::Bytes(2), "ab"),
+        (Took::Failed, ""),
+        (Took::Bytes(3), "cde"),
+        (Took::End, ""),
+    ];
+    let mut source = MemorySource::new(Bytes::from_slice(alloc, b"abcde")?, paces);
+    check_reads(&rt, &mut source, &by_paces);
+
+    let whole = [
+        (Took::Bytes(4), "abcd"),
+        (Took::Bytes(1), "e"),
+        (Took::End, ""),
+    ];
+    let mut free = MemorySource::new(Bytes::from_slice(alloc, b"abcde")?, Paces::free(alloc));
+    check_reads(&rt, &mut free, &whole);
+    check_reads(&rt, &mut RealSource::new(b"abcde".as_slice()), &whole);
+
+    let after_a_failure = [
+        (Took::Failed, ""),
+        (Took::Bytes(2), "ab"),
+        (Took::Bytes(2), "cd"),
+        (Took::Bytes(1), "e"),
+        (Took::End, ""),
+    ];
+    let reader = FailsOnce {
+        inner: b"abcde".as_slice(),
+        has_failed: false,
+    };
+    check_reads(&rt, &mut RealSource::new(reader), &after_a_failure);
+    Ok(())
+}
+
+#[test]
+fn sinks_take_what_they_say(rt: HostRuntime) -> Result<(), Fail> {
+    let alloc = rt.alloc();
+    let paces = vec![in alloc; Pace::AtMost(2), Pace::Fail, Pace::AtMost(0), Pace::Fail]?;
+    let by_paces = [
+        ("abc", Gave::Bytes(2)),
+        ("c", Gave::Failed),
+        ("c", Gave::Failed),
+        ("", Gave::Failed),
+        ("c", Gave::Bytes(1)),
+        ("", Gave::Bytes(0)),
+    ];
+    let mut sink = MemorySink::new(alloc, Paces::of(paces));
+    check_writes(&rt, &mut sink, &by_paces);
+    assert_eq!(rt; sink.given().as_slice(), b"abc".as_slice());
+
+    let until_full = [
+        ("", Gave::Bytes(0)),
+        ("a", Gave::Bytes(1)),
+        ("bc", Gave::Bytes(1)),
+        ("c", Gave::Failed),
+    ];
+    let mut room = [0u8; 2];
+    check_writes(&rt, &mut RealSink::new(room.as_mut_slice()), &until_full);
+    assert_eq!(rt; room.as_slice(), b"ab".as_slice());
+
+    let after_a_failure = [
+        ("abc", Gave::Failed),
+        ("abc", Gave::Bytes(2)),
+        ("c", Gave::Bytes(1)),
+    ];
+    let mut written = Vec::new(alloc);
+    let writer = FailsOnce {
+        inner: &mut written,
+        has_failed: false,
+    };
+    check_writes(&rt, &mut RealSink::new(writer), &after_a_failure);
+    assert_eq!(rt; written.as_slice(), b"abc".as_slice());
+    Ok(())
+}
+
+#[test]
+fn a_link_in_memory_hears_and_sends_in_order(rt: HostRuntime) -> Result<(), Fail> {
+    let alloc = rt.alloc();
+    let heard = vec![in alloc; Heard::Message(Text::from_str(alloc, "one")?), Heard::Quiet]?;
+    let paces = Paces::of(vec![in alloc; Pace::Free, Pace::Fail]?);
+    let mut link = MemoryLink::new(alloc, Hearings::of(heard), paces);
+    match link.receive()? {
+        Heard::Message(text) => assert_eq!(rt; text.as_str(), "one"),
+        _ => assert!(rt; false, "a message is next"),
+    }
+    assert_eq!(rt; link.send("lost")?, Sent::Failed);
+    assert_eq!(rt; link.send("two")?, Sent::Done);
+    assert!(rt; matches!(&link.receive()?, Heard::Quiet));
+    assert!(rt; matches!(&link.receive()?, Heard::Closed));
+    assert_eq!(rt; link.sent().len(), 1);
+    assert_eq!(rt; link.sent().at(0).as_str(), "two");
+    Ok(())
+}
+
+#[test]
+fn doors_without_links_fail_and_a_clock_tells_its_last_moment_again(
+    rt: HostRuntime,
+) -> Result<(), Fail> {
+    let alloc = rt.alloc();
+    let mut doors = MemoryDoors::new();
+    assert_eq!(rt; doors.listen(8080)?, Sent::Failed);
+    assert!(rt; matches!(&doors.accept()?, Door::Failed));
+    assert!(rt; matches!(&doors.dial(8080)?, Door::Failed));
+    let first = Micros::new(1).ok_or("a moment")?;
+    let second = Micros::new(2).ok_or("a moment")?;
+    let mut clock = MemoryClock::new(Moments::of(vec![in alloc; first, second]?));
+    assert_eq!(rt; clock.now().get(), 1);
+    assert_eq!(rt; clock.now().get(), 2);
+    assert_eq!(rt; clock.now().get(), 2);
+    Ok(())
+}
+
+#[test]
+fn statuses_exit_as_documented(rt: HostRuntime) {
+    let table = [
+        (Status::Ok, 0),
+        (Status::Usage, 2),
+        (Status::Memory, 3),
+        (Status::ReadFault, 4),
+        (Status::WriteFault, 5),
+        (Status::InputLimit, 6),
+        (Status::DoorFault, 7),
+    ];
+    for (status, code) in table {
+        assert_eq!(rt; status.exit_code(), code);
+    }
+}
