@@ -1,10 +1,10 @@
 //! Scalars and members that are read, and what is written, by tables.
 use fs_json::{
-    Bad, at_most_one_of, base64_forms, bytes, document_name, integer, list, member, one_of, only,
-    reference, required, small, text, time, truth, write_bytes, write_integer, write_text,
-    write_time,
+    Bad, at_most_one_of, base64_forms, bytes, document_name, field_path, integer, list, member,
+    one_of, only, reference, refuse_unbuilt, required, small, text, time, truth, write_bytes,
+    write_integer, write_text, write_time,
 };
-use fs_path::{Bytes, Root, Text, Way, print_document};
+use fs_path::{Bytes, Root, Text, Way, print_document, print_field};
 use fs_time::Micros;
 use serde_json::Value;
 use std::alloc::Global;
@@ -17,6 +17,10 @@ fn shown(alloc: Global, read: Result<String, Bad>) -> Result<String, Fail> {
         Err(Bad::At(rule, place)) => {
             let place = place.as_str();
             Ok(format!(in alloc; "{rule:?} at {place}")?)
+        }
+        Err(Bad::Method(name)) => {
+            let name = name.as_str();
+            Ok(format!(in alloc; "{name} isn't built")?)
         }
         Err(bad) => Err(Fail::from(bad)),
     }
@@ -32,6 +36,7 @@ fn scalar(alloc: Global, reader: &str, v: &Value, here: &Way<'_>) -> Result<Stri
         "bytes" => Ok(format!(in alloc; "{:?}", bytes(alloc, v, here)?.as_slice())?),
         "time" => Ok(time(alloc, v, here)?.get().to_string(alloc)?),
         "list" => Ok(list(alloc, v, here)?.len().to_string(alloc)?),
+        "field_path" => Ok(print_field(alloc, &field_path(alloc, v, here)?)?.into_string()),
         _ => name(alloc, reader, v, here),
     }
 }
@@ -61,6 +66,10 @@ fn members(alloc: Global, reader: &str, v: &Value, here: &Way<'_>) -> Result<Str
         "only" => {
             only(alloc, v, &names, here)?;
             Ok(String::from_str(alloc, "only these")?)
+        }
+        "refuse_unbuilt" => {
+            refuse_unbuilt(alloc, v, &names, here)?;
+            Ok(String::from_str(alloc, "none of these")?)
         }
         "one_of" => {
             let (name, found) = one_of(alloc, v, &names, here)?;
@@ -148,7 +157,12 @@ reference "c/a" => P(1, None) at x
 reference null => G at x
 document_name "projects/demo/databases/(default)/documents/c/a" => projects/demo/databases/(default)/documents/c/a
 document_name "projects/x/databases/(default)/documents/c/a" => P(2, None) at x
-document_name 1 => G at x"#;
+document_name 1 => G at x
+field_path "a.`b c`" => a.`b c`
+field_path "`a`" => a
+field_path "a..b" => P(9, Some(2)) at x
+field_path "" => P(9, Some(0)) at x
+field_path 1 => G at x"#;
 
 const MEMBERS: &str = r#"member {"readTime":1} => 1
 member {"read_time":2} => 2
@@ -176,6 +190,11 @@ only {"updateTime":1,"update_time":1,"readTime":1,"read_time":1} => G at x.read_
 only {"readTime":null,"read_time":1} => only these
 only {"readTime":1,"read_time":null} => only these
 only {"nullValue":null,"null_value":null} => G at x.null_value
+refuse_unbuilt {"update":1,"delete":null} => none of these
+refuse_unbuilt {"updateTime":1,"read_time":1} => readTime isn't built
+refuse_unbuilt {"delete":false} => delete isn't built
+refuse_unbuilt {"readTime":1,"read_time":1} => G at x.read_time
+refuse_unbuilt [] => none of these
 one_of {"delete":1} => delete 1
 one_of {"update_time":1,"other":2} => updateTime 1
 one_of {"updateTime":1,"delete":null} => updateTime 1

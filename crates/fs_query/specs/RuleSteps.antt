@@ -1,0 +1,18 @@
+-- Only private clauses cite this: the least rule that is broken, from a rule on.
+use Rattle.std.specs.Prelude.{Option, None, if◌then◌else◌}
+use Rattle.std.specs.Option.{option_map_or}
+use Rattle.fs_query.specs.Asked.{Asked}
+use Rattle.fs_query.specs.Rules.{has_bad_list, long_not_in, has_two_contains, has_contains_any_beside, has_not_in_beside_other, has_not_in_beside_its_like, has_misused_name, has_bad_cursor, has_negative_number, has_order_twice, has_empty_composite, told, told_with, later_rule_of_query}
+use Rattle.fs_query.specs.declared.rule.QueryRule.{QueryRule}
+
+abbrev pub rules_from_11 : Asked → Option QueryRule
+rules_from_11 q = if has_bad_cursor q then told 11 else if has_negative_number q then told 12 else if has_order_twice q then told 13 else if has_empty_composite q then told 14 else None
+
+abbrev pub rules_from_8 : Asked → Option QueryRule
+rules_from_8 q = if has_not_in_beside_other q then told 8 else if has_not_in_beside_its_like q then told 9 else if has_misused_name q then told 10 else rules_from_11 q
+
+abbrev pub rules_from_6 : Asked → Option QueryRule
+rules_from_6 q = if has_two_contains q then told 6 else if has_contains_any_beside q then told 7 else rules_from_8 q
+
+abbrev pub rules_from_3 : Asked → Option QueryRule
+rules_from_3 q = if has_bad_list q then told 3 else option_map_or (told_with 4) (long_not_in q) (later_rule_of_query q)

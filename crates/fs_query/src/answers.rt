@@ -1,0 +1,156 @@
+//! The answer to a query.
+ghost use Rattle.std.specs.Prelude.{◌≡◌, ◌&&◌, IfOk, IsTrue, map, drop};
+ghost use Rattle.std.specs.List.{filter};
+ghost use Rattle.std.specs.List.Sorted.{IsPermutation, IsSorted};
+ghost use Rattle.std.specs.FinMap.{is_sorted};
+ghost use Rattle.fs_path.specs.NameOrder.{name_cmp};
+ghost use Rattle.fs_value.specs.Named.{by_name};
+ghost use Rattle.fs_value.specs.View.{view};
+ghost use Rattle.fs_query.specs.Answer.{IsAnswer, count_of, limited, place_cmp, is_behind_start, is_before_end, is_between};
+ghost use Rattle.fs_query.specs.DocumentOrder.{orders_cmp};
+ghost use Rattle.fs_query.specs.Fits.{fits};
+ghost use Rattle.fs_query.specs.Normal.{whole_order};
+
+use crate::compare::{compare_by, compare_found, turned};
+use crate::cursor::Cursor;
+use crate::field::{Seen, value_at};
+use crate::fits::matches;
+use crate::order::Order;
+use crate::query::Query;
+use crate::whole_order::whole_order;
+use fs_value::{Document, Documents, Value};
+use std::alloc::{AllocError, Global};
+use std::cmp::Ordering;
+
+/// The answer to a query over documents whose names rise: those that fit, in its order, as its cursors, offset and limit
+/// cut them. Each document is looked at once; those that fit and stand between the cursors are sorted where they are, and
+/// only those that are answered are copied. (v1 reference, "StructuredQuery".)
+pub fn answer(alloc: Global, q: &Query, docs: &Documents) -> Result<Documents, AllocError>
+    requires { IsTrue (is_sorted name_cmp (by_name docs.now)) }
+    ensures { IfOk result (λ ds. IsAnswer q.now docs.now ds) }
+{
+    let orders = whole_order(alloc, q)?;
+    answer_by(alloc, q, orders.as_slice(), docs.as_slice())
+}
+
+fn answer_by(
+    alloc: Global,
+    q: &Query,
+    orders: &[Order],
+    docs: &[Document],
+) -> Result<Documents, AllocError>
+    requires rise { IsTrue (is_sorted name_cmp (by_name docs.now)) }
+    requires whole { orders.now ≡ whole_order q.now }
+    ensures { IfOk result (λ ds. IsAnswer q.now docs.now ds) }
+{
+    let found = found_in(alloc, q, orders, docs)?;
+    let found = sorted(orders, found)?;
+    copied(alloc, cut(q, found.as_slice()))
+}
+
+// The documents that fit and stand between the cursors.
+fn found_in<'a>(
+    alloc: Global,
+    q: &Query,
+    orders: &[Order],
+    docs: &'a [Document],
+) -> Result<Vec<&'a Document>, AllocError>
+    requires { orders.now ≡ whole_order q.now }
+    ensures { IfOk result (λ v. map (λ d. d.now) v.items ≡ filter (λ d. fits q.now d && is_between q.now d) docs.now) }
+{
+    let mut found = Vec::new(alloc);
+    for d in docs {
+        if matches(q, d)
+            && is_behind_start(orders, &q.start, d)
+            && is_before_end(orders, &q.end, d)
+        {
+            found.push(d)?;
+        }
+    }
+    Ok(found)
+}
+
+// The same documents, in order.
+fn sorted<'a>(orders: &[Order], found: Vec<&'a Document>) -> Result<Vec<&'a Document>, AllocError>
+    ensures same { IfOk result (λ v. IsPermutation (map (λ d. d.now) found.entry.items) (map (λ d. d.now) v.items)) }
+    ensures rise { IfOk result (λ v. IsSorted (orders_cmp orders.now) (map (λ d. d.now) v.items)) }
+{
+    let mut sorted = found;
+    sorted.sort_by(|a, b| compare_by(orders, *a, *b))?;
+    Ok(sorted)
+}
+
+// Those behind the offset, within the limit.
+fn cut<'a, 'b>(q: &Query, found: &'b [&'a Document]) -> &'b [&'a Document]
+    ensures { map (λ d. d.now) result.now ≡ limited q.now.limit (drop (count_of q.now.offset) (map (λ d. d.now) found.now)) }
+{
+    let from = count_of(q.offset).min(found.len());
+    let kept = &found[from..];
+    match q.limit {
+        Some(limit) => &kept[..count_of(limit).min(kept.len())],
+        None => kept,
+    }
+}
+
+fn copied(alloc: Global, found: &[&Document]) -> Result<Documents, AllocError>
+    ensures { IfOk result (λ ds. ds ≡ map (λ d. d.now) found.now) }
+{
+    let mut items = Vec::with_capacity(alloc, found.len())?;
+    for d in found {
+        items.push(d.copy(alloc)?)?;
+    }
+    Ok(Documents::of(items))
+}
+
+// A number of documents.
+fn count_of(n: i32) -> usize
+    ensures { result ≡ count_of n }
+{
+    if n < 0 { 0 } else { n as usize }
+}
+
+fn is_behind_start(orders: &[Order], start: &Option<Cursor>, d: &Document) -> bool
+    ensures { result ≡ is_behind_start orders.now start.now d.now }
+{
+    match start {
+        Some(cursor) => {
+            let place = compare_place(orders, cursor.values.as_slice(), d);
+            if cursor.before {
+                place.is_ge()
+            } else {
+                place.is_gt()
+            }
+        }
+        None => true,
+    }
+}
+
+fn is_before_end(orders: &[Order], end: &Option<Cursor>, d: &Document) -> bool
+    ensures { result ≡ is_before_end orders.now end.now d.now }
+{
+    match end {
+        Some(cursor) => {
+            let place = compare_place(orders, cursor.values.as_slice(), d);
+            if cursor.before {
+                place.is_lt()
+            } else {
+                place.is_le()
+            }
+        }
+        None => true,
+    }
+}
+
+// A document beside values for the first fields of the order.
+fn compare_place(orders: &[Order], values: &[Value], d: &Document) -> Ordering
+    ensures { result ≡ place_cmp orders.now (map view values.now) d.now }
+{
+    for (order, value) in orders.iter().zip(values) {
+        let found = compare_found(value_at(&order.path, d), Some(Seen::Value(value)));
+        let by_order = turned(order.descending, found);
+        if by_order != Ordering::Equal {
+            return by_order;
+        }
+    }
+    Ordering::Equal
+}

@@ -1,0 +1,38 @@
+//! Structured queries: whether one is valid, which documents fit it, their order, and the answer.
+#![tactic(auto)]
+
+mod answers;
+mod census;
+mod compare;
+mod count;
+mod cursor;
+mod cursor_rule;
+mod disjuncts;
+mod field;
+mod filter;
+mod fits;
+mod laws;
+mod limits;
+mod normal;
+mod op;
+mod order;
+mod peaks;
+mod projection;
+mod query;
+mod rule;
+mod rules;
+mod whole_order;
+
+pub use answers::answer;
+pub use compare::compare_docs;
+pub use cursor::Cursor;
+pub use filter::{Filter, Filters};
+pub use fits::matches;
+pub use laws::{answers_are_lawful, filters_are_lawful, projections_are_lawful};
+pub use normal::{Normal, normal_form};
+pub use op::Op;
+pub use order::{Order, Orders};
+pub use projection::project;
+pub use query::Query;
+pub use rule::QueryRule;
+pub use rules::check;

@@ -1,0 +1,252 @@
+//! Whether a query is valid.
+ghost use Rattle.std.specs.Prelude.{◌≡◌, ◌||◌, ◌&&◌, false, nat_lt};
+ghost use Rattle.std.specs.List.{list_any};
+ghost use Rattle.std.specs.Option.{option_map_or};
+ghost use Rattle.fs_path.specs.FieldName.{is_bad_name};
+ghost use Rattle.fs_value.specs.View.{view};
+ghost use Rattle.fs_query.specs.Census.{census_in};
+ghost use Rattle.fs_query.specs.RuleSteps.{rules_from_3, rules_from_6, rules_from_8, rules_from_11};
+ghost use Rattle.fs_query.specs.Rules.{parts, has_bad_collection, has_bad_path, is_bad_path, is_reference, has_negative_number, is_negative, some_twice, told, told_with, later_rule_of_query, rule_of_query};
+
+use crate::census::{Census, census_of};
+use crate::count::disjunct_count;
+use crate::cursor_rule::has_bad_cursor;
+use crate::field::is_name;
+use crate::limits::MAX_DISJUNCTS;
+use crate::order::Order;
+use crate::peaks::{Peaks, peaks_of};
+use crate::query::Query;
+use crate::rule::QueryRule;
+use crate::whole_order::is_ordered;
+use fs_path::{FieldPath, Paths, Scope, Text, is_bad_field_name, is_bad_id};
+use fs_value::Value;
+
+/// The least rule of queries that a query breaks, or none. It takes no memory.
+///
+/// 1: no id of a collection. 2: a bad field name. 3: IN, NOT_IN or ARRAY_CONTAINS_ANY without values. 4: NOT_IN with more
+/// than 10. 5: more than 30 disjuncts. 6: two ARRAY_CONTAINS in one. 7: ARRAY_CONTAINS_ANY beside another array operator.
+/// 8: NOT_IN beside OR, IN, ARRAY_CONTAINS_ANY or NOT_EQUAL. 9: NOT_IN beside IS_NOT_NULL or NOT_IN. 10: `__name__`
+/// compared with what is no reference. 11: a cursor that doesn't go with the order. 12: an offset or limit below 0. 13: an
+/// order that is given twice. 14: an AND or OR of nothing. (Cloud Firestore documentation, "Query operators"; what excludes
+/// what at 6 to 9 is this project's own.)
+pub fn check(q: &Query) -> Option<QueryRule>
+    ensures { result ≡ rule_of_query q.now }
+{
+    let census = census_of(&q.filter);
+    if has_bad_collection(q) {
+        rule(1)
+    } else if has_bad_path(q, census) {
+        rule(2)
+    } else {
+        rule_from_3(q, census)
+    }
+}
+
+fn rule(number: u8) -> Option<QueryRule>
+    ensures { result ≡ told number }
+{
+    Some(QueryRule {
+        number,
+        count: None,
+    })
+}
+
+fn rule_with(number: u8, count: u64) -> Option<QueryRule>
+    ensures { result ≡ told_with number count }
+{
+    Some(QueryRule {
+        number,
+        count: Some(count),
+    })
+}
+
+// The least of the rules from 3 on, and so on below.
+fn rule_from_3(q: &Query, census: Census) -> Option<QueryRule>
+    requires { census ≡ census_in (parts q.now.filter) }
+    ensures { result ≡ rules_from_3 q.now }
+{
+    if census.bad_list {
+        rule(3)
+    } else {
+        match census.long_not_in {
+            Some(count) => rule_with(4, count),
+            None => rule_from_5(q, census),
+        }
+    }
+}
+
+fn rule_from_5(q: &Query, census: Census) -> Option<QueryRule>
+    requires { census ≡ census_in (parts q.now.filter) }
+    ensures { result ≡ later_rule_of_query q.now }
+{
+    let count = disjunct_count(&q.filter);
+    if count > MAX_DISJUNCTS {
+        rule_with(5, count)
+    } else {
+        rule_from_6(q, census)
+    }
+}
+
+fn rule_from_6(q: &Query, census: Census) -> Option<QueryRule>
+    requires { census ≡ census_in (parts q.now.filter) }
+    ensures { result ≡ rules_from_6 q.now }
+{
+    let peaks = peaks_of(&q.filter);
+    if has_two_contains(peaks) {
+        rule(6)
+    } else if has_any_beside(peaks) {
+        rule(7)
+    } else {
+        rule_from_8(q, census)
+    }
+}
+
+fn rule_from_8(q: &Query, census: Census) -> Option<QueryRule>
+    requires { census ≡ census_in (parts q.now.filter) }
+    ensures { result ≡ rules_from_8 q.now }
+{
+    if is_beside_other(census) {
+        rule(8)
+    } else if is_beside_its_like(census) {
+        rule(9)
+    } else if census.misused_name {
+        rule(10)
+    } else {
+        rule_from_11(q, census)
+    }
+}
+
+fn rule_from_11(q: &Query, census: Census) -> Option<QueryRule>
+    requires { census ≡ census_in (parts q.now.filter) }
+    ensures { result ≡ rules_from_11 q.now }
+{
+    if has_bad_cursor(q) {
+        rule(11)
+    } else if has_negative_number(q) {
+        rule(12)
+    } else if some_twice(q.orders.as_slice()) {
+        rule(13)
+    } else if census.without_filters {
+        rule(14)
+    } else {
+        None
+    }
+}
+
+fn has_two_contains(peaks: Option<Peaks>) -> bool
+    ensures { result ≡ option_map_or (λ p. nat_lt 1 p.contains) peaks false }
+{
+    match peaks {
+        Some(peaks) => peaks.contains > 1,
+        None => false,
+    }
+}
+
+fn has_any_beside(peaks: Option<Peaks>) -> bool
+    ensures { result ≡ option_map_or (λ p. nat_lt 1 p.beside_any) peaks false }
+{
+    match peaks {
+        Some(peaks) => peaks.beside_any > 1,
+        None => false,
+    }
+}
+
+// Whether a NOT_IN stands beside another operator that it can't stand beside.
+fn is_beside_other(census: Census) -> bool
+    ensures { result ≡ (census.not_in && census.kept_from_not_in) }
+{
+    census.not_in && census.kept_from_not_in
+}
+
+fn is_beside_its_like(census: Census) -> bool
+    ensures { result ≡ (census.not_in && (census.not_null || census.second_not_in)) }
+{
+    census.not_in && (census.not_null || census.second_not_in)
+}
+
+fn has_negative_number(q: &Query) -> bool
+    ensures { result ≡ has_negative_number q.now }
+{
+    is_negative(q.offset)
+        || match q.limit {
+            Some(limit) => is_negative(limit),
+            None => false,
+        }
+}
+
+fn is_negative(number: i32) -> bool
+    ensures { result ≡ is_negative number }
+{
+    number < 0
+}
+
+fn has_bad_collection(q: &Query) -> bool
+    ensures { result ≡ has_bad_collection q.now }
+{
+    match &q.scope {
+        Scope::Collection { id, .. } => is_bad_id(id.as_str()),
+        Scope::Group { id, .. } => is_bad_id(id.as_str()),
+    }
+}
+
+/// Whether a path has a bad name. `__name__` may be a whole path.
+pub(crate) fn is_bad_path(path: &FieldPath) -> bool
+    ensures { result ≡ is_bad_path path.now }
+{
+    !is_name(path) && some_bad_name(path.parts.as_slice())
+}
+
+fn some_bad_name(names: &[Text]) -> bool
+    ensures { result ≡ list_any is_bad_name names.now }
+{
+    names.iter().any(|name| is_bad_field_name(name.as_str()))
+}
+
+fn has_bad_path(q: &Query, census: Census) -> bool
+    requires { census ≡ census_in (parts q.now.filter) }
+    ensures { result ≡ has_bad_path q.now }
+{
+    census.bad_path || some_bad_order(q.orders.as_slice()) || selects_bad_path(&q.select)
+}
+
+fn selects_bad_path(select: &Option<Paths>) -> bool
+    ensures { result ≡ option_map_or (list_any is_bad_path) select.now false }
+{
+    match select {
+        Some(paths) => some_bad_path(paths.as_slice()),
+        None => false,
+    }
+}
+
+fn some_bad_order(orders: &[Order]) -> bool
+    ensures { result ≡ list_any (λ o. is_bad_path o.path) orders.now }
+{
+    orders.iter().any(|order| is_bad_path(&order.path))
+}
+
+fn some_bad_path(paths: &[FieldPath]) -> bool
+    ensures { result ≡ list_any is_bad_path paths.now }
+{
+    paths.iter().any(|path| is_bad_path(path))
+}
+
+pub(crate) fn is_reference(v: &Value) -> bool
+    ensures { result ≡ is_reference (view v.now) }
+{
+    match v {
+        Value::Reference(_) => true,
+        _ => false,
+    }
+}
+
+// Whether two of the orders have one path.
+fn some_twice(orders: &[Order]) -> bool
+    ensures { result ≡ some_twice orders.now }
+{
+    for (i, order) in orders.iter().enumerate() {
+        if is_ordered(&orders[i + 1..], &order.path) {
+            return true;
+        }
+    }
+    false
+}
