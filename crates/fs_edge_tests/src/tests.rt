@@ -63,82 +63,102 @@ fn check_writes<K: Sink>(rt: &impl Abort, sink: &mut K, wants: &[(&str, Gave)]) 
     }
 }
 
+const BY_PACES: [(Took, &str); 4] = [
+    (Took::Bytes(2), "ab"),
+    (Took::Failed, ""),
+    (Took::Bytes(3), "cde"),
+    (Took::End, ""),
+];
+
+const WHOLE: [(Took, &str); 3] = [
+    (Took::Bytes(4), "abcd"),
+    (Took::Bytes(1), "e"),
+    (Took::End, ""),
+];
+
+const READ_AFTER_A_FAILURE: [(Took, &str); 5] = [
+    (Took::Failed, ""),
+    (Took::Bytes(2), "ab"),
+    (Took::Bytes(2), "cd"),
+    (Took::Bytes(1), "e"),
+    (Took::End, ""),
+];
+
 #[test]
-fn sources_give_their_bytes_in_order(rt: HostRuntime) -> Result<(), Fail> {
+fn a_source_in_memory_goes_by_its_paces(rt: HostRuntime) -> Result<(), Fail> {
     let alloc = rt.alloc();
     let paces = Paces::of(vec![in alloc; Pace::AtMost(2), Pace::Fail]?);
-    let by_paces = [
-        (Took::Bytes(2), "ab"),
-        (Took::Failed, ""),
-        (Took::Bytes(3), "cde"),
-        (Took::End, ""),
-    ];
     let mut source = MemorySource::new(Bytes::from_slice(alloc, b"abcde")?, paces);
-    check_reads(&rt, &mut source, &by_paces);
-
-    let whole = [
-        (Took::Bytes(4), "abcd"),
-        (Took::Bytes(1), "e"),
-        (Took::End, ""),
-    ];
-    let mut free = MemorySource::new(Bytes::from_slice(alloc, b"abcde")?, Paces::free(alloc));
-    check_reads(&rt, &mut free, &whole);
-    check_reads(&rt, &mut RealSource::new(b"abcde".as_slice()), &whole);
-
-    let after_a_failure = [
-        (Took::Failed, ""),
-        (Took::Bytes(2), "ab"),
-        (Took::Bytes(2), "cd"),
-        (Took::Bytes(1), "e"),
-        (Took::End, ""),
-    ];
-    let reader = FailsOnce {
-        inner: b"abcde".as_slice(),
-        has_failed: false,
-    };
-    check_reads(&rt, &mut RealSource::new(reader), &after_a_failure);
+    check_reads(&rt, &mut source, &BY_PACES);
     Ok(())
 }
 
 #[test]
-fn sinks_take_what_they_say(rt: HostRuntime) -> Result<(), Fail> {
+fn sources_give_their_bytes_in_order(rt: HostRuntime) -> Result<(), Fail> {
+    let alloc = rt.alloc();
+    let mut free = MemorySource::new(Bytes::from_slice(alloc, b"abcde")?, Paces::free(alloc));
+    check_reads(&rt, &mut free, &WHOLE);
+    check_reads(&rt, &mut RealSource::new(b"abcde".as_slice()), &WHOLE);
+    Ok(())
+}
+
+#[test]
+fn a_source_goes_on_after_a_failure(rt: HostRuntime) {
+    let reader = FailsOnce {
+        inner: b"abcde".as_slice(),
+        has_failed: false,
+    };
+    check_reads(&rt, &mut RealSource::new(reader), &READ_AFTER_A_FAILURE);
+}
+
+const GIVEN_BY_PACES: [(&str, Gave); 6] = [
+    ("abc", Gave::Bytes(2)),
+    ("c", Gave::Failed),
+    ("c", Gave::Failed),
+    ("", Gave::Failed),
+    ("c", Gave::Bytes(1)),
+    ("", Gave::Bytes(0)),
+];
+
+const UNTIL_FULL: [(&str, Gave); 4] = [
+    ("", Gave::Bytes(0)),
+    ("a", Gave::Bytes(1)),
+    ("bc", Gave::Bytes(1)),
+    ("c", Gave::Failed),
+];
+
+const GIVEN_AFTER_A_FAILURE: [(&str, Gave); 3] = [
+    ("abc", Gave::Failed),
+    ("abc", Gave::Bytes(2)),
+    ("c", Gave::Bytes(1)),
+];
+
+#[test]
+fn a_sink_in_memory_goes_by_its_paces(rt: HostRuntime) -> Result<(), Fail> {
     let alloc = rt.alloc();
     let paces = vec![in alloc; Pace::AtMost(2), Pace::Fail, Pace::AtMost(0), Pace::Fail]?;
-    let by_paces = [
-        ("abc", Gave::Bytes(2)),
-        ("c", Gave::Failed),
-        ("c", Gave::Failed),
-        ("", Gave::Failed),
-        ("c", Gave::Bytes(1)),
-        ("", Gave::Bytes(0)),
-    ];
     let mut sink = MemorySink::new(alloc, Paces::of(paces));
-    check_writes(&rt, &mut sink, &by_paces);
+    check_writes(&rt, &mut sink, &GIVEN_BY_PACES);
     assert_eq!(rt; sink.given().as_slice(), b"abc".as_slice());
+    Ok(())
+}
 
-    let until_full = [
-        ("", Gave::Bytes(0)),
-        ("a", Gave::Bytes(1)),
-        ("bc", Gave::Bytes(1)),
-        ("c", Gave::Failed),
-    ];
+#[test]
+fn a_sink_takes_what_it_has_room_for(rt: HostRuntime) {
     let mut room = [0u8; 2];
-    check_writes(&rt, &mut RealSink::new(room.as_mut_slice()), &until_full);
+    check_writes(&rt, &mut RealSink::new(room.as_mut_slice()), &UNTIL_FULL);
     assert_eq!(rt; room.as_slice(), b"ab".as_slice());
+}
 
-    let after_a_failure = [
-        ("abc", Gave::Failed),
-        ("abc", Gave::Bytes(2)),
-        ("c", Gave::Bytes(1)),
-    ];
-    let mut written = Vec::new(alloc);
+#[test]
+fn a_sink_goes_on_after_a_failure(rt: HostRuntime) {
+    let mut written = Vec::new(rt.alloc());
     let writer = FailsOnce {
         inner: &mut written,
         has_failed: false,
     };
-    check_writes(&rt, &mut RealSink::new(writer), &after_a_failure);
+    check_writes(&rt, &mut RealSink::new(writer), &GIVEN_AFTER_A_FAILURE);
     assert_eq!(rt; written.as_slice(), b"abc".as_slice());
-    Ok(())
 }
 
 #[test]
@@ -161,14 +181,17 @@ fn a_link_in_memory_hears_and_sends_in_order(rt: HostRuntime) -> Result<(), Fail
 }
 
 #[test]
-fn doors_without_links_fail_and_a_clock_tells_its_last_moment_again(
-    rt: HostRuntime,
-) -> Result<(), Fail> {
-    let alloc = rt.alloc();
+fn doors_without_links_fail(rt: HostRuntime) -> Result<(), Fail> {
     let mut doors = MemoryDoors::new();
     assert_eq!(rt; doors.listen(8080)?, Sent::Failed);
     assert!(rt; matches!(&doors.accept()?, Door::Failed));
     assert!(rt; matches!(&doors.dial(8080)?, Door::Failed));
+    Ok(())
+}
+
+#[test]
+fn a_clock_in_memory_tells_its_last_moment_again(rt: HostRuntime) -> Result<(), Fail> {
+    let alloc = rt.alloc();
     let first = Micros::new(1).ok_or("a moment")?;
     let second = Micros::new(2).ok_or("a moment")?;
     let mut clock = MemoryClock::new(Moments::of(vec![in alloc; first, second]?));

@@ -1,14 +1,9 @@
 //! Writes and batches, by a table.
-ghost use Rattle.std.specs.Prelude.{IfOk, IsTrue};
-ghost use Rattle.std.specs.FinMap.{is_sorted};
-ghost use Rattle.fs_path.specs.NameOrder.{name_cmp};
-ghost use Rattle.fs_value.specs.Named.{by_name};
-
 use crate::commits::COMMITS;
 use crate::short::{act, fields, moment, name_of, number, transforms};
 use fs_path::Text;
 use fs_status::message;
-use fs_value::{Document, DocumentMap, Documents, Fields, SharedFields, Value, fields_same};
+use fs_value::{Document, DocumentMap, Fields, SharedFields, Value, fields_same};
 use fs_write::{
     Act, Change, Changes, Precondition, Write, WriteResults, Writes, apply_batch,
     batches_are_lawful, writes_are_lawful,
@@ -28,21 +23,22 @@ fn fields_of(alloc: Global, text: &str) -> Result<Fields, AllocError> {
     fields(alloc, text.strip_prefix(".").unwrap_or(text))
 }
 
-fn documents(alloc: Global, text: &str) -> Result<Documents, AllocError>
-    ensures { IfOk result (λ ds. IsTrue (is_sorted name_cmp (by_name ds))) }
-{
+fn documents(alloc: Global, text: &str) -> Result<DocumentMap, AllocError> {
     let mut map = DocumentMap::new(alloc);
     for one in text.split("/") {
         if let Some((id, text)) = one.split_once(" ") {
-            map.put(Document {
-                name: name_of(alloc, id)?,
-                fields: SharedFields::of(alloc, fields_of(alloc, text)?)?,
-                created: moment(CREATED)?,
-                updated: moment(UPDATED)?,
-            })?;
+            map.put(
+                alloc,
+                Document {
+                    name: name_of(alloc, id)?,
+                    fields: SharedFields::of(alloc, fields_of(alloc, text)?)?,
+                    created: moment(CREATED)?,
+                    updated: moment(UPDATED)?,
+                },
+            )?;
         }
     }
-    map.documents(alloc)
+    Ok(map)
 }
 
 fn condition(text: &str) -> Result<Precondition, AllocError> {
@@ -142,17 +138,15 @@ fn are_results(results: &WriteResults, text: &str) -> Result<bool, AllocError> {
 // Whether a commit comes to these changes and results, or is refused with this message where there are no results.
 fn comes_to(
     alloc: Global,
-    docs: &Documents,
+    map: &DocumentMap,
     writes: &Writes,
     changes: &str,
     results: &str,
-) -> Result<bool, AllocError>
-    requires { IsTrue (is_sorted name_cmp (by_name docs.now)) }
-{
+) -> Result<bool, AllocError> {
     if writes.len() > 500 {
         return Ok(false);
     }
-    match apply_batch(alloc, docs, writes, moment(TIME)?) {
+    match apply_batch(alloc, &map.documents(alloc)?, writes, moment(TIME)?) {
         Ok((found, told)) => {
             Ok(are_changes(alloc, &found, changes)? && are_results(&told, results)?)
         }
@@ -214,13 +208,11 @@ fn of_size(alloc: Global, bytes: usize) -> Result<Writes, AllocError> {
     Ok(all)
 }
 
-fn is_taken(alloc: Global, docs: &Documents, writes: &Writes) -> Result<bool, AllocError>
-    requires { IsTrue (is_sorted name_cmp (by_name docs.now)) }
-{
+fn is_taken(alloc: Global, map: &DocumentMap, writes: &Writes) -> Result<bool, AllocError> {
     if writes.len() > 500 {
         return Ok(false);
     }
-    Ok(apply_batch(alloc, docs, writes, moment(TIME)?).is_ok())
+    Ok(apply_batch(alloc, &map.documents(alloc)?, writes, moment(TIME)?).is_ok())
 }
 
 #[test]
