@@ -6,11 +6,11 @@ use Rattle.std.specs.Map.{keys_of}
 use Rattle.std.proofs.lemmas.List.{append-nil}
 use Rattle.fs_path.specs.declared.name.DocName.{DocName}
 use Rattle.fs_path.specs.NameOrder.{name_cmp, name_cmp_total}
-use Rattle.fs_value.specs.declared.document_map.Held.{Held}
-use Rattle.fs_value.proofs.Tree.{insert_last}
+use Rattle.fs_value.specs.declared.document.Document.{Document}
+use Rattle.fs_value.specs.Tree.{insert_last}
 
 -- the copies of a tree's entries, in their order: one more
-pub copied_more : (done rest next whole new : List (DocName × Held)) (k l : DocName) (v w : Held) → IsStrictlySortedBy name_cmp (keys_of whole)
+pub copied_more : (done rest next whole new : List (DocName × Document)) (k l : DocName) (v w : Document) → IsStrictlySortedBy name_cmp (keys_of whole)
     → done ++ rest ≡ whole → rest ≡ (k, v) ∷ next → l ≡ k → w ≡ v → new ≡ insert_entry name_cmp done l w → new ++ next ≡ whole
 copied_more done rest next whole new k l v w rise from first key value is =
     let split : done ++ (k, v) ∷ next ≡ whole = ap (λ es. done ++ es) (sym first) ∙ from in

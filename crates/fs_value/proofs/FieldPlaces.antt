@@ -14,7 +14,7 @@ use Rattle.fs_path.specs.TextOrder.{text_cmp, text_cmp_total}
 use Rattle.fs_value.specs.Data.{Data}
 use Rattle.fs_value.specs.FieldPaths.{without}
 use Rattle.fs_value.specs.FieldPlace.{IsFoundAt}
-use Rattle.fs_value.proofs.Rising.{less_is}
+use Rattle.fs_value.specs.Rising.{less_is}
 use Rattle.fs_value.specs.View.{view, field_view}
 use Rattle.fs_value.specs.declared.value.Value.{Value}
 use Rattle.fs_value.specs.declared.fields.Field.{Field}

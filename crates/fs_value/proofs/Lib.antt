@@ -1,8 +1,6 @@
 pub mod Weights
-pub mod Rising
 pub mod Places
-pub mod Tree
-pub mod Joined
+pub mod Named
 pub mod Copied
 pub mod Folds
 pub mod Comparing

@@ -3,7 +3,7 @@ use Rattle.std.proofs.Common.{◌≡◌, ℕ, zero, suc, ◌<◌, ◌≤◌, ◌
 use Rattle.std.specs.Prelude.{insert, IsTrue, T}
 use Rattle.std.specs.Ordering.{ordering_reverse, is_lt, is_eq}
 use Rattle.std.specs.Cmp.{IsTotalOrder, first_so, second_so}
-use Rattle.fs_value.proofs.Rising.{less_is}
+use Rattle.fs_value.specs.Rising.{less_is}
 use Rattle.std.specs.FinMap.{find, put, is_sorted, IsAntisymmetric}
 use Rattle.std.specs.FinMap.Entries.{below_all, by_order, is_sorted-put}
 use Rattle.std.specs.List.Sorted.{IsSortedBy}

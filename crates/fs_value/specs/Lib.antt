@@ -12,3 +12,5 @@ pub mod ViewOrder
 pub mod Falls
 pub mod FieldPlace
 pub mod FieldPaths
+pub mod Rising
+pub mod Tree

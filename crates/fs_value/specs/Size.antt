@@ -51,5 +51,8 @@ abbrev mutual
   members_size (member k d ms) = text_size k + value_size d + members_size ms
 
 -- a document: its name, its fields, and the additional bytes
+abbrev pub named_size : DocName → List (List ℕ × Data) → ℕ
+named_size name fields = document_extra + name_size name + members_size (members_of fields)
+
 abbrev pub document_size : Document → ℕ
-document_size d = document_extra + name_size d.name + members_size (members_of d.fields)
+document_size d = named_size d.name d.fields

@@ -1,7 +1,7 @@
 //! The counted size of a document, by which its limit and its price go.
 ghost use Rattle.std.specs.Prelude.{◌≡◌, ◌-◌, ◌^◌, min};
 ghost use Rattle.fs_value.specs.Data.{items_of, members_of};
-ghost use Rattle.fs_value.specs.Size.{text_size as text_size_of, name_size as name_size_of, value_size as value_size_of, items_size as items_size_of, members_size, document_size};
+ghost use Rattle.fs_value.specs.Size.{text_size as text_size_of, name_size as name_size_of, value_size as value_size_of, items_size as items_size_of, members_size, named_size as named_size_of, document_size};
 ghost use Rattle.fs_value.specs.View.{view};
 
 use crate::document::Document;
@@ -28,8 +28,15 @@ const NUMBER_SIZE: u128 = 8;
 pub fn size(d: &Document) -> u128
     ensures { result ≡ min (document_size d.now) (2 ^ 128 - 1) }
 {
-    fields_size(d.fields.as_fields())
-        .saturating_add(name_size(&d.name))
+    named_size(&d.name, d.fields.as_fields())
+}
+
+/// The counted size of the document that a name and fields make, in bytes, as `size` counts it.
+pub fn named_size(name: &DocName, fields: &Fields) -> u128
+    ensures { result ≡ min (named_size_of name.now fields.now) (2 ^ 128 - 1) }
+{
+    fields_size(fields)
+        .saturating_add(name_size(name))
         .saturating_add(DOCUMENT_EXTRA)
 }
 

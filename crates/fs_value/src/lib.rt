@@ -14,7 +14,7 @@ mod shared;
 mod value;
 mod values;
 
-pub use counted::size;
+pub use counted::{named_size, size};
 pub use document::{Document, Documents};
 pub use document_map::DocumentMap;
 pub use fields::{Field, Fields};

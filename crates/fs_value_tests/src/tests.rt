@@ -305,7 +305,7 @@ fn documents_by_their_names(rt: HostRuntime) -> Result<(), Fail> {
     let alloc = rt.alloc();
     let mut documents = DocumentMap::new(alloc);
     for (id, n) in [("b", 1), ("a", 2), ("b", 3)] {
-        documents.put(document(alloc, id, Value::Integer(n))?)?;
+        documents.put(alloc, document(alloc, id, Value::Integer(n))?)?;
     }
     let all = documents.documents(alloc)?.copy(alloc)?;
     assert_eq!(rt; all.len(), 2);
@@ -314,9 +314,10 @@ fn documents_by_their_names(rt: HostRuntime) -> Result<(), Fail> {
         assert!(rt; has_integer(d.fields.as_fields(), n));
     }
     let b = name(alloc, "demo/(default)/c/b")?;
-    assert!(rt; documents.get(alloc, &b)?.is_some());
+    assert!(rt; documents.get(&b).is_some());
+    assert_eq!(rt; documents.lent(alloc)?.len(), 2);
     assert!(rt; documents.remove(&b).is_some());
-    assert!(rt; documents.get(alloc, &b)?.is_none());
+    assert!(rt; documents.get(&b).is_none());
     assert_eq!(rt; documents.copy(alloc)?.len(), 1);
     Ok(())
 }

@@ -1,7 +1,7 @@
 -- A `BTreeMap` as a finite map, at keys in any total order that tells them apart: what its clauses say of its entries is
 -- what `get`, `insert` and `remove` say of the map. Its entries in order are the map's, and so are those of any list
 -- whose keys rise.
-use Rattle.std.specs.Prelude.{◌≡◌, cond, IsTrue, List, [], ◌∷◌, ◌++◌, Some, None, refl}
+use Rattle.std.specs.Prelude.{◌≡◌, cond, IsTrue, List, [], ◌∷◌, ◌++◌, map, length, Some, None, refl}
 use Rattle.std.proofs.Common.{sym, ap, ◌∙◌}
 use Rattle.std.specs.Ordering.{eq_by_cmp, ordering_reverse, match_ordering}
 use Rattle.std.specs.declared.cmp.Ordering.{Ordering}
@@ -11,11 +11,11 @@ use Rattle.std.specs.List.{AllByRecursion}
 use Rattle.std.specs.List.Sorted.{IsStrictlySortedBy}
 use Rattle.std.specs.Map.{lookup, keys_of}
 use Rattle.std.specs.BTreeMap.{is_at, insert_entry}
-use Rattle.std.specs.FinMap.{IsAntisymmetric, from_entries, get, insert, remove, entries, find, put, is_sorted, same_map, get-from_entries, get-insert, get-remove, entries-insert, empty, len-entries, len-empty}
+use Rattle.std.specs.FinMap.{IsAntisymmetric, from_entries, get, insert, remove, entries, find, put, is_sorted, same_map, get-from_entries, get-insert, get-remove, entries-insert, empty, values, len, len-entries, len-empty}
 use Rattle.std.specs.FinMap.Entries.{by_order, below_all}
 use Rattle.std.proofs.lemmas.Cmp.{eq_by_cmp_equiv}
 use Rattle.std.proofs.lemmas.List.{nil_from_length}
-use Rattle.fs_value.proofs.Rising.{less_is, rising_entries}
+use Rattle.fs_value.specs.Rising.{less_is, rising_entries}
 
 module _ {K X : Type 0} {R : K → K → Ordering} (o : IsTotalOrder R) where
   lookup-find : (es : List (K × X)) (q : K) → lookup (is_at (R q)) es ≡ find R q es
@@ -63,6 +63,14 @@ module _ {K X : Type 0} {R : K → K → Ordering} (o : IsTotalOrder R) where
   -- and of an ordered tree
   pub entries_tree : (es : List (K × X)) → IsStrictlySortedBy R (keys_of es) → entries (from_entries {R = R} es) ≡ es
   entries_tree es rise = entries_rising es (rising_entries R es rise)
+
+  -- its values in order
+  pub values_tree : (es : List (K × X)) → IsStrictlySortedBy R (keys_of es) → map (λ e. e.1) es ≡ values (from_entries {R = R} es)
+  values_tree es rise = ap (map (λ e. e.1)) (sym (entries_tree es rise))
+
+  -- and how many
+  pub len_tree : (es : List (K × X)) → IsStrictlySortedBy R (keys_of es) → length es ≡ len (from_entries {R = R} es)
+  len_tree es rise = ap length (sym (entries_tree es rise)) ∙ sym (len-entries (from_entries {R = R} es))
 
   less_than_middle : (k : K) (done : List (K × X)) (e : K × X) (more : List (K × X)) → AllByRecursion (λ l. R k l ≡ Less) (keys_of (done ++ e ∷ more)) → R k e.0 ≡ Less
   less_than_middle k [] e more below = below.0
