@@ -18,6 +18,7 @@ use Rattle.fs_path.specs.declared.name.DocName.{DocName}
 use Rattle.fs_value.specs.Named.{by_name}
 use Rattle.fs_value.specs.declared.document.Document.{Document}
 use Rattle.fs_query.specs.Answer.{AreFitting, IsAnswer, count_of, limited, cut, is_between, is_behind_start, is_before_end, place_cmp}
+use Rattle.fs_query.specs.AnswerTo.{in_rise}
 use Rattle.fs_query.specs.Asked.{Asked}
 use Rattle.fs_query.specs.DocumentOrder.{orders_cmp}
 use Rattle.fs_query.specs.Fits.{fits, has_field, meets}
@@ -25,7 +26,7 @@ use Rattle.fs_query.specs.Laws.{OneAnswer, SomeAnswer, AnswersFit, AnsweredOnce,
 use Rattle.fs_query.specs.Normal.{whole_order}
 use Rattle.fs_query.proofs.CursorLaws.{beside_document, behind_started, first_true, second_true}
 use Rattle.fs_query.proofs.OrderLaws.{orders_total, tells_names, name_is_ordered}
-use Rattle.fs_query.proofs.Rising.{has_none, has_first, has_later, has_cases, has_kept, has_taken, has_left, keeps, all_of, rise_kept, rise_taken, rise_left, rise_rest, rise_behind, first_below, front_below, only_one, in_rise, in_rise_rises, from_rise, to_rise, rise_sorted, not_below_itself, not_both_below}
+use Rattle.fs_query.proofs.Rising.{has_none, has_first, has_later, has_cases, has_kept, has_taken, has_left, keeps, all_of, rise_kept, rise_taken, rise_left, rise_rest, rise_behind, first_below, front_below, only_one, in_rise_rises, from_rise, to_rise, rise_sorted, not_below_itself, not_both_below}
 
 -- the order of a query's documents
 abbrev pub by_query : Asked → Document → Document → Ordering
@@ -77,7 +78,7 @@ one_of_name (d ∷ ds) a b up h k same =
 
 -- those that fit, in order
 abbrev pub in_order : Asked → List Document → List Document
-in_order q docs = in_rise (by_query q) (orders_total (whole_order q)) (filter (fits q) docs)
+in_order q docs = in_rise (by_query q) (filter (fits q) docs)
 
 pub in_order_fit : (q : Asked) (docs : List Document) → is_sorted name_cmp (by_name docs) ≡ true → AreFitting q docs (in_order q docs)
 in_order_fit q docs up =
@@ -93,7 +94,7 @@ in_order_fit q docs up =
     }
 
 pub some_answer : SomeAnswer
-some_answer q docs up = (cut q (in_order q docs), record { all = in_order q docs; are_fitting = in_order_fit q docs up; is_cut = refl })
+some_answer q docs up = record { all = in_order q docs; are_fitting = in_order_fit q docs up; is_cut = refl }
 
 -- ---- what is answered fits, and is answered once
 

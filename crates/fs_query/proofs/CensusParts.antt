@@ -13,7 +13,8 @@ use Rattle.fs_query.specs.Condition.{Condition, conditions_of, all_of, any_of}
 use Rattle.fs_query.specs.View.{view}
 use Rattle.fs_query.specs.declared.census.Census.{Census}
 use Rattle.fs_query.specs.declared.filter.Filter.{Filter}
-use Rattle.fs_query.specs.Rules.{parts, parts_of, has_bad_path_itself, has_bad_list_itself, long_not_in_itself, first_some, is_by, is_not_in_op, is_kept_from_not_in, is_is_not_null, misuses_name, is_without_filters}
+use Rattle.fs_query.specs.FilterParts.{parts, parts_of, is_by, is_not_in_op}
+use Rattle.fs_query.specs.FilterRules.{has_bad_path_itself, has_bad_list_itself, long_not_in_itself, first_some, is_kept_from_not_in, is_is_not_null, misuses_name, is_without_filters}
 
 -- ---- numbers of parts
 

@@ -14,7 +14,8 @@ use Rattle.fs_query.specs.Asked.{Asked}
 use Rattle.fs_query.specs.Field.{is_name, name_path}
 use Rattle.fs_query.specs.Normal.{inequality_paths, in_order, is_ordered, joins, joined, joining, whole_order}
 use Rattle.fs_query.specs.Place.{last_is_bad}
-use Rattle.fs_query.specs.Rules.{is_bad_place, is_reference}
+use Rattle.fs_query.specs.FilterRules.{is_reference}
+use Rattle.fs_query.specs.Rules.{is_bad_place}
 use Rattle.fs_query.specs.declared.order.Order.{Order}
 use Rattle.fs_query.proofs.JoiningPaths.{all_put}
 use Rattle.fs_query.proofs.WholeOrdering.{length_with_name}

@@ -9,7 +9,8 @@ use Rattle.std.proofs.lemmas.Bool.Decides.{nat_tests}
 use Rattle.fs_query.specs.Condition.{Condition, compared, conditions_of}
 use Rattle.fs_query.specs.Normal.{equalities, products, conjunctions, conjunctions_of_any}
 use Rattle.fs_query.specs.Peaks.{beside_any, most_contains, most_beside_any, peaks_in, both_peaks, either_peaks}
-use Rattle.fs_query.specs.Rules.{contains_count, contains_any_count, is_by, is_contains_op, is_contains_any_op}
+use Rattle.fs_query.specs.FilterParts.{is_by, is_contains_op, is_contains_any_op}
+use Rattle.fs_query.specs.FilterRules.{contains_count, contains_any_count}
 use Rattle.fs_path.specs.declared.field.FieldPath.{FieldPath}
 use Rattle.fs_value.specs.Data.{Data}
 use Rattle.fs_query.specs.View.{view}

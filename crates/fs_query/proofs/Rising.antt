@@ -3,13 +3,14 @@
 use Rattle.std.proofs.Common.{◌≡◌, ℕ, zero, suc, ◌+◌, ◌<◌, Bool, true, false, cond, List, [], ◌∷◌, ◌++◌, length, get_or, map, take, drop, Less, Equal, Greater, ◌⊎◌, inl, inr, refl, sym, ap, ◌∙◌, subst, arith}
 use Rattle.std.specs.List.{Contains, AllByRecursion, IsDistinct, filter}
 use Rattle.std.specs.List.Sorted.{IsStrictlySortedBy, IsSorted, IsSortedBy}
-use Rattle.std.specs.Ordering.{is_lt, is_eq, ordering_reverse, eq_by_cmp}
+use Rattle.std.specs.Ordering.{is_lt, is_eq, ordering_reverse, eq_by_cmp, match_ordering}
 use Rattle.std.specs.declared.cmp.Ordering.{Ordering}
 use Rattle.std.specs.Cmp.{IsTotalOrder}
 use Rattle.std.proofs.lemmas.Cmp.{tied_itself}
 use Rattle.std.proofs.lemmas.List.{take-append-drop, length-map, get_or-map}
 use Rattle.std.proofs.lemmas.List.Elements.{All-contains, All-from_recursion, Contains-append_left, Contains-append_right}
 use Rattle.std.proofs.lemmas.List.Sorted.{sorted_far, ranks_by}
+use Rattle.fs_query.specs.AnswerTo.{put_in, in_rise}
 
 -- ---- the elements of a list
 
@@ -173,76 +174,63 @@ module _ {X : Type 0} (c : X → X → Ordering) where
 
     -- ---- one with the elements of any list, if it tells them apart
 
-    abbrev put_by : Ordering → X → X → List X → List X → List X
-    put_by Less x y ys rest = x ∷ y ∷ ys
-    put_by Equal x y ys rest = y ∷ ys
-    put_by Greater x y ys rest = y ∷ rest
-
-    abbrev put_in : X → List X → List X
-    put_in x [] = x ∷ []
-    put_in x (y ∷ ys) = put_by (c x y) x y ys (put_in x ys)
-
-    abbrev pub in_rise : List X → List X
-    in_rise [] = []
-    in_rise (x ∷ xs) = put_in x (in_rise xs)
-
-    put_cases_by : (r : Ordering) (x y : X) (ys : List X) (d : X) → (Contains (put_in x ys) d → (x ≡ d) ⊎ Contains ys d) → Contains (put_by r x y ys (put_in x ys)) d → (x ≡ d) ⊎ Contains (y ∷ ys) d
+    put_cases_by : (r : Ordering) (x y : X) (ys : List X) (d : X) → (Contains (put_in c x ys) d → (x ≡ d) ⊎ Contains ys d) → Contains (match_ordering r (x ∷ y ∷ ys) (y ∷ ys) (y ∷ put_in c x ys)) d → (x ≡ d) ⊎ Contains (y ∷ ys) d
     put_cases_by Less x y ys d rest h = has_cases x (y ∷ ys) d h
     put_cases_by Equal x y ys d rest h = inr h
     put_cases_by Greater x y ys d rest h =
-        elim (has_cases y (put_in x ys) d h) [
+        elim (has_cases y (put_in c x ys) d h) [
           | inl s ↦ inr (subst (λ z. Contains (z ∷ ys) d) (sym s) (has_first d ys))
           | inr s ↦ elim (rest s) [ inl t ↦ inl t | inr t ↦ inr (has_later y ys d t) ]
         ]
 
-    put_cases : (x : X) (ys : List X) (d : X) → Contains (put_in x ys) d → (x ≡ d) ⊎ Contains ys d
+    put_cases : (x : X) (ys : List X) (d : X) → Contains (put_in c x ys) d → (x ≡ d) ⊎ Contains ys d
     put_cases x [] d h = has_cases x [] d h
     put_cases x (y ∷ ys) d h = put_cases_by (c x y) x y ys d (put_cases x ys d) h
 
-    put_later_by : (r : Ordering) (x y : X) (ys : List X) (d : X) → (Contains ys d → Contains (put_in x ys) d) → Contains (y ∷ ys) d → Contains (put_by r x y ys (put_in x ys)) d
+    put_later_by : (r : Ordering) (x y : X) (ys : List X) (d : X) → (Contains ys d → Contains (put_in c x ys) d) → Contains (y ∷ ys) d → Contains (match_ordering r (x ∷ y ∷ ys) (y ∷ ys) (y ∷ put_in c x ys)) d
     put_later_by Less x y ys d rest h = has_later x (y ∷ ys) d h
     put_later_by Equal x y ys d rest h = h
     put_later_by Greater x y ys d rest h =
         elim (has_cases y ys d h) [
-          | inl s ↦ subst (λ z. Contains (z ∷ put_in x ys) d) (sym s) (has_first d (put_in x ys))
-          | inr s ↦ has_later y (put_in x ys) d (rest s)
+          | inl s ↦ subst (λ z. Contains (z ∷ put_in c x ys) d) (sym s) (has_first d (put_in c x ys))
+          | inr s ↦ has_later y (put_in c x ys) d (rest s)
         ]
 
-    put_later : (x : X) (ys : List X) (d : X) → Contains ys d → Contains (put_in x ys) d
+    put_later : (x : X) (ys : List X) (d : X) → Contains ys d → Contains (put_in c x ys) d
     put_later x [] d h = absurd (has_none d h)
     put_later x (y ∷ ys) d h = put_later_by (c x y) x y ys d (put_later x ys d) h
 
-    put_there_by : (r : Ordering) (x y : X) (ys : List X) → c x y ≡ r → (c x y ≡ Equal → x ≡ y) → Contains (put_in x ys) x → Contains (put_by r x y ys (put_in x ys)) x
+    put_there_by : (r : Ordering) (x y : X) (ys : List X) → c x y ≡ r → (c x y ≡ Equal → x ≡ y) → Contains (put_in c x ys) x → Contains (match_ordering r (x ∷ y ∷ ys) (y ∷ ys) (y ∷ put_in c x ys)) x
     put_there_by Less x y ys e same rest = has_first x (y ∷ ys)
     put_there_by Equal x y ys e same rest = subst (λ z. Contains (z ∷ ys) x) (same e) (has_first x ys)
-    put_there_by Greater x y ys e same rest = has_later y (put_in x ys) x rest
+    put_there_by Greater x y ys e same rest = has_later y (put_in c x ys) x rest
 
-    put_there : (x : X) (ys : List X) → ((y : X) → Contains ys y → c x y ≡ Equal → x ≡ y) → Contains (put_in x ys) x
+    put_there : (x : X) (ys : List X) → ((y : X) → Contains ys y → c x y ≡ Equal → x ≡ y) → Contains (put_in c x ys) x
     put_there x [] same = has_first x []
     put_there x (y ∷ ys) same = put_there_by (c x y) x y ys refl (same y (has_first y ys)) (put_there x ys (λ z h. same z (has_later y ys z h)))
 
     above_is : (x y : X) → c x y ≡ Greater → c y x ≡ Less
     above_is x y e = o.antisymm y x ∙ ap ordering_reverse e
 
-    put_rises_by : (r : Ordering) (x y : X) (ys : List X) → c x y ≡ r → IsStrictlySortedBy c (y ∷ ys) → IsStrictlySortedBy c (put_in x ys) → IsStrictlySortedBy c (put_by r x y ys (put_in x ys))
+    put_rises_by : (r : Ordering) (x y : X) (ys : List X) → c x y ≡ r → IsStrictlySortedBy c (y ∷ ys) → IsStrictlySortedBy c (put_in c x ys) → IsStrictlySortedBy c (match_ordering r (x ∷ y ∷ ys) (y ∷ ys) (y ∷ put_in c x ys))
     put_rises_by Less x y ys e h rest =
         rise_before x (y ∷ ys) (λ d k. elim (has_cases y ys d k) [ inl s ↦ subst (λ z. c x z ≡ Less) s e | inr s ↦ o.trans x y d e (first_below y ys d h s) ]) h
     put_rises_by Equal x y ys e h rest = h
     put_rises_by Greater x y ys e h rest =
-        rise_before y (put_in x ys) (λ d k. elim (put_cases x ys d k) [ inl s ↦ subst (λ z. c y z ≡ Less) s (above_is x y e) | inr s ↦ first_below y ys d h s ]) rest
+        rise_before y (put_in c x ys) (λ d k. elim (put_cases x ys d k) [ inl s ↦ subst (λ z. c y z ≡ Less) s (above_is x y e) | inr s ↦ first_below y ys d h s ]) rest
 
-    put_rises : (x : X) (ys : List X) → IsStrictlySortedBy c ys → IsStrictlySortedBy c (put_in x ys)
+    put_rises : (x : X) (ys : List X) → IsStrictlySortedBy c ys → IsStrictlySortedBy c (put_in c x ys)
     put_rises x [] h = rise_before x [] (λ d k. absurd (has_none d k)) rise_none
     put_rises x (y ∷ ys) h = put_rises_by (c x y) x y ys refl h (put_rises x ys (rise_rest y ys h))
 
-    pub in_rise_rises : (xs : List X) → IsStrictlySortedBy c (in_rise xs)
+    pub in_rise_rises : (xs : List X) → IsStrictlySortedBy c (in_rise c xs)
     in_rise_rises [] = rise_none
-    in_rise_rises (x ∷ xs) = put_rises x (in_rise xs) (in_rise_rises xs)
+    in_rise_rises (x ∷ xs) = put_rises x (in_rise c xs) (in_rise_rises xs)
 
-    pub from_rise : (xs : List X) (d : X) → Contains (in_rise xs) d → Contains xs d
+    pub from_rise : (xs : List X) (d : X) → Contains (in_rise c xs) d → Contains xs d
     from_rise [] d h = h
     from_rise (x ∷ xs) d h =
-        elim (put_cases x (in_rise xs) d h) [
+        elim (put_cases x (in_rise c xs) d h) [
           | inl s ↦ subst (λ z. Contains (z ∷ xs) d) (sym s) (has_first d xs)
           | inr s ↦ has_later x xs d (from_rise xs d s)
         ]
@@ -251,12 +239,12 @@ module _ {X : Type 0} (c : X → X → Ordering) where
     abbrev pub IsTold : List X → Type 0
     IsTold xs = (x y : X) → Contains xs x → Contains xs y → c x y ≡ Equal → x ≡ y
 
-    pub to_rise : (xs : List X) → IsTold xs → (d : X) → Contains xs d → Contains (in_rise xs) d
+    pub to_rise : (xs : List X) → IsTold xs → (d : X) → Contains xs d → Contains (in_rise c xs) d
     to_rise [] told d h = h
     to_rise (x ∷ xs) told d h =
         elim (has_cases x xs d h) [
-          | inl s ↦ subst (λ z. Contains (put_in x (in_rise xs)) z) s (put_there x (in_rise xs) (λ y k e. told x y (has_first x xs) (has_later x xs y (from_rise xs y k)) e))
-          | inr s ↦ put_later x (in_rise xs) d (to_rise xs (λ a b p q e. told a b (has_later x xs a p) (has_later x xs b q) e) d s)
+          | inl s ↦ subst (λ z. Contains (put_in c x (in_rise c xs)) z) s (put_there x (in_rise c xs) (λ y k e. told x y (has_first x xs) (has_later x xs y (from_rise xs y k)) e))
+          | inr s ↦ put_later x (in_rise c xs) d (to_rise xs (λ a b p q e. told a b (has_later x xs a p) (has_later x xs b q) e) d s)
         ]
 
     -- ---- what a sort gives, where no two tie

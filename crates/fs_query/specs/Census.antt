@@ -3,7 +3,8 @@ use Rattle.std.specs.Prelude.{◌&&◌, ◌||◌, List, nat_lt, count_by, if◌t
 use Rattle.std.specs.List.{list_any}
 use Rattle.std.specs.Option.{is_some}
 use Rattle.fs_query.specs.Condition.{Condition}
-use Rattle.fs_query.specs.Rules.{has_bad_path_itself, has_bad_list_itself, first_some, is_by, is_not_in_op, is_kept_from_not_in, is_is_not_null, misuses_name, is_without_filters}
+use Rattle.fs_query.specs.FilterParts.{is_by, is_not_in_op}
+use Rattle.fs_query.specs.FilterRules.{has_bad_path_itself, has_bad_list_itself, first_some, is_kept_from_not_in, is_is_not_null, misuses_name, is_without_filters}
 use Rattle.fs_query.specs.declared.census.Census.{Census}
 
 abbrev pub census_in : List Condition → Census

@@ -13,6 +13,7 @@ use Rattle.fs_value.specs.Named.{by_name}
 use Rattle.fs_value.specs.Ordered.{is_ordered}
 use Rattle.fs_value.specs.declared.document.Document.{Document}
 use Rattle.fs_query.specs.Answer.{IsAnswer, count_of}
+use Rattle.fs_query.specs.AnswerTo.{answer_to}
 use Rattle.fs_query.specs.Asked.{Asked}
 use Rattle.fs_query.specs.Condition.{Condition, compared}
 use Rattle.fs_query.specs.Field.{value_at}
@@ -28,9 +29,9 @@ use Rattle.fs_query.specs.declared.op.Op.TheVariants.{NotEqual, NotIn}
 abbrev pub OneAnswer : Type 0
 OneAnswer = (q : Asked) (docs a b : List Document) → IsAnswer q docs a → IsAnswer q docs b → a ≡ b
 
--- over documents whose names rise there is one
+-- over documents whose names rise there is one: this
 abbrev pub SomeAnswer : Type 0
-SomeAnswer = (q : Asked) (docs : List Document) → IsTrue (is_sorted name_cmp (by_name docs)) → (a : List Document) × IsAnswer q docs a
+SomeAnswer = (q : Asked) (docs : List Document) → IsTrue (is_sorted name_cmp (by_name docs)) → IsAnswer q docs (answer_to q docs)
 
 -- what is answered is among the documents, and fits
 abbrev pub AnswersFit : Type 0

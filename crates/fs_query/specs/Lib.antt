@@ -10,7 +10,10 @@ pub mod Normal
 pub mod Fits
 pub mod DocumentOrder
 pub mod Answer
+pub mod AnswerTo
 pub mod Limits
+pub mod FilterParts
+pub mod FilterRules
 pub mod Rules
 pub mod Laws
 pub mod Project

@@ -1,7 +1,7 @@
 -- Only private clauses cite this: how many array operators meet in one of some conjunctions, where 2 stands for more.
 use Rattle.std.specs.Prelude.{ℕ, ◌+◌, min, max, List, [], ◌∷◌, Option, Some, None, if◌then◌else◌, nat_lt, ◌==◌}
 use Rattle.fs_query.specs.Condition.{Condition}
-use Rattle.fs_query.specs.Rules.{contains_count, contains_any_count}
+use Rattle.fs_query.specs.FilterRules.{contains_count, contains_any_count}
 use Rattle.fs_query.specs.declared.peaks.Peaks.{Peaks}
 
 abbrev pub beside_any : List Condition → ℕ

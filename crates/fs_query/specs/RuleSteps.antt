@@ -2,7 +2,8 @@
 use Rattle.std.specs.Prelude.{Option, None, if◌then◌else◌}
 use Rattle.std.specs.Option.{option_map_or}
 use Rattle.fs_query.specs.Asked.{Asked}
-use Rattle.fs_query.specs.Rules.{has_bad_list, long_not_in, has_two_contains, has_contains_any_beside, has_not_in_beside_other, has_not_in_beside_its_like, has_misused_name, has_bad_cursor, has_negative_number, has_order_twice, has_empty_composite, told, told_with, later_rule_of_query}
+use Rattle.fs_query.specs.FilterRules.{has_bad_list, long_not_in, has_two_contains, has_contains_any_beside, has_not_in_beside_other, has_not_in_beside_its_like, has_misused_name, has_empty_composite}
+use Rattle.fs_query.specs.Rules.{has_bad_cursor, has_negative_number, has_order_twice, told, told_with, later_rule_of_query}
 use Rattle.fs_query.specs.declared.rule.QueryRule.{QueryRule}
 
 abbrev pub rules_from_11 : Asked → Option QueryRule

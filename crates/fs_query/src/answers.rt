@@ -23,25 +23,44 @@ use std::alloc::{AllocError, Global};
 use std::cmp::Ordering;
 
 /// The answer to a query over documents whose names rise: those that fit, in its order, as its cursors, offset and limit
-/// cut them. Each document is looked at once; those that fit and stand between the cursors are sorted where they are, and
-/// only those that are answered are copied. (v1 reference, "StructuredQuery".)
+/// cut them. (v1 reference, "StructuredQuery".)
 pub fn answer(alloc: Global, q: &Query, docs: &Documents) -> Result<Documents, AllocError>
     requires { IsTrue (is_sorted name_cmp (by_name docs.now)) }
     ensures { IfOk result (λ ds. IsAnswer q.now docs.now ds) }
 {
+    let lent = lent(alloc, docs.as_slice())?;
+    answer_among(alloc, q, lent.as_slice())
+}
+
+/// The same over documents that stand elsewhere. Each is looked at once; those that fit and stand between the cursors are
+/// sorted by pointers, and only those that are answered are copied.
+pub fn answer_among(alloc: Global, q: &Query, docs: &[&Document]) -> Result<Documents, AllocError>
+    requires { IsTrue (is_sorted name_cmp (by_name (map (λ d. d.now) docs.now))) }
+    ensures { IfOk result (λ ds. IsAnswer q.now (map (λ d. d.now) docs.now) ds) }
+{
     let orders = whole_order(alloc, q)?;
-    answer_by(alloc, q, orders.as_slice(), docs.as_slice())
+    answer_by(alloc, q, orders.as_slice(), docs)
+}
+
+fn lent(alloc: Global, docs: &[Document]) -> Result<Vec<&Document>, AllocError>
+    ensures { IfOk result (λ v. map (λ d. d.now) v.items ≡ docs.now) }
+{
+    let mut lent = Vec::with_capacity(alloc, docs.len())?;
+    for d in docs {
+        lent.push(d)?;
+    }
+    Ok(lent)
 }
 
 fn answer_by(
     alloc: Global,
     q: &Query,
     orders: &[Order],
-    docs: &[Document],
+    docs: &[&Document],
 ) -> Result<Documents, AllocError>
-    requires rise { IsTrue (is_sorted name_cmp (by_name docs.now)) }
+    requires rise { IsTrue (is_sorted name_cmp (by_name (map (λ d. d.now) docs.now))) }
     requires whole { orders.now ≡ whole_order q.now }
-    ensures { IfOk result (λ ds. IsAnswer q.now docs.now ds) }
+    ensures { IfOk result (λ ds. IsAnswer q.now (map (λ d. d.now) docs.now) ds) }
 {
     let found = found_in(alloc, q, orders, docs)?;
     let found = sorted(orders, found)?;
@@ -53,18 +72,19 @@ fn found_in<'a>(
     alloc: Global,
     q: &Query,
     orders: &[Order],
-    docs: &'a [Document],
+    docs: &[&'a Document],
 ) -> Result<Vec<&'a Document>, AllocError>
     requires { orders.now ≡ whole_order q.now }
-    ensures { IfOk result (λ v. map (λ d. d.now) v.items ≡ filter (λ d. fits q.now d && is_between q.now d) docs.now) }
+    ensures { IfOk result (λ v. map (λ d. d.now) v.items
+        ≡ filter (λ d. fits q.now d && is_between q.now d) (map (λ d. d.now) docs.now)) }
 {
     let mut found = Vec::new(alloc);
     for d in docs {
-        if matches(q, d)
-            && is_behind_start(orders, &q.start, d)
-            && is_before_end(orders, &q.end, d)
+        if matches(q, *d)
+            && is_behind_start(orders, &q.start, *d)
+            && is_before_end(orders, &q.end, *d)
         {
-            found.push(d)?;
+            found.push(*d)?;
         }
     }
     Ok(found)

@@ -6,7 +6,8 @@ ghost use Rattle.fs_value.specs.Data.{Data};
 ghost use Rattle.fs_value.specs.View.{view as value_view};
 ghost use Rattle.fs_query.specs.Census.{census_in, joined_census};
 ghost use Rattle.fs_query.specs.Condition.{compared, is_null, is_not_null, all_of, any_of, conditions_of};
-ghost use Rattle.fs_query.specs.Rules.{parts, parts_of, has_bad_list_itself, misuses_name, long_not_in_itself, is_not_in_op, is_kept_from_not_in, is_list_op, is_name_operand, is_reference};
+ghost use Rattle.fs_query.specs.FilterParts.{parts, parts_of, is_not_in_op, is_list_op};
+ghost use Rattle.fs_query.specs.FilterRules.{has_bad_list_itself, misuses_name, long_not_in_itself, is_kept_from_not_in, is_name_operand, is_reference};
 ghost use Rattle.fs_query.specs.View.{view};
 
 use crate::field::{elements, is_name};

@@ -23,7 +23,7 @@ mod rule;
 mod rules;
 mod whole_order;
 
-pub use answers::answer;
+pub use answers::{answer, answer_among};
 pub use compare::compare_docs;
 pub use cursor::Cursor;
 pub use filter::{Filter, Filters};

@@ -6,7 +6,9 @@ ghost use Rattle.fs_path.specs.FieldName.{is_bad_name};
 ghost use Rattle.fs_value.specs.View.{view};
 ghost use Rattle.fs_query.specs.Census.{census_in};
 ghost use Rattle.fs_query.specs.RuleSteps.{rules_from_3, rules_from_6, rules_from_8, rules_from_11};
-ghost use Rattle.fs_query.specs.Rules.{parts, has_bad_collection, has_bad_path, is_bad_path, is_reference, has_negative_number, is_negative, some_twice, told, told_with, later_rule_of_query, rule_of_query};
+ghost use Rattle.fs_query.specs.FilterParts.{parts};
+ghost use Rattle.fs_query.specs.FilterRules.{is_bad_path, is_reference};
+ghost use Rattle.fs_query.specs.Rules.{has_bad_collection, has_bad_path, has_negative_number, is_negative, some_twice, told, told_with, later_rule_of_query, rule_of_query};
 
 use crate::census::{Census, census_of};
 use crate::count::disjunct_count;

@@ -13,7 +13,7 @@ use Rattle.fs_query.proofs.answers.answer_by.Goals as goal
 pub returns : goal.returns
 returns c =
     let q = c.args.q.now in
-    let docs = c.args.docs.now in
+    let docs = map (λ d. d.now) c.args.docs.now in
     let sorted = map (λ d. d.now) c.in_ok-found-2.found.items in
     let same : IsPermutation (filter (λ d. fits q d && is_between q d) docs) sorted =
     subst (λ ds. IsPermutation ds sorted) c.in_ok-found.ensures c.in_ok-found-2.ensures.same in

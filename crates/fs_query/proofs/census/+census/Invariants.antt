@@ -1,7 +1,7 @@
 use Rattle.std.proofs.Common.{◌≡◌, map, take}
 use Rattle.fs_query.specs.Census.{census_in}
 use Rattle.fs_query.specs.Condition.{conditions_of}
-use Rattle.fs_query.specs.Rules.{parts_of}
+use Rattle.fs_query.specs.FilterParts.{parts_of}
 use Rattle.fs_query.specs.View.{view}
 use Rattle.fs_query.proofs.census.+census.Given as goal
 

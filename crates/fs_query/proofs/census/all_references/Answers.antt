@@ -3,7 +3,7 @@ use Rattle.std.proofs.lemmas.Iterator.{YieldsList-from_slice}
 use Rattle.std.proofs.lemmas.Iterator.Search.{all_from_yields_List}
 use Rattle.std.proofs.lemmas.List.Folds.{list_all-map}
 use Rattle.fs_value.specs.View.{view as value_view}
-use Rattle.fs_query.specs.Rules.{is_reference}
+use Rattle.fs_query.specs.FilterRules.{is_reference}
 use Rattle.fs_query.proofs.census.all_references.Goals as goal
 
 pub returns : goal.returns

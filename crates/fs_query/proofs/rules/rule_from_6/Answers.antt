@@ -4,7 +4,8 @@ use Rattle.std.specs.Option.{option_map_or}
 use Rattle.fs_query.specs.Normal.{equalities, conjunctions}
 use Rattle.fs_query.specs.Peaks.{peaks_in}
 use Rattle.fs_query.specs.RuleSteps.{rules_from_8}
-use Rattle.fs_query.specs.Rules.{has_two_contains, has_contains_any_beside, told}
+use Rattle.fs_query.specs.FilterRules.{has_two_contains, has_contains_any_beside}
+use Rattle.fs_query.specs.Rules.{told}
 use Rattle.fs_query.proofs.PeakProducts.{two_contains, two_beside}
 use Rattle.fs_query.proofs.rules.rule_from_6.Goals as goal
 
