@@ -200,7 +200,7 @@ written_agrees [] docs other q agree is = absurd (cc)
 written_agrees (w ∷ ws) docs other q agree is =
     next_agrees w ws docs other q (is_at (name_cmp (written_name w)) q) (agree w (first_one w ws)) (λ h. written_agrees ws docs other q (λ x at. agree x (later_one w ws x at)) h) refl is
 
-no_change : (q : DocName) (o : Option Document) → change_of q o o ≡ None
+pub no_change : (q : DocName) (o : Option Document) → change_of q o o ≡ None
 no_change q o = ap (λ b. cond b None (Some (record { name = q; before = o; after = o }))) (unchanged_itself o)
 
 change_alike : (ws : List Write) (docs other after then : Docs) (rs qs : List WriteResult) (t : ℤ) (q : DocName) (b : Bool) → is_written q ws ≡ b → Agree ws docs other

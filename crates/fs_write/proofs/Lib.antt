@@ -1,8 +1,10 @@
+pub mod AfterChanges
 pub mod AfterLaws
 pub mod Arrays
 pub mod BatchLaws
 pub mod Elements
 pub mod Fields
+pub mod Lent
 pub mod Names
 pub mod Numbers
 pub mod Overlaps

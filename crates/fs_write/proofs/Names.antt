@@ -15,7 +15,7 @@ use Rattle.fs_status.specs.Refusal.{refusal_of}
 use Rattle.fs_value.specs.Data.{Data}
 use Rattle.fs_value.specs.Named.{by_name}
 use Rattle.fs_value.specs.declared.document.Document.{Document}
-use Rattle.fs_write.specs.Batch.{Docs, docs_of, with_document, after_write, all_writes, changes_by_name, is_unchanged, IsNamed, IsOutcome}
+use Rattle.fs_write.specs.Batch.{Docs, docs_of, with_document, after_write, all_writes, changes_by_name, is_unchanged, Bears, AreNamed, IsNamed, IsOutcome}
 use Rattle.fs_write.specs.OneWrite.{Fault, one_write, same_fields, document_left}
 use Rattle.fs_write.specs.Refused.{reason_of}
 use Rattle.fs_write.specs.Transforms.{transformed}
@@ -26,13 +26,6 @@ use Rattle.fs_write.specs.declared.write_result.WriteResult.{WriteResult}
 use Rattle.fs_write.proofs.BatchLaws.{same_ok}
 use Rattle.fs_write.proofs.Stages.{name_at, name_itself, get-docs, get-with_document, all_refused}
 use Rattle.fs_write.proofs.WriteLaws.{left_by}
-
--- if there is a document, it bears this name
-abbrev Bears : Option Document → DocName → Type 0
-Bears o name = IfSome o (λ d. d.name ≡ name)
-
-abbrev AreNamed : Docs → Type 0
-AreNamed docs = (name : DocName) → Bears (get docs name) name
 
 -- ---- the documents of a list
 
@@ -67,7 +60,7 @@ with_named_at : (docs : Docs) (n : DocName) (o : Option Document) (q : DocName) 
 with_named_at docs n o q true at named p = subst (Bears o) (name_at n q at) p
 with_named_at docs n o q false at named p = named q
 
-with_named : (docs : Docs) (n : DocName) (o : Option Document) → AreNamed docs → Bears o n → AreNamed (with_document docs n o)
+pub with_named : (docs : Docs) (n : DocName) (o : Option Document) → AreNamed docs → Bears o n → AreNamed (with_document docs n o)
 with_named docs n o named p q = subst (λ x. Bears x q) (sym (get-with_document docs n o q)) (with_named_at docs n o q (is_at (name_cmp n) q) refl named p)
 
 -- ---- all writes
@@ -80,7 +73,7 @@ next_named w ws docs rs t p named more (Ok done) one is =
     let n = written_name w in
     more (with_document docs n done.0) (rs ++ done.1 ∷ []) (with_named docs n done.0 named (one_named (get docs n) done.0 w t done.1 one (named n))) is
 
-writes_named : (ws : List Write) (docs : Docs) (rs : List WriteResult) (t : ℤ) (p : Docs × List WriteResult) → AreNamed docs → all_writes (Ok (docs, rs)) ws t ≡ Ok p → AreNamed p.0
+pub writes_named : (ws : List Write) (docs : Docs) (rs : List WriteResult) (t : ℤ) (p : Docs × List WriteResult) → AreNamed docs → all_writes (Ok (docs, rs)) ws t ≡ Ok p → AreNamed p.0
 writes_named [] docs rs t p named is = subst (λ (x : Docs × List WriteResult). AreNamed x.0) (same_ok (docs, rs) p is) named
 writes_named (w ∷ ws) docs rs t p named is =
     next_named w ws docs rs t p named (λ x qs more h. writes_named ws x qs t p more h) (one_write (get docs (written_name w)) w t) refl is

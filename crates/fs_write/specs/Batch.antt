@@ -24,6 +24,14 @@ use Rattle.fs_write.specs.declared.write_result.WriteResult.{WriteResult}
 abbrev pub Docs : Type 0
 Docs = FinMap name_cmp Document
 
+-- if there is a document, it bears this name
+abbrev pub Bears : Option Document → DocName → Type 0
+Bears o name = IfSome o (λ d. d.name ≡ name)
+
+-- each document stands at its own name
+abbrev pub AreNamed : Docs → Type 0
+AreNamed docs = (name : DocName) → Bears (get docs name) name
+
 -- the documents of a list in the order of names
 abbrev pub docs_of : List Document → Docs
 docs_of ds = from_sorted (by_name ds)

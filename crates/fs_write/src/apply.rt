@@ -6,12 +6,14 @@ ghost use Rattle.fs_write.specs.Transforms.{value_set, fields_after, transformed
 
 use crate::operation::value_after;
 use crate::transform::{Operation, Transform, Transforms};
+use fs_edit::OpenFields;
 use fs_time::Micros;
-use fs_value::{Fields, Value, Values, get, set};
+use fs_value::{Fields, Value, Values};
 use std::alloc::{AllocError, Global};
+use std::mem::replace;
 
 /// Makes transforms of fields in their order, at the time of the commit, and gives their results: the new value of a number
-/// or a time, and null for an array. It refuses only for want of memory, and then some transforms are made and others not.
+/// or a time, and null for an array. It refuses only for want of memory, and then no fields are left.
 /// (v1 reference, "Write": `updateTransforms`; "WriteResult": `transformResults`.)
 pub fn apply_transforms(
     alloc: Global,
@@ -22,28 +24,32 @@ pub fn apply_transforms(
     ensures fields { OnOk result (fields.new ≡ transformed transforms.now time fields.old) }
     ensures results { IfOk result (λ rs. rs ≡ transform_results transforms.now time fields.old) }
 {
+    let mut opened = OpenFields::open(alloc, replace(fields, Fields::new(alloc)))?;
     let mut results = Values::with_capacity(alloc, transforms.len())?;
     for transform in transforms.as_slice() {
-        results.push(apply(alloc, fields, transform, time)?)?;
+        let (after, result) = apply(alloc, opened, transform, time)?;
+        opened = after;
+        results.push(result)?;
     }
+    *fields = opened.close(alloc)?;
     Ok(results)
 }
 
 // Makes one transform, and gives its result.
 fn apply(
     alloc: Global,
-    fields: &mut Fields,
+    fields: OpenFields,
     transform: &Transform,
     time: Micros,
-) -> Result<Value, AllocError>
-    ensures fields { OnOk result (fields.new ≡ fields_after transform.now time fields.old) }
-    ensures result { IfOk result (λ r. view r ≡ reported transform.now.operation (value_set transform.now time fields.old)) }
+) -> Result<(OpenFields, Value), AllocError>
+    ensures fields { IfOk result (λ r. r.0 ≡ fields_after transform.now time fields) }
+    ensures result { IfOk result (λ r. view r.1 ≡ reported transform.now.operation (value_set transform.now time fields)) }
 {
     let operation = &transform.operation;
-    let value = value_after(alloc, operation, time, get(fields, &transform.path))?;
+    let value = value_after(alloc, operation, time, fields.get(&transform.path))?;
     let result = reported(alloc, operation, &value)?;
-    set(alloc, fields, &transform.path, value)?;
-    Ok(result)
+    let after = fields.set(alloc, &transform.path, value)?;
+    Ok((after, result))
 }
 
 // What is reported of an operation that made this value.

@@ -1,8 +1,9 @@
 //! One write, on the document of its name.
-ghost use Rattle.std.specs.Prelude.{◌≡◌, ◌≢◌, IfOk, IfErr, OnOk, Ok, Some, option_map};
+ghost use Rattle.std.specs.Prelude.{◌≡◌, ◌≢◌, IfOk, IfErr, Ok, Some, option_map};
 ghost use Rattle.fs_status.specs.Refusal.{refusal_of};
 ghost use Rattle.fs_status.specs.declared.reason.Reason.TheVariants.{Memory};
-ghost use Rattle.fs_write.specs.OneWrite.{unmet, merged, fields_there, fields_left, same_fields, document_left, unfit, one_write};
+ghost use Rattle.fs_value.specs.FieldPaths.{get_fields};
+ghost use Rattle.fs_write.specs.OneWrite.{unmet, with_field, merged, fields_there, fields_left, same_fields, document_left, unfit, one_write};
 ghost use Rattle.fs_write.specs.Refused.{reason_of, refused};
 ghost use Rattle.fs_write.specs.Transforms.{transformed, transform_results};
 
@@ -11,12 +12,11 @@ use crate::transform::Transforms;
 use crate::value_rules::are_fields_deep;
 use crate::write::{Act, Precondition, Write};
 use crate::write_result::WriteResult;
-use fs_path::{DocName, Paths};
+use fs_edit::OpenFields;
+use fs_path::{DocName, FieldPath, Paths};
 use fs_status::{Reason, Refusal};
 use fs_time::Micros;
-use fs_value::{
-    Document, Fields, LARGEST_DOCUMENT, SharedFields, Values, fields_same, get, set, size, unset,
-};
+use fs_value::{Document, Fields, LARGEST_DOCUMENT, SharedFields, Values, fields_same, get, size};
 use std::alloc::{AllocError, Global};
 
 // Why a precondition isn't met, for the write of this number.
@@ -39,16 +39,28 @@ fn unmet(condition: &Precondition, there: &Option<Document>, write: u32) -> Opti
 }
 
 // The fields at the paths of a mask become those of the input, or are deleted where the input hasn't them.
-fn merge(alloc: Global, fields: &mut Fields, input: &Fields, mask: &Paths) -> Result<(), AllocError>
-    ensures { OnOk result (fields.new ≡ merged mask.now input.now fields.old) }
+fn merge(alloc: Global, fields: Fields, input: &Fields, mask: &Paths) -> Result<Fields, AllocError>
+    ensures { IfOk result (λ fs. fs ≡ merged mask.now input.now fields) }
 {
+    let mut opened = OpenFields::open(alloc, fields)?;
     for path in mask.as_slice() {
-        match get(input, path) {
-            Some(value) => set(alloc, fields, path, value.copy(alloc)?)?,
-            None => unset(fields, path),
-        }
+        opened = merge_one(alloc, opened, input, path)?;
     }
-    Ok(())
+    opened.close(alloc)
+}
+
+fn merge_one(
+    alloc: Global,
+    fields: OpenFields,
+    input: &Fields,
+    path: &FieldPath,
+) -> Result<OpenFields, AllocError>
+    ensures { IfOk result (λ fs. fs ≡ with_field path.now.parts (get_fields path.now.parts input.now) fields) }
+{
+    match get(input, path) {
+        Some(value) => fields.set(alloc, path, value.copy(alloc)?),
+        None => fields.unset(alloc, path),
+    }
 }
 
 fn fields_there(alloc: Global, there: &Option<Document>) -> Result<Fields, AllocError>
@@ -71,8 +83,8 @@ fn fields_left(
     match act {
         Act::Set { fields, .. } => Ok(Some(fields.copy()?)),
         Act::Merge { fields, mask, .. } => {
-            let mut left = fields_there(alloc, there)?;
-            merge(alloc, &mut left, fields.as_fields(), mask)?;
+            let before = fields_there(alloc, there)?;
+            let left = merge(alloc, before, fields.as_fields(), mask)?;
             Ok(Some(SharedFields::of(alloc, left)?))
         }
         Act::Delete { .. } => Ok(None),

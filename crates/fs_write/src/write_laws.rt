@@ -12,7 +12,7 @@ ghost use Rattle.fs_value.specs.Limits.{deepest_value, largest_document};
 ghost use Rattle.fs_value.specs.Size.{document_size};
 ghost use Rattle.fs_value.specs.declared.document.Document.{Document};
 ghost use Rattle.fs_write.specs.After.{after_batch};
-ghost use Rattle.fs_write.specs.Batch.{Docs, batch, is_unchanged, document_after, IsOutcome};
+ghost use Rattle.fs_write.specs.Batch.{Docs, batch, is_unchanged, document_after, AreNamed, AreChanges, IsOutcome};
 ghost use Rattle.fs_write.specs.OneWrite.{Fault, merged, fields_left, one_write};
 ghost use Rattle.fs_write.specs.Refused.{reason_of};
 ghost use Rattle.fs_write.specs.Rules.{some_overlap};
@@ -63,7 +63,9 @@ pub fn writes_are_lawful()
 /// with that number, and a refused batch has no changes. There is one list of changes, and one of results. A name whose
 /// document ends with the existence and the fields of before has its document of before, and any other has what the writes
 /// left; the documents after the batch are those, and after a refused one those of before. A name that isn't written has its
-/// document of before, and of one that is, the last write decides. A delete alone leaves none. Only the documents that the writes name matter.
+/// document of before, and of one that is, the last write decides. A delete alone leaves none. Only the documents that the
+/// writes name matter. The changes are what differs between the documents before and after the batch, and where a name's
+/// existence and fields don't differ its document doesn't. Documents that stand at their own names do so afterwards.
 pub fn batches_are_lawful()
     ensures first_refused { (docs : Docs) (done : List Write) (w : Write) (rest : List Write) (t : ℤ) (so_far : Docs × List WriteResult) (fault : Fault)
         → batch docs done t ≡ Ok so_far → one_write (get so_far.0 (written_name w)) w t ≡ Err fault
@@ -83,6 +85,11 @@ pub fn batches_are_lawful()
         → before.fields ≡ after.fields → get (after_batch docs ws t) name ≡ Some before }
     ensures unwritten { (docs : Docs) (ws : List Write) (t : ℤ) (name : DocName) → is_written name ws ≡ false
         → get (after_batch docs ws t) name ≡ get docs name }
+    ensures unchanged { (docs : Docs) (ws : List Write) (t : ℤ) (name : DocName) → is_unchanged (get docs name) (get (after_batch docs ws t) name) ≡ true
+        → get (after_batch docs ws t) name ≡ get docs name }
+    ensures changed { (docs : Docs) (ws : List Write) (t : ℤ) (cs : List Change) (rs : List WriteResult)
+        → IsOutcome docs ws t cs rs → AreChanges docs (after_batch docs ws t) cs }
+    ensures at_own_names { (docs : Docs) (ws : List Write) (t : ℤ) → AreNamed docs → AreNamed (after_batch docs ws t) }
     ensures refused_stays { (docs : Docs) (ws : List Write) (t : ℤ) (e : Refused) → batch docs ws t ≡ Err e → after_batch docs ws t ≡ docs }
     ensures set_last { (docs : Docs) (earlier : List Write) (w : Write) (later : List Write) (t : ℤ) (done : Docs × List WriteResult) (name : DocName) (fs : List (List ℕ × Data))
         → batch docs (earlier ++ w ∷ later) t ≡ Ok done → w.act ≡ Set name fs → w.transforms ≡ [] → is_written name later ≡ false

@@ -1,0 +1,156 @@
+-- A path of two names or more, from its first name on.
+use Rattle.std.proofs.Common.{◌≡◌, ◌≢◌, ℕ, ◌<◌, List, [], ◌∷◌, Result, Ok, Err, length, get_or, take, drop, ◌-◌, refl, sym, ap, ◌∙◌, arith}
+use Rattle.std.specs.Prelude.{IsTrue, Bool, true, false, cond, map, Option, Some, None, IfOk, OnOk, option_map, option_and_then, unwrap_or}
+use Rattle.std.specs.Option.{option_map_or}
+use Rattle.std.specs.BTreeMap.{is_at}
+use Rattle.std.specs.Map.{lookup}
+use Rattle.std.specs.FinMap.{find, put, is_sorted}
+use Rattle.std.proofs.Math.Seq.{take-length}
+use Rattle.fs_path.specs.TextOrder.{text_cmp}
+use Rattle.fs_value.specs.Data.{Data, object, members_of}
+use Rattle.fs_value.specs.DataLaws.{fields_of-members_of}
+use Rattle.fs_value.specs.FieldPaths.{map_of, map_fields, fields_under, fields_below, get_fields, set_fields, unset_fields, unset_below}
+use Rattle.fs_value.specs.View.{view}
+use Rattle.fs_value.specs.declared.value.Value.{Value}
+use Rattle.fs_value.specs.declared.value.Value.TheVariants.{Null, Boolean, Integer, Timestamp, String, Bytes, Reference, Array, Map}
+use Rattle.fs_edit.specs.Below.{value_below}
+use Rattle.fs_edit.specs.Get.{no_map}
+use Rattle.fs_edit.specs.OpenView.{open_view, entry_view}
+use Rattle.fs_edit.specs.declared.open_fields.Open.{Open}
+use Rattle.fs_edit.proofs.Entries.{Rise, found, changed, put_same, rising}
+
+pub OnOk-map : {A E : Type 0} {P Q : Type 0} (r : Result A E) → (P → Q) → OnOk r P → OnOk r Q
+OnOk-map (Ok a) f h = f h
+OnOk-map (Err e) f h = h
+
+pub IfOk-map : {A E : Type 0} {P Q : A → Type 0} (r : Result A E) → ((a : A) → P a → Q a) → IfOk r P → IfOk r Q
+IfOk-map (Ok a) f h = f a h
+IfOk-map (Err e) f h = h
+
+-- the names after the first, as a pattern leaves them
+abbrev pub rest : List (List ℕ) → List (List ℕ)
+rest names = take (length names - 1) (drop 1 names)
+
+pub first_name : (names : List (List ℕ)) (k n : List ℕ) → 0 < length names → k ≡ n → n ≡ get_or names 0 n → k ≡ get_or names 0 k
+first_name [] k n more same is = absurd (omega arith)
+first_name (x ∷ ks) k n more same is = same ∙ is
+
+take_all : (xs : List (List ℕ)) (n : ℕ) → n ≡ length xs → take n xs ≡ xs
+take_all xs n is = ap (λ (m : ℕ). take m xs) is ∙ take-length xs
+
+rest_is : (n : List ℕ) (ks : List (List ℕ)) → rest (n ∷ ks) ≡ ks
+rest_is n ks = take_all ks _ (omega arith)
+
+-- ---- what is found
+
+pub get_nothing : (names : List (List ℕ)) → get_fields names [] ≡ None
+get_nothing [] = refl
+get_nothing (n ∷ []) = refl
+get_nothing (n ∷ l ∷ ks) = get_nothing (l ∷ ks)
+
+itself : (o : Option Data) → o ≡ option_and_then (value_below []) o
+itself None = refl
+itself (Some d) = refl
+
+below : (k : List ℕ) (ks : List (List ℕ)) (o : Option Data) → get_fields (k ∷ ks) (fields_below o) ≡ option_and_then (value_below (k ∷ ks)) o
+below k ks None = get_nothing (k ∷ ks)
+below k ks (Some d) = refl
+
+-- a name further
+pub get_more : (names : List (List ℕ)) (k : List ℕ) (fs : List (List ℕ × Data)) → 0 < length names → k ≡ get_or names 0 k → get_fields names fs ≡ option_and_then (value_below (rest names)) (find text_cmp k fs)
+get_more [] k fs more is = absurd (omega arith)
+get_more (n ∷ []) k fs more is = ap (λ x. find text_cmp x fs) (sym is) ∙ itself (find text_cmp k fs)
+get_more (n ∷ l ∷ ks) k fs more is =
+    ap (λ x. get_fields (l ∷ ks) (fields_below (find text_cmp x fs))) (sym is)
+    ∙ below l ks (find text_cmp k fs)
+    ∙ ap (λ xs. option_and_then (value_below xs) (find text_cmp k fs)) (sym (rest_is n (l ∷ ks)))
+
+-- below a map, but for the map itself
+pub get_map : (names : List (List ℕ)) (fs : List (List ℕ × Data)) → option_and_then no_map (get_fields names fs) ≡ option_and_then no_map (value_below names (object (members_of fs)))
+get_map [] fs = refl
+get_map (k ∷ ks) fs = ap (λ xs. option_and_then no_map (get_fields (k ∷ ks) xs)) (sym (fields_of-members_of fs))
+
+-- in a map that isn't opened
+pub within_map : (names : List (List ℕ)) (k : List ℕ) (d : Data) (fs : List (List ℕ × Data)) (o : Option Data) → 0 < length names → k ≡ get_or names 0 k → d ≡ object (members_of fs)
+    → find text_cmp k fs ≡ o → value_below names d ≡ option_and_then (value_below (rest names)) o
+within_map [] k d fs o more first is at = absurd (omega arith)
+within_map (n ∷ ks) k d fs o more first is at =
+    ap (λ x. get_fields (n ∷ ks) (fields_below (Some x))) is
+    ∙ ap (get_fields (n ∷ ks)) (fields_of-members_of fs)
+    ∙ get_more (n ∷ ks) k fs more first
+    ∙ ap (option_and_then (value_below (rest (n ∷ ks)))) at
+
+other : (v : Value) → ((fs : List (List ℕ × Data)) → v ≢ Map fs) → map_fields (view v) ≡ None
+other Null h = refl
+other (Boolean b) h = refl
+other (Integer n) h = refl
+other (Timestamp t) h = refl
+other (String s) h = refl
+other (Bytes s) h = refl
+other (Reference n) h = refl
+other (Array vs) h = refl
+other (Map fs) h = absurd (h fs refl)
+
+-- below a value that is no map
+pub within_other : (names : List (List ℕ)) (v : Value) → 0 < length names → ((fs : List (List ℕ × Data)) → v ≢ Map fs) → value_below names (view v) ≡ None
+within_other [] v more h = absurd (omega arith)
+within_other (n ∷ ks) v more h = ap (λ o. get_fields (n ∷ ks) (unwrap_or o [])) (other v h) ∙ get_nothing (n ∷ ks)
+
+-- ---- what is set and taken out
+
+pub set_more : (names : List (List ℕ)) (k : List ℕ) (v : Data) (fs : List (List ℕ × Data)) → 1 < length names → k ≡ get_or names 0 k
+    → set_fields names v fs ≡ put text_cmp k (map_of (set_fields (rest names) v (fields_below (find text_cmp k fs)))) fs
+set_more [] k v fs more is = absurd (omega arith)
+set_more (n ∷ []) k v fs more is = absurd (omega arith)
+set_more (n ∷ l ∷ ks) k v fs more is = λ i. put text_cmp (sym is i) (map_of (set_fields (sym (rest_is n (l ∷ ks)) i) v (fields_below (find text_cmp (sym is i) fs)))) fs
+
+pub unset_more : (names : List (List ℕ)) (k : List ℕ) (fs : List (List ℕ × Data)) → 1 < length names → k ≡ get_or names 0 k
+    → unset_fields names fs ≡ option_map_or (λ ms. put text_cmp k (map_of (unset_fields (rest names) ms)) fs) (fields_under k fs) fs
+unset_more [] k fs more is = absurd (omega arith)
+unset_more (n ∷ []) k fs more is = absurd (omega arith)
+unset_more (n ∷ l ∷ ks) k fs more is = λ i. option_map_or (λ ms. put text_cmp (sym is i) (map_of (unset_fields (sym (rest_is n (l ∷ ks)) i) ms)) fs) (fields_under (sym is i) fs) fs
+
+-- ---- at a key that is there
+
+-- a value with another set below it
+pub set_there : (names : List (List ℕ)) (key : List ℕ) (v : Data) (es fs : List (List ℕ × Open)) (was now : Open) → 1 < length names → key ≡ get_or names 0 key → Rise es → Rise fs
+    → lookup (is_at (text_cmp key)) es ≡ Some was → ((q : List ℕ) → lookup (is_at (text_cmp q)) fs ≡ cond (is_at (text_cmp key) q) (Some now) (lookup (is_at (text_cmp q)) es))
+    → open_view now ≡ map_of (set_fields (rest names) v (fields_below (Some (open_view was))))
+    → map entry_view fs ≡ set_fields names v (map entry_view es)
+set_there names key v es fs was now more first old new there is set =
+    changed es fs key now old new is
+    ∙ ap (λ d. put text_cmp key d (map entry_view es)) set
+    ∙ ap (λ o. put text_cmp key (map_of (set_fields (rest names) v (fields_below o))) (map entry_view es)) (sym (found es key ∙ ap (option_map open_view) there))
+    ∙ sym (set_more names key v (map entry_view es) more first)
+
+-- without what is below it, or as it was
+unset_value : (names : List (List ℕ)) (key : List ℕ) (d : Data) (fs : List (List ℕ × Data)) (o : Option (List (List ℕ × Data))) → IsTrue (is_sorted text_cmp fs) → find text_cmp key fs ≡ Some d
+    → put text_cmp key (option_map_or (λ ms. map_of (unset_fields names ms)) o d) fs ≡ option_map_or (λ ms. put text_cmp key (map_of (unset_fields names ms)) fs) o fs
+unset_value names key d fs None rise is = put_same key d fs rise is
+unset_value names key d fs (Some ms) rise is = refl
+
+pub unset_there : (names : List (List ℕ)) (key : List ℕ) (es fs : List (List ℕ × Open)) (was now : Open) → 1 < length names → key ≡ get_or names 0 key → Rise es → Rise fs
+    → lookup (is_at (text_cmp key)) es ≡ Some was → ((q : List ℕ) → lookup (is_at (text_cmp q)) fs ≡ cond (is_at (text_cmp key) q) (Some now) (lookup (is_at (text_cmp q)) es))
+    → open_view now ≡ unset_below (rest names) (open_view was)
+    → map entry_view fs ≡ unset_fields names (map entry_view es)
+unset_there names key es fs was now more first old new there is unset =
+    let F = map entry_view es in
+    let here : find text_cmp key F ≡ Some (open_view was) = found es key ∙ ap (option_map open_view) there in
+    changed es fs key now old new is
+    ∙ ap (λ d. put text_cmp key d F) unset
+    ∙ unset_value (rest names) key (open_view was) F (map_fields (open_view was)) (rising es old) here
+    ∙ ap (λ o. option_map_or (λ ms. put text_cmp key (map_of (unset_fields (rest names) ms)) F) (option_and_then map_fields o) F) (sym here)
+    ∙ sym (unset_more names key F more first)
+
+-- ---- at a key that isn't there
+
+pub set_missing : (names : List (List ℕ)) (key : List ℕ) (v made : Data) (fs : List (List ℕ × Data)) → 1 < length names → key ≡ get_or names 0 key → find text_cmp key fs ≡ None
+    → made ≡ map_of (set_fields (rest names) v []) → put text_cmp key made fs ≡ set_fields names v fs
+set_missing names key v made fs more first missing is =
+    ap (λ d. put text_cmp key d fs) is
+    ∙ ap (λ o. put text_cmp key (map_of (set_fields (rest names) v (fields_below o))) fs) (sym missing)
+    ∙ sym (set_more names key v fs more first)
+
+pub unset_missing : (names : List (List ℕ)) (key : List ℕ) (fs : List (List ℕ × Data)) → 1 < length names → key ≡ get_or names 0 key → find text_cmp key fs ≡ None → fs ≡ unset_fields names fs
+unset_missing names key fs more first missing =
+    ap (λ o. option_map_or (λ ms. put text_cmp key (map_of (unset_fields (rest names) ms)) fs) (option_and_then map_fields o) fs) (sym missing) ∙ sym (unset_more names key fs more first)

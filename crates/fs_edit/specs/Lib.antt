@@ -1,0 +1,4 @@
+pub mod OpenView
+pub mod Falls
+pub mod Get
+pub mod Below
