@@ -4,7 +4,7 @@ use Rattle.std.specs.Fmt.{signed_decimal}
 use Rattle.std.specs.Str.{all_ascii_digits}
 use Rattle.std.specs.Str.Parse.{starts_with_minus, digits_value}
 use Rattle.serde_json.specs.Data.{Data, null, boolean, number, string, array, object}
-use Rattle.serde_json.specs.Find.{as_i64}
+use Rattle.serde_json.specs.Find.{as_i64, of_integer}
 
 -- a text without its `-`
 abbrev pub without_minus : List ℕ → List ℕ
@@ -51,3 +51,7 @@ small_of d = option_and_then (if_fits 31) (integer_of d)
 -- a 64-bit integer as it is written
 abbrev pub integer_json : ℤ → Data
 integer_json n = string (signed_decimal n)
+
+-- a 32-bit integer as it is written: a number
+abbrev pub small_json : ℤ → Data
+small_json n = number (of_integer n)

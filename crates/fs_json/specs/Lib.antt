@@ -6,3 +6,7 @@ pub mod Base64
 pub mod Paths
 pub mod Time
 pub mod FieldPathLaws
+pub mod Walk
+pub mod WalkLaws
+pub mod WrittenLaws
+pub mod DepthLaws

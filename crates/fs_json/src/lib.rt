@@ -16,4 +16,4 @@ pub use members::{at_most_one_of, member, one_of, only, only_of_two, refuse_unbu
 pub use paths::{document_name, field_path, reference, unless_refused};
 pub use scalars::{integer, list, small, text, truth};
 pub use times::{time, write_time};
-pub use write::{write_bytes, write_integer, write_text};
+pub use write::{write_bytes, write_integer, write_small, write_text};

@@ -4,7 +4,7 @@ ghost use Rattle.serde_json.specs.Data.{string};
 ghost use Rattle.serde_json.specs.Find.{as_str};
 ghost use Rattle.serde_json.specs.View.{view};
 ghost use Rattle.fs_json.specs.Base64.{bytes_json, bytes_of};
-ghost use Rattle.fs_json.specs.Integer.{integer_json, integer_of};
+ghost use Rattle.fs_json.specs.Integer.{integer_json, integer_of, small_json, small_of};
 
 use base64::engine::general_purpose::STANDARD;
 use fs_path::{Bytes, Text};
@@ -25,6 +25,14 @@ pub fn write_integer(alloc: Global, n: i64) -> Result<Value, AllocError>
     ensures reads_back { IfOk result (λ v. integer_of (view v) ≡ Some n) }
 {
     Ok(Value::String(n.to_string(alloc)?))
+}
+
+/// A 32-bit integer as a number.
+pub fn write_small(n: i32) -> Value
+    ensures value { view result ≡ small_json n }
+    ensures reads_back { small_of (view result) ≡ Some n }
+{
+    Value::from(n)
 }
 
 /// Bytes as base64 in the standard alphabet, with padding.

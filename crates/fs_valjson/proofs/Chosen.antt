@@ -11,20 +11,9 @@ use Rattle.fs_json.specs.Members.{at_most_one_at, chosen, if_chosen, is_given, f
 use Rattle.fs_json.specs.declared.bad.Bad.{Bad}
 use Rattle.fs_json.specs.declared.bad.Bad.TheVariants.{At}
 use Rattle.fs_value.specs.FieldPaths.{map_of}
+use Rattle.fs_valjson.specs.ChoiceLaws.{one_more, the_one-map, in_turn, one_or_fault}
 use Rattle.fs_valjson.specs.Reading.{kinds, array_members, map_members, array_of, made, the_one, plain_at, value_at, kinds_in, kind_at, lists_in, list_at, array_at, maps_in, fields_at, map_at}
 use Rattle.fs_valjson.specs.Steps.{the_content, the_kind}
-
-map-made : {A B C : Type 0} (f : B → C) (g : A → B) (o : Option A) → map f (option_to_list (option_map g o)) ≡ option_to_list (option_map (λ x. f (g x)) o)
-map-made f g None = refl
-map-made f g (Some x) = refl
-
--- a walk that reads the members that are chosen
-one_more : {A : Type 0} (names : List (List ℕ)) (f : List ℕ × json.Data → A) (k : List ℕ) (d : json.Data) (ms : json.Members) (rest : List A)
-    → rest ≡ map f (chosen names ms) → if_chosen names (λ name. f (name, d)) k d ++ rest ≡ map f (chosen names (json.member k d ms))
-one_more names f k d ms rest e =
-    ap (λ r. if_chosen names (λ name. f (name, d)) k d ++ r) e
-    ∙ ap (λ front. front ++ map f (chosen names ms)) (sym (map-made f (λ name. (name, d)) (cond (is_given k d) (first_spelled names k) None)))
-    ∙ sym (map-append f (if_chosen names (λ name. (name, d)) k d) (chosen names ms))
 
 lists_in-chosen : (ms : json.Members) (place : List ℕ) → lists_in ms place ≡ map (λ one. list_at one.1 (member_place place one.0)) (chosen array_members ms)
 lists_in-chosen json.no_members place = refl
@@ -33,18 +22,6 @@ lists_in-chosen (json.member k d ms) place = one_more array_members (λ one. lis
 maps_in-chosen : (ms : json.Members) (place : List ℕ) → maps_in ms place ≡ map (λ one. fields_at one.1 (member_place place one.0)) (chosen map_members ms)
 maps_in-chosen json.no_members place = refl
 maps_in-chosen (json.member k d ms) place = one_more map_members (λ one. fields_at one.1 (member_place place one.0)) k d ms _ (maps_in-chosen ms place)
-
--- one of the readings, beside the reading of the one
-the_one-map : {A X : Type 0} (f : X → Result A Bad) (place : List ℕ) (absent : Result A Bad) (xs : List X)
-    → the_one place absent (map f xs) ≡ or_fault G place (none_or_one xs) >>= λ found. option_map_or f found absent
-the_one-map f place absent [] = refl
-the_one-map f place absent (x ∷ []) = refl
-the_one-map f place absent (x ∷ y ∷ rest) = refl
-
--- what is read in turn
-in_turn : {A B C : Type 0} (first : Result A Bad) (then : Result B Bad) (f : B → Result C Bad) → (first >>= λ _. then >>= f) ≡ ((first >>= λ _. then) >>= f)
-in_turn (Ok x) then f = refl
-in_turn (Err bad) then f = refl
 
 -- the content of an array is read in two steps, and that of a map
 pub array_at-steps : (d : json.Data) (place : List ℕ)
@@ -99,12 +76,6 @@ kind_at-steps (json.object ms) name place = refl
 kinds_in-chosen : (ms : json.Members) (place : List ℕ) → kinds_in ms place ≡ map (λ one. kind_at one.1 one.0 (member_place place one.0)) (chosen kinds ms)
 kinds_in-chosen json.no_members place = refl
 kinds_in-chosen (json.member k d ms) place = one_more kinds (λ one. kind_at one.1 one.0 (member_place place one.0)) k d ms _ (kinds_in-chosen ms place)
-
-one_or_fault : {A X : Type 0} (f : X → Result A Bad) (place : List ℕ) (read : Result (Option X) Bad)
-    → (read >>= λ found. option_map_or f found (Err (At G place))) ≡ ((read >>= or_fault G place) >>= f)
-one_or_fault f place (Ok None) = refl
-one_or_fault f place (Ok (Some x)) = refl
-one_or_fault f place (Err bad) = refl
 
 -- a value is read in three steps
 pub value_at-steps : (d : json.Data) (place : List ℕ)

@@ -1,6 +1,5 @@
 pub mod Again
 pub mod Chosen
-pub mod Depths
 pub mod Lists
 pub mod Rising
 pub mod Written

@@ -1,24 +1,10 @@
 -- A list that is read item by item: what was read so far, in front of the rest.
-use Rattle.std.proofs.Common.{◌≡◌, ℕ, ◌+◌, List, [], ◌∷◌, ◌++◌, Result, Ok, Err, refl, sym, ap, append_assoc}
+use Rattle.std.proofs.Common.{◌≡◌, ℕ, ◌+◌, List, [], ◌∷◌, ◌++◌, Ok}
 use Rattle.fs_path.specs.Place.{member_place, item_place}
 use Rattle.serde_json.specs.Data as json
 use Rattle.fs_value.specs.Data.{Data}
-use Rattle.fs_json.specs.Answer.{◌>>=◌}
-use Rattle.fs_json.specs.declared.bad.Bad.{Bad}
+use Rattle.fs_json.specs.WalkLaws.{behind, behind-more}
 use Rattle.fs_valjson.specs.Reading.{value_at, items_at, entries_at}
-
--- the rest of a reading, behind what was read before
-abbrev pub behind : {A : Type 0} → List A → Result (List A) Bad → Result (List A) Bad
-behind front rest = rest >>= λ xs. Ok (front ++ xs)
-
-pub behind-nil : {A : Type 0} (rest : Result (List A) Bad) → behind [] rest ≡ rest
-behind-nil (Ok xs) = refl
-behind-nil (Err bad) = refl
-
--- one more
-pub behind-more : {A : Type 0} (front : List A) (x : A) (rest : Result (List A) Bad) → behind front (rest >>= λ xs. Ok (x ∷ xs)) ≡ behind (front ++ x ∷ []) rest
-behind-more front x (Ok xs) = ap Ok (sym (append_assoc front (x ∷ []) xs))
-behind-more front x (Err bad) = refl
 
 pub next_item : (front : List Data) (d : json.Data) (ds : json.Items) (i : ℕ) (place : List ℕ) (x : Data)
     → value_at d (item_place place i) ≡ Ok x → behind front (items_at (json.item d ds) i place) ≡ behind (front ++ x ∷ []) (items_at ds (i + 1) place)

@@ -4,3 +4,4 @@ pub mod Steps
 pub mod Writing
 pub mod Valid
 pub mod FloatLaws
+pub mod ChoiceLaws

@@ -27,7 +27,7 @@ use Rattle.fs_writejson.specs.Held.{IsPathHeld, IsOperationHeld, IsTransformHeld
 use Rattle.fs_writejson.specs.Mask.{mask_at, mask_json, path_json, paths_json}
 use Rattle.fs_writejson.specs.Transform.{together, transform_at, transform_json, transforms_at, transforms_json}
 use Rattle.fs_writejson.specs.Valid.{HasNames, IsWriteOf}
-use Rattle.fs_writejson.specs.Walk.{each_at}
+use Rattle.fs_json.specs.Walk.{each_at}
 use Rattle.fs_writejson.specs.Draft.{draft_at}
 use Rattle.fs_writejson.specs.Rules.{permitted_at, unless_broken, write_at}
 use Rattle.fs_writejson.specs.Written.{write_json}

@@ -1,10 +1,9 @@
 -- What is written has no float, so its text is told byte for byte.
-use Rattle.std.proofs.Common.{◌≡◌, ℤ, false, List, [], ◌∷◌, map, Option, Some, None, refl}
+use Rattle.std.proofs.Common.{◌≡◌, false, List, [], ◌∷◌, map, refl}
 use Rattle.serde_json.specs.View.{items_of}
 use Rattle.serde_json.specs.Written.{has_float, items_have_float, members_have_float}
 use Rattle.fs_path.specs.declared.field.FieldPath.{FieldPath}
-use Rattle.fs_value.specs.Data as value
-use Rattle.fs_valjson.specs.FloatLaws.{array_float, list_float, update_float}
+use Rattle.fs_valjson.specs.FloatLaws.{array_float, update_float}
 use Rattle.fs_write.specs.declared.transform.Operation.{Operation}
 use Rattle.fs_write.specs.declared.transform.Operation.TheVariants.{RequestTime, Increment, Maximum, Minimum, AppendMissing, RemoveAll}
 use Rattle.fs_write.specs.declared.transform.Transform.{Transform}
@@ -13,9 +12,7 @@ use Rattle.fs_write.specs.declared.write.Act.TheVariants.{Set, Merge, Delete}
 use Rattle.fs_write.specs.declared.write.Precondition.{Precondition}
 use Rattle.fs_write.specs.declared.write.Precondition.TheVariants as condition
 use Rattle.fs_write.specs.declared.write.Write.{Write}
-use Rattle.fs_write.specs.declared.write_result.WriteResult.{WriteResult}
 use Rattle.fs_writejson.specs.Mask.{mask_json, path_json}
-use Rattle.fs_writejson.specs.Results.{result_json, updated_member}
 use Rattle.fs_writejson.specs.Transform.{transform_json}
 use Rattle.fs_writejson.specs.Written.{transforms_member, with_act, write_json}
 
@@ -56,15 +53,3 @@ write_float_at act ts (condition.UpdateTime time) = act_float act ts
 
 pub write_float : (w : Write) → has_float (write_json w) ≡ false
 write_float w = write_float_at w.act w.transforms w.condition
-
-updated_float : (updated : Option ℤ) → members_have_float (updated_member updated) ≡ false
-updated_float None = refl
-updated_float (Some time) = refl
-
-result_float_at : (updated : Option ℤ) (ds : List value.Data) → has_float (result_json (record { updated = updated; transforms = ds })) ≡ false
-unfolding result_json
-result_float_at updated [] = updated_float updated
-result_float_at updated (d ∷ ds) = rw (list_float (d ∷ ds), updated_float updated) refl
-
-pub result_float : (r : WriteResult) → has_float (result_json r) ≡ false
-result_float r = result_float_at r.updated r.transforms

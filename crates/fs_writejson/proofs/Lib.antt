@@ -1,6 +1,5 @@
 pub mod Again
 pub mod Floats
 pub mod Least
-pub mod Lists
 pub mod Put
 pub mod Written

@@ -25,7 +25,7 @@ use Rattle.fs_write.specs.declared.transform.Transform.{Transform}
 use Rattle.fs_writejson.specs.Condition.{condition_in}
 use Rattle.fs_writejson.specs.Mask.{mask_at}
 use Rattle.fs_writejson.specs.Transform.{transforms_in}
-use Rattle.fs_writejson.specs.Walk.{all_at}
+use Rattle.fs_json.specs.Walk.{all_at}
 use Rattle.fs_writejson.specs.declared.draft.Draft.{Draft}
 
 -- the members that aren't built, and all that a write may have, in the order of the walk

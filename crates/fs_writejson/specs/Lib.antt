@@ -1,4 +1,3 @@
-pub mod Walk
 pub mod Mask
 pub mod Transform
 pub mod Condition
@@ -9,3 +8,4 @@ pub mod Results
 pub mod Valid
 pub mod Steps
 pub mod Held
+pub mod FloatLaws

@@ -10,7 +10,7 @@ use Rattle.fs_json.specs.Answer.{◌>>=◌}
 use Rattle.fs_json.specs.Members.{member_at, only_at}
 use Rattle.fs_json.specs.Paths.{field_path_at}
 use Rattle.fs_json.specs.declared.bad.Bad.{Bad}
-use Rattle.fs_writejson.specs.Walk.{all_at}
+use Rattle.fs_json.specs.Walk.{all_at}
 
 -- ---- reading
 

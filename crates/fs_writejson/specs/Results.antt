@@ -2,11 +2,13 @@
 --
 --     updated at 2024, an increment came to 3     {"transformResults":[{"integerValue":"3"}],"updateTime":"2024-01-01T00:00:00Z"}
 --     a delete                                    {}
-use Rattle.std.specs.Prelude.{ℤ, List, [], ◌∷◌, Option, Some, None, codes}
+use Rattle.std.specs.Prelude.{◌≡◌, ℕ, ℤ, List, [], ◌∷◌, Option, Some, None, Ok, IfSome, codes}
 use Rattle.serde_json.specs.Data as json
-use Rattle.fs_value.specs.Data.{Data}
+use Rattle.fs_value.specs.Data.{Data, items_of}
 use Rattle.fs_json.specs.Time.{time_json}
-use Rattle.fs_valjson.specs.Writing.{list_json}
+use Rattle.fs_valjson.specs.Reading.{list_at}
+use Rattle.fs_valjson.specs.Valid.{IsTimeHeld}
+use Rattle.fs_valjson.specs.Writing.{list_json, ItemsHaveNames}
 use Rattle.fs_write.specs.declared.write_result.WriteResult.{WriteResult}
 
 abbrev pub updated_member : Option ℤ → json.Members
@@ -19,3 +21,8 @@ with_results (d ∷ ds) rest = json.member (codes "transformResults") (list_json
 
 unfoldable pub result_json : WriteResult → json.Data
 result_json r = json.object (with_results r.transforms (updated_member r.updated))
+
+-- what is written of it is read back: its time, and at any place its values, where their references are names of documents
+pub record IsResultHeld (r : WriteResult) : Type 0 where
+  pub updated : IfSome r.updated IsTimeHeld
+  pub transforms : (place : List ℕ) → ItemsHaveNames (items_of r.transforms) → list_at (list_json r.transforms) place ≡ Ok r.transforms

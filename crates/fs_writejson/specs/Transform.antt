@@ -18,7 +18,7 @@ use Rattle.fs_write.specs.declared.transform.Operation.{Operation}
 use Rattle.fs_write.specs.declared.transform.Operation.TheVariants.{RequestTime, Increment, Maximum, Minimum, AppendMissing, RemoveAll}
 use Rattle.fs_write.specs.declared.transform.Transform.{Transform}
 use Rattle.fs_writejson.specs.Mask.{path_json}
-use Rattle.fs_writejson.specs.Walk.{all_at}
+use Rattle.fs_json.specs.Walk.{all_at}
 
 -- the operations of which a transform has just one
 abbrev pub operations : List (List ℕ)

@@ -8,7 +8,7 @@ ghost use Rattle.fs_json.specs.Answer.{Gives};
 ghost use Rattle.fs_json.specs.Paths.{field_path_at};
 ghost use Rattle.fs_writejson.specs.Held.{IsPathHeld};
 ghost use Rattle.fs_writejson.specs.Mask.{mask_at, mask_json, paths_in, paths_json};
-ghost use Rattle.fs_writejson.specs.Walk.{all_at, each_at};
+ghost use Rattle.fs_json.specs.Walk.{all_at, each_at};
 
 use crate::names::{FIELD_PATHS, MASK_MEMBERS};
 use fs_json::{Bad, field_path, list, member, only};

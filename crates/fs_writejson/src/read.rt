@@ -7,7 +7,7 @@ ghost use Rattle.serde_json.specs.View.{items_view, view as json};
 ghost use Rattle.fs_write.specs.declared.write.Act.{Act as Acted};
 ghost use Rattle.fs_writejson.specs.Draft.{act_at, draft_at, drafts_at, mask_in, with_mask};
 ghost use Rattle.fs_writejson.specs.Rules.{write_at};
-ghost use Rattle.fs_writejson.specs.Walk.{each_at};
+ghost use Rattle.fs_json.specs.Walk.{each_at};
 
 use crate::condition::read_condition_of;
 use crate::draft::{Draft, Drafts};

@@ -1,8 +1,12 @@
 //! Writes the results of writes.
-ghost use Rattle.std.specs.Prelude.{◌≡◌, false, IfOk, OnOk};
+ghost use Rattle.std.specs.Prelude.{◌≡◌, ℕ, List, false, Ok, IfOk, IfSome, OnOk};
 ghost use Rattle.serde_json.specs.View.{members_view, view as json};
 ghost use Rattle.serde_json.specs.Written.{has_float};
-ghost use Rattle.fs_writejson.specs.Results.{result_json};
+ghost use Rattle.fs_value.specs.Data.{items_of};
+ghost use Rattle.fs_valjson.specs.Reading.{list_at};
+ghost use Rattle.fs_valjson.specs.Valid.{IsTimeHeld};
+ghost use Rattle.fs_valjson.specs.Writing.{list_json, ItemsHaveNames};
+ghost use Rattle.fs_writejson.specs.Results.{result_json, IsResultHeld};
 ghost use Rattle.fs_writejson.specs.Steps.{with_results_put, with_updated_put};
 
 use crate::names::{TRANSFORM_RESULTS, UPDATE_TIME};
@@ -19,6 +23,7 @@ use std::alloc::{AllocError, Global};
 pub fn write_result(alloc: Global, answer: &WriteResult) -> Result<Value, AllocError>
     ensures value { IfOk result (λ j. json j ≡ result_json answer.now) }
     ensures no_float { IfOk result (λ j. has_float (json j) ≡ false) }
+    ensures held { OnOk result (IsResultHeld answer.now) }
 {
     let mut members = Map::new(alloc);
     put_updated(alloc, &mut members, answer.updated)?;
@@ -31,8 +36,9 @@ fn put_updated(
     members: &mut Map<String, Value>,
     updated: Option<Micros>,
 ) -> Result<(), AllocError>
-    ensures { OnOk result (members_view members.new.entries
+    ensures value { OnOk result (members_view members.new.entries
         ≡ with_updated_put updated (members_view members.old.entries)) }
+    ensures held { OnOk result (IfSome updated IsTimeHeld) }
 {
     match updated {
         Some(time) => serde_json::put(members, alloc, UPDATE_TIME, write_time(alloc, time)?),
@@ -45,8 +51,10 @@ fn put_results(
     members: &mut Map<String, Value>,
     results: &Values,
 ) -> Result<(), AllocError>
-    ensures { OnOk result (members_view members.new.entries
+    ensures value { OnOk result (members_view members.new.entries
         ≡ with_results_put results.now (members_view members.old.entries)) }
+    ensures held { OnOk result ((place : List ℕ) → ItemsHaveNames (items_of results.now)
+        → list_at (list_json results.now) place ≡ Ok results.now) }
 {
     if results.is_empty() {
         return Ok(());

@@ -11,7 +11,7 @@ ghost use Rattle.fs_valjson.specs.Reading.{made};
 ghost use Rattle.fs_write.specs.declared.transform.Operation.{Operation as Done};
 ghost use Rattle.fs_write.specs.declared.transform.Transform.{Transform as Step};
 ghost use Rattle.fs_writejson.specs.Transform.{number_of, operation_at, operations, server_value, together, transform_at, transforms_at, transforms_in};
-ghost use Rattle.fs_writejson.specs.Walk.{each_at};
+ghost use Rattle.fs_json.specs.Walk.{each_at};
 
 use crate::names::{
     APPEND_MISSING_ELEMENTS, FIELD_PATH, INCREMENT, MAXIMUM, OPERATIONS, PATH_MEMBERS,

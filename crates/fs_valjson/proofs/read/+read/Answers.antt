@@ -13,8 +13,9 @@ use Rattle.fs_json.specs.Members.{at_most_one_at, one_of_at, only_at}
 use Rattle.fs_valjson.specs.Reading.{kinds, array_members, map_members, value_at, items_at, entries_at}
 use Rattle.fs_valjson.specs.Steps.{the_content, the_kind}
 use Rattle.fs_valjson.proofs.Chosen.{array_at-steps, map_at-steps, value_at-steps}
-use Rattle.fs_valjson.proofs.Depths.{at_most_one_falls, last_ok, one_of_falls, item_falls, entry_falls}
-use Rattle.fs_valjson.proofs.Lists.{behind, next_item, next_entry}
+use Rattle.fs_json.specs.DepthLaws.{at_most_one_falls, last_ok, one_of_falls, item_falls, entry_falls}
+use Rattle.fs_json.specs.WalkLaws.{behind}
+use Rattle.fs_valjson.proofs.Lists.{next_item, next_entry}
 use Rattle.fs_valjson.proofs.Rising.{one_more_key, rising_front}
 use Rattle.fs_valjson.proofs.read.+read.Goals as goal
 

@@ -4,7 +4,7 @@ use Rattle.serde_json.specs.View.{view as json, items_view, members_view}
 use Rattle.serde_json.proofs.Views.{Entry}
 use Rattle.fs_path.specs.Way.{place_of}
 use Rattle.fs_valjson.specs.Reading.{items_at, entries_at}
-use Rattle.fs_valjson.proofs.Lists.{behind}
+use Rattle.fs_json.specs.WalkLaws.{behind}
 use Rattle.fs_valjson.proofs.read.+read.Given as goal
 
 abbrev pub decreases-read_value : goal.decreases-read_value

@@ -4,8 +4,8 @@ use Rattle.serde_json.specs.View.{view, items_view}
 use Rattle.fs_path.specs.Place.{item_place}
 use Rattle.fs_path.specs.Way.{place_of}
 use Rattle.fs_json.specs.Paths.{field_path_at}
-use Rattle.fs_writejson.specs.Walk.{each_at}
-use Rattle.fs_writejson.proofs.Lists.{behind, next_one}
+use Rattle.fs_json.specs.Walk.{each_at}
+use Rattle.fs_json.specs.WalkLaws.{behind, next_one}
 use Rattle.fs_writejson.proofs.mask.read_items.Goals as goal
 
 pub loop-i-preserved : goal.loop-i-preserved

@@ -5,7 +5,7 @@ use Rattle.serde_json.specs.declared.value.Value.{String, the_lemmas}
 use Rattle.fs_path.specs.Field.{field_of, field_text}
 use Rattle.fs_writejson.specs.Held.{IsPathHeld}
 use Rattle.fs_writejson.specs.Mask.{path_json}
-use Rattle.fs_writejson.proofs.Written.{all_next, written_next}
+use Rattle.fs_json.specs.WrittenLaws.{all_next, written_next}
 use Rattle.fs_writejson.proofs.mask.write_paths.Goals as goal
 
 pub loop-path-preserved : goal.loop-path-preserved

@@ -4,8 +4,8 @@ use Rattle.serde_json.specs.View.{view, items_view}
 use Rattle.fs_path.specs.Place.{item_place}
 use Rattle.fs_path.specs.Way.{place_of}
 use Rattle.fs_writejson.specs.Draft.{draft_at}
-use Rattle.fs_writejson.specs.Walk.{each_at}
-use Rattle.fs_writejson.proofs.Lists.{behind, next_one}
+use Rattle.fs_json.specs.Walk.{each_at}
+use Rattle.fs_json.specs.WalkLaws.{behind, next_one}
 use Rattle.fs_writejson.proofs.read.read_items.Goals as goal
 
 pub loop-i-preserved : goal.loop-i-preserved

@@ -2,8 +2,8 @@ use Rattle.std.proofs.Common.{◌≡◌, drop}
 use Rattle.fs_path.specs.Way.{place_of}
 use Rattle.serde_json.specs.View.{items_view}
 use Rattle.fs_writejson.specs.Draft.{draft_at}
-use Rattle.fs_writejson.specs.Walk.{each_at}
-use Rattle.fs_writejson.proofs.Lists.{behind}
+use Rattle.fs_json.specs.Walk.{each_at}
+use Rattle.fs_json.specs.WalkLaws.{behind}
 use Rattle.fs_writejson.proofs.read.read_items.Given as goal
 
 -- the drafts so far, and then the rest, are all

@@ -9,8 +9,8 @@ use Rattle.fs_path.specs.Place.{item_place}
 use Rattle.fs_path.specs.Way.{place_of}
 use Rattle.fs_write.specs.declared.transform.Transform.{Transform}
 use Rattle.fs_writejson.specs.Transform.{transform_at}
-use Rattle.fs_writejson.specs.Walk.{each_at}
-use Rattle.fs_writejson.proofs.Lists.{behind, next_one}
+use Rattle.fs_json.specs.Walk.{each_at}
+use Rattle.fs_json.specs.WalkLaws.{behind, next_one}
 use Rattle.fs_writejson.proofs.transform.read_items.Goals as goal
 
 pub loop-i-preserved : goal.loop-i-preserved

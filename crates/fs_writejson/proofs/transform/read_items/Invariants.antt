@@ -4,8 +4,8 @@ use Rattle.fs_path.specs.Way.{place_of}
 use Rattle.serde_json.specs.View.{items_view}
 use Rattle.fs_write.specs.declared.transform.Transform.{Transform}
 use Rattle.fs_writejson.specs.Transform.{transform_at}
-use Rattle.fs_writejson.specs.Walk.{each_at}
-use Rattle.fs_writejson.proofs.Lists.{behind}
+use Rattle.fs_json.specs.Walk.{each_at}
+use Rattle.fs_json.specs.WalkLaws.{behind}
 use Rattle.fs_writejson.proofs.transform.read_items.Given as goal
 
 -- those that were read so far, and then the rest, are all

@@ -1,4 +1,4 @@
--- What is read inside a value nests less deep than the value, so reading ends.
+-- Laws that other crates cite: what is read inside a JSON value nests less deep than the value, so reading ends.
 use Rattle.std.proofs.Common.{◌≡◌, ℕ, suc, ◌≤◌, ◌<◌, List, [], ◌∷◌, ◌++◌, get_or, length, Option, Some, None, option_map, Result, Ok, Err, ap, subst, zero, arith, cond}
 use Rattle.std.specs.List.{AllByRecursion}
 use Rattle.std.specs.Option.{option_to_list}

@@ -1,4 +1,4 @@
--- How lists inside a write are walked: each item is read at its place, and the first that is at fault ends the walk.
+-- How lists in a request are walked: each item is read at its place, and the first that is at fault ends the walk.
 use Rattle.std.specs.Prelude.{ℕ, ◌+◌, List, [], ◌∷◌, Result, Ok}
 use Rattle.fs_path.specs.Place.{item_place}
 use Rattle.fs_path.specs.declared.place.Rule.TheVariants.{G}

@@ -1,0 +1,15 @@
+use Rattle.fs_json.specs.WrittenLaws.{all_next, written_next}
+use Rattle.fs_queryjson.specs.Field.{field_json}
+use Rattle.fs_queryjson.specs.Held.{IsPathHeld}
+use Rattle.fs_queryjson.proofs.write_parts.write_items.Goals as goal
+
+pub loop-path-preserved : goal.loop-path-preserved
+loop-path-preserved c =
+    let xs = c.args.paths.now in
+    let l = c.loop-path in
+    let x = c.path-item.result in
+    let one = c.in_ok-write_field.ensures in
+    rw c.in_ok-push.ensures.items (record {
+      written = written_next field_json l.items.items c.in_ok-write_field.field-0 xs l.path-index x c.loop-path-test.true c.path-item.is l.invariant.written one.value;
+      held = all_next IsPathHeld xs l.path-index x c.loop-path-test.true c.path-item.is l.invariant.held one.held;
+    })

@@ -1,0 +1,13 @@
+pub mod Member
+pub mod Field
+pub mod Select
+pub mod From
+pub mod Op
+pub mod Filter
+pub mod Order
+pub mod Cursor
+pub mod Query
+pub mod Steps
+pub mod Written
+pub mod Valid
+pub mod Held

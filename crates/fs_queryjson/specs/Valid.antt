@@ -1,0 +1,47 @@
+-- The queries that are read back from what is written of them.
+use Rattle.std.specs.Prelude.{◌≡◌, List, [], ◌∷◌, Option, Some, None}
+use Rattle.fs_path.specs.declared.field.FieldPath.{FieldPath}
+use Rattle.fs_value.specs.Data.{items_of}
+use Rattle.fs_query.specs.Asked.{Asked}
+use Rattle.fs_query.specs.Condition.{Condition, anything, compared, is_null, is_not_null, all_of, any_of, Conditions, no_more, one_more}
+use Rattle.fs_query.specs.Rules.{rule_of_query}
+use Rattle.fs_query.specs.declared.cursor.Cursor.{Cursor}
+use Rattle.fs_valjson.specs.Writing.{HasNames, ItemsHaveNames}
+
+-- a filter that asks something in each of its parts, and whose references are names of documents
+abbrev mutual
+  pub IsFilter : Condition → Type 0
+  IsFilter anything = ⊥
+  IsFilter (compared p op v) = HasNames v
+  IsFilter (is_null p) = Unit {0}
+  IsFilter (is_not_null p) = Unit {0}
+  IsFilter (all_of cs) = AreFilters cs
+  IsFilter (any_of cs) = AreFilters cs
+
+  pub AreFilters : Conditions → Type 0
+  AreFilters no_more = Unit {0}
+  AreFilters (one_more c cs) = IsFilter c × AreFilters cs
+
+-- what fits every document stands only as a whole filter
+abbrev pub IsWhere : Condition → Type 0
+IsWhere anything = Unit {0}
+IsWhere c = IsFilter c
+
+-- the references in a cursor, if it is there, are names of documents
+abbrev pub CursorHasNames : Option Cursor → Type 0
+CursorHasNames None = Unit {0}
+CursorHasNames (Some c) = ItemsHaveNames (items_of c.values)
+
+-- a selection has a path: what keeps no field is written by the path `__name__`, and read as that path
+abbrev pub SelectsSome : Option (List FieldPath) → Type 0
+SelectsSome None = Unit {0}
+SelectsSome (Some []) = ⊥
+SelectsSome (Some (p ∷ ps)) = Unit {0}
+
+-- a query that breaks no rule of queries, each part of which can be told in JSON
+pub record IsValid (q : Asked) : Type 0 where
+  pub filter : IsWhere q.filter
+  pub start : CursorHasNames q.start
+  pub end : CursorHasNames q.end
+  pub select : SelectsSome q.select
+  pub allowed : rule_of_query q ≡ None

@@ -1,0 +1,53 @@
+//! Cursors.
+ghost use Rattle.std.specs.Prelude.{◌≡◌, [], Option, codes};
+ghost use Rattle.fs_path.specs.Way.{place_of};
+ghost use Rattle.serde_json.specs.View.{view as json};
+ghost use Rattle.fs_json.specs.Answer.{Gives};
+ghost use Rattle.fs_query.specs.declared.cursor.Cursor.{Cursor as Edge};
+ghost use Rattle.fs_valjson.specs.Reading.{list_at};
+ghost use Rattle.fs_queryjson.specs.Cursor.{cursor_at, cursor_in};
+ghost use Rattle.fs_queryjson.specs.Member.{member_or};
+
+use crate::member::read_truth_of;
+use crate::names::{BEFORE, CURSOR_MEMBERS, VALUES};
+use fs_json::{Bad, member, only};
+use fs_path::Way;
+use fs_query::Cursor;
+use fs_valjson::read_list;
+use fs_value::Values;
+use serde_json::Value;
+use std::alloc::Global;
+
+/// The cursor of this name, if it is there.
+pub(crate) fn read_cursor_of(
+    alloc: Global,
+    query: &Value,
+    name: &str,
+    place: &Way<'_>,
+) -> Result<Option<Cursor>, Bad>
+    ensures { Gives {Y = Option Edge} (λ c. c) result (cursor_in name.now (json query.now) (place_of place.now)) }
+{
+    match member(alloc, query, name, place)? {
+        Some(cursor) => Ok(Some(read_cursor(alloc, cursor, &(*place).member(name))?)),
+        None => Ok(None),
+    }
+}
+
+/// Reads a cursor: a list of values, and whether the place is before them. (v1 reference, "Cursor".)
+fn read_cursor(alloc: Global, v: &Value, place: &Way<'_>) -> Result<Cursor, Bad>
+    ensures { Gives (λ c. c) result (cursor_at (json v.now) (place_of place.now)) }
+{
+    only(alloc, v, &CURSOR_MEMBERS, place)?;
+    let values = read_values_of(alloc, v, place)?;
+    let before = read_truth_of(alloc, v, BEFORE, place)?;
+    Ok(Cursor { values, before })
+}
+
+fn read_values_of(alloc: Global, v: &Value, place: &Way<'_>) -> Result<Values, Bad>
+    ensures { Gives (λ ds. ds) result (member_or [] list_at (codes "values") (json v.now) (place_of place.now)) }
+{
+    match member(alloc, v, VALUES, place)? {
+        Some(values) => read_list(alloc, values, &place.member(VALUES)),
+        None => Ok(Values::new(alloc)),
+    }
+}

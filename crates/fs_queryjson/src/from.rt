@@ -1,0 +1,105 @@
+//! The collections that a query goes over.
+ghost use Rattle.std.specs.Prelude.{◌≡◌, List, [], IfOk, codes};
+ghost use Rattle.fs_path.specs.Way.{place_of};
+ghost use Rattle.fs_path.specs.declared.scope.Scope.{Scope as Covered};
+ghost use Rattle.serde_json.specs.View.{items_view, view as json};
+ghost use Rattle.fs_json.specs.Answer.{Gives};
+ghost use Rattle.fs_json.specs.Walk.{each_at};
+ghost use Rattle.fs_queryjson.specs.From.{scope_at, scope_of, scopes_at, scopes_in, the_scope};
+ghost use Rattle.fs_queryjson.specs.Member.{member_or, text_at};
+
+use crate::member::read_truth_of;
+use crate::names::{ALL_DESCENDANTS, COLLECTION_ID, FROM, FROM_MEMBERS};
+use fs_json::{Bad, list, member, only, text};
+use fs_path::{Ids, Scope, Text, Way};
+use serde_json::Value;
+use std::alloc::{AllocError, Global};
+
+/// The scopes that `from` gives, each below the parent. There are none where it is absent.
+pub(crate) fn read_scopes_of(
+    alloc: Global,
+    parent: &Ids,
+    query: &Value,
+    place: &Way<'_>,
+) -> Result<Vec<Scope>, Bad>
+    ensures { Gives {Y = List Covered} (λ l. l.items) result
+        (scopes_in parent.now (json query.now) (place_of place.now)) }
+{
+    match member(alloc, query, FROM, place)? {
+        Some(from) => read_scopes(alloc, parent, from, &place.member(FROM)),
+        None => Ok(Vec::new(alloc)),
+    }
+}
+
+/// The one scope of a query. Where there is none or more than one, it is the collection of the empty id, which is no id:
+/// so rule 1 of queries is broken.
+pub(crate) fn the_scope(
+    alloc: Global,
+    parent: &Ids,
+    mut scopes: Vec<Scope>,
+) -> Result<Scope, AllocError>
+    ensures { IfOk result (λ s. s ≡ the_scope parent.now scopes.items) }
+{
+    match scopes.pop() {
+        Some(scope) if scopes.is_empty() => Ok(scope),
+        _ => Ok(Scope::Collection {
+            parent: parent.copy(alloc)?,
+            id: Text::of(String::new(alloc)),
+        }),
+    }
+}
+
+fn read_scopes(alloc: Global, parent: &Ids, v: &Value, place: &Way<'_>) -> Result<Vec<Scope>, Bad>
+    ensures { Gives {Y = List Covered} (λ l. l.items) result
+        (scopes_at parent.now (json v.now) (place_of place.now)) }
+{
+    read_items(alloc, parent, list(alloc, v, place)?, place)
+}
+
+fn read_items(
+    alloc: Global,
+    parent: &Ids,
+    items: &[Value],
+    place: &Way<'_>,
+) -> Result<Vec<Scope>, Bad>
+    ensures { Gives {Y = List Covered} (λ l. l.items) result
+        (each_at (scope_at parent.now) (items_view items.now) 0 (place_of place.now)) }
+{
+    let mut scopes = Vec::new(alloc);
+    for (i, item) in items.iter().enumerate() {
+        let scope = read_scope(alloc, parent, item, &place.item(i as u64))?;
+        scopes.push(scope)?;
+    }
+    Ok(scopes)
+}
+
+/// Reads a scope: one collection, or all of an id below the parent. (v1 reference, "StructuredQuery.CollectionSelector".)
+fn read_scope(alloc: Global, parent: &Ids, v: &Value, place: &Way<'_>) -> Result<Scope, Bad>
+    ensures { Gives (λ s. s) result (scope_at parent.now (json v.now) (place_of place.now)) }
+{
+    only(alloc, v, &FROM_MEMBERS, place)?;
+    let id = read_id_of(alloc, v, place)?;
+    let all = read_truth_of(alloc, v, ALL_DESCENDANTS, place)?;
+    Ok(scope_of(alloc, parent, id, all)?)
+}
+
+fn scope_of(alloc: Global, parent: &Ids, id: Text, all: bool) -> Result<Scope, AllocError>
+    ensures { IfOk result (λ s. s ≡ scope_of parent.now id all) }
+{
+    let parent = parent.copy(alloc)?;
+    Ok(if all {
+        Scope::Group { parent, id }
+    } else {
+        Scope::Collection { parent, id }
+    })
+}
+
+/// An id that is absent is empty.
+fn read_id_of(alloc: Global, v: &Value, place: &Way<'_>) -> Result<Text, Bad>
+    ensures { Gives (λ id. id) result (member_or [] text_at (codes "collectionId") (json v.now) (place_of place.now)) }
+{
+    match member(alloc, v, COLLECTION_ID, place)? {
+        Some(id) => text(alloc, id, &place.member(COLLECTION_ID)),
+        None => Ok(Text::of(String::new(alloc))),
+    }
+}

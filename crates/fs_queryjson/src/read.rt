@@ -1,0 +1,78 @@
+//! Reads queries.
+ghost use Rattle.std.specs.Prelude.{◌≡◌, pos};
+ghost use Rattle.fs_path.specs.Way.{place_of};
+ghost use Rattle.serde_json.specs.View.{view as json};
+ghost use Rattle.fs_json.specs.Answer.{Gives};
+ghost use Rattle.fs_queryjson.specs.Query.{offset_in, permitted_at, query_at, walked_at};
+
+use crate::cursor::read_cursor_of;
+use crate::filter::read_where_of;
+use crate::from::{read_scopes_of, the_scope};
+use crate::member::read_small_of;
+use crate::names::{END_AT, LIMIT, OFFSET, QUERY_MEMBERS, START_AT};
+use crate::order::read_orders_of;
+use crate::select::read_select_of;
+use fs_json::{Bad, only};
+use fs_path::{Ids, Rule, Way};
+use fs_query::{Query, check};
+use serde_json::Value;
+use std::alloc::Global;
+
+/// Reads a query that goes over collections below the parent: the walk, and then the rules of queries, the least of which is
+/// told at the place of the query itself. (v1 reference, "StructuredQuery".)
+pub fn read_query(alloc: Global, parent: &Ids, v: &Value, place: &Way<'_>) -> Result<Query, Bad>
+    ensures { Gives (λ q. q) result (query_at parent.now (json v.now) (place_of place.now)) }
+{
+    let query = walk_query(alloc, parent, v, place)?;
+    judge_query(alloc, query, place)
+}
+
+/// Reads a query as it is walked. Its rules are tested by `judge_query`, since they come after the walk of the whole request.
+/// Where `from` hasn't just one entry, the query has the collection of the empty id, which breaks rule 1.
+///
+/// At the way `x` the reader of `{"orderBy":[{}],"from":1}` refuses at `x.from`, and where that is a list at
+/// `x.orderBy[0].field`.
+#[tactic(auto, unfolding(crate::specs::Query::walked_at))]
+pub fn walk_query(alloc: Global, parent: &Ids, v: &Value, place: &Way<'_>) -> Result<Query, Bad>
+    ensures { Gives (λ q. q) result (walked_at parent.now (json v.now) (place_of place.now)) }
+{
+    only(alloc, v, &QUERY_MEMBERS, place)?;
+    let select = read_select_of(alloc, v, place)?;
+    let scopes = read_scopes_of(alloc, parent, v, place)?;
+    let filter = read_where_of(alloc, v, place)?;
+    let orders = read_orders_of(alloc, v, place)?;
+    let start = read_cursor_of(alloc, v, START_AT, place)?;
+    let end = read_cursor_of(alloc, v, END_AT, place)?;
+    let offset = read_offset_of(alloc, v, place)?;
+    let limit = read_small_of(alloc, v, LIMIT, place)?;
+    Ok(Query {
+        scope: the_scope(alloc, parent, scopes)?,
+        filter,
+        orders,
+        start,
+        end,
+        offset,
+        limit,
+        select,
+    })
+}
+
+/// An offset that is absent is 0.
+fn read_offset_of(alloc: Global, query: &Value, place: &Way<'_>) -> Result<i32, Bad>
+    ensures { Gives (λ n. n) result (offset_in (json query.now) (place_of place.now)) }
+{
+    match read_small_of(alloc, query, OFFSET, place)? {
+        Some(offset) => Ok(offset),
+        None => Ok(0),
+    }
+}
+
+/// A query that was walked, unless it breaks a rule: then the least, at its place.
+pub fn judge_query(alloc: Global, query: Query, place: &Way<'_>) -> Result<Query, Bad>
+    ensures { Gives (λ q. q) result (permitted_at query (place_of place.now)) }
+{
+    match check(&query) {
+        Some(rule) => Err(Bad::at(alloc, Rule::Q(rule.number, rule.count), place)),
+        None => Ok(query),
+    }
+}
