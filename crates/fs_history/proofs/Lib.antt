@@ -1,0 +1,4 @@
+pub mod HistoryLaws
+pub mod NamesListed
+pub mod Sums
+pub mod VersionLaws

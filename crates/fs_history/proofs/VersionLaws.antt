@@ -1,0 +1,109 @@
+-- What the versions and the chains of a history show.
+use Rattle.std.proofs.Common.{◌≡◌, ℤ, ◌≤ℤ◌, Bool, true, false, cond, List, [], ◌∷◌, Option, Some, None, reverse, refl, sym, ap, ◌∙◌, arith}
+use Rattle.std.specs.Prelude.{int_le, is_none}
+use Rattle.std.specs.FinMap.{get, get-empty, same_map}
+use Rattle.std.proofs.lemmas.Int.{ints}
+use Rattle.std.proofs.lemmas.List.{reverse-reverse}
+use Rattle.fs_path.specs.NameOrder.{name_cmp, name_cmp_total, name_same}
+use Rattle.fs_path.specs.declared.name.DocName.{DocName}
+use Rattle.fs_value.specs.declared.document.Document.{Document}
+use Rattle.fs_write.specs.After.{after_batch}
+use Rattle.fs_write.specs.Batch.{Docs, is_unchanged}
+use Rattle.fs_write.specs.declared.write.Write.{Write}
+use Rattle.fs_history.specs.History.{at, whole, IsRising}
+use Rattle.fs_history.specs.Versions.{with_change, versions, newest, shown, base, kept, chain}
+use Rattle.fs_history.specs.declared.batch.Batch.{Batch}
+use Rattle.fs_history.specs.declared.version.Version.{Version}
+use Rattle.fs_history.proofs.HistoryLaws.{ends_by, at_whole}
+
+-- ---- what is kept from a floor shows the same from there on
+
+le_through : (a f t : ℤ) → int_le a f ≡ true → f ≤ℤ t → int_le a t ≡ true
+le_through a f t h within = grind (arith, ints)
+
+shown_base : (t : ℤ) (v : Version) (o : Option Document) → v.after ≡ o → int_le v.time t ≡ true → shown t (cond (is_none o) [] (v ∷ [])) ≡ o
+shown_base t v None is within = refl
+shown_base t v (Some d) is within = ap (λ c. cond c v.after None) within ∙ is
+
+shown_next : (f t : ℤ) (v : Version) (vs : List Version) (b : Bool) → int_le v.time f ≡ b → f ≤ℤ t → shown t (kept f vs) ≡ shown t vs
+    → shown t (cond b (base v) (v ∷ kept f vs)) ≡ shown t (v ∷ vs)
+shown_next f t v vs true is within more =
+    let here = le_through v.time f t is within in
+    shown_base t v v.after refl here ∙ sym (ap (λ c. cond c v.after (shown t vs)) here)
+shown_next f t v vs false is within more = ap (cond (int_le v.time t) v.after) more
+
+pub shown_kept : (f t : ℤ) (vs : List Version) → f ≤ℤ t → shown t (kept f vs) ≡ shown t vs
+shown_kept f t [] within = refl
+shown_kept f t (v ∷ vs) within = shown_next f t v vs (int_le v.time f) refl within (shown_kept f t vs within)
+
+newest_base : (v : Version) (o : Option Document) → v.after ≡ o → newest (cond (is_none o) [] (v ∷ [])) ≡ o
+newest_base v None is = refl
+newest_base v (Some d) is = is
+
+newest_next : (f : ℤ) (v : Version) (vs : List Version) (b : Bool) → newest (cond b (base v) (v ∷ kept f vs)) ≡ v.after
+newest_next f v vs true = newest_base v v.after refl
+newest_next f v vs false = refl
+
+newest_kept : (f : ℤ) (vs : List Version) → newest (kept f vs) ≡ newest vs
+newest_kept f [] = refl
+newest_kept f (v ∷ vs) = newest_next f v vs (int_le v.time f)
+
+-- ---- what the versions show
+
+module _ (unchanged : (docs : Docs) (ws : List Write) (t : ℤ) (name : DocName) → is_unchanged (get docs name) (get (after_batch docs ws t) name) ≡ true → get (after_batch docs ws t) name ≡ get docs name) where
+  -- a batch that is at or before the time
+  shown_with : (b : Batch) (h : List Batch) (t : ℤ) (name : DocName) (same : Bool) → is_unchanged (get (whole h) name) (get (whole (b ∷ h)) name) ≡ same
+      → int_le b.time t ≡ true → get (whole h) name ≡ shown t (versions h name)
+      → get (whole (b ∷ h)) name ≡ shown t (with_change b.time (cond same None (Some (record { name = name; before = get (whole h) name; after = get (whole (b ∷ h)) name }))) (versions h name))
+  shown_with b h t name true is within there = unchanged (whole h) b.writes b.time name is ∙ there
+  shown_with b h t name false is within there = sym (ap (λ c. cond c (get (whole (b ∷ h)) name) (shown t (versions h name))) within)
+
+  -- one that is behind it
+  shown_without : (b : Batch) (h : List Batch) (t : ℤ) (name : DocName) (same : Bool) → int_le b.time t ≡ false
+      → shown t (versions h name)
+      ≡ shown t (with_change b.time (cond same None (Some (record { name = name; before = get (whole h) name; after = get (whole (b ∷ h)) name }))) (versions h name))
+  shown_without b h t name true behind = refl
+  shown_without b h t name false behind = sym (ap (λ c. cond c (get (whole (b ∷ h)) name) (shown t (versions h name))) behind)
+
+  shown_at : (b : Batch) (h : List Batch) (t : ℤ) (name : DocName) (c : Bool) → int_le b.time t ≡ c → IsRising (b ∷ h) → get (at h t) name ≡ shown t (versions h name)
+      → get (at (b ∷ h) t) name ≡ shown t (versions (b ∷ h) name)
+  shown_at b h t name true is rise there =
+      let within : b.time ≤ℤ t = grind (arith, ints) in
+      ap (λ docs. get docs name) (at_whole (b ∷ h) t rise within)
+      ∙ shown_with b h t name (is_unchanged (get (whole h) name) (get (whole (b ∷ h)) name)) refl is
+      (sym (ap (λ docs. get docs name) (at_whole h t rise.1 (ends_by h b.time t rise.0 within))) ∙ there)
+  shown_at b h t name false is rise there =
+      ap (λ c. get (cond c (after_batch (at h t) b.writes b.time) (at h t)) name) is
+      ∙ there
+      ∙ shown_without b h t name (is_unchanged (get (whole h) name) (get (whole (b ∷ h)) name)) is
+
+  pub versions_show : (h : List Batch) (t : ℤ) (name : DocName) → IsRising h → get (at h t) name ≡ shown t (versions h name)
+  versions_show [] t name rise = get-empty name_cmp name
+  versions_show (b ∷ h) t name rise = shown_at b h t name (int_le b.time t) refl rise (versions_show h t name rise.1)
+
+  pub chain_shows : (h : List Batch) (floor t : ℤ) (name : DocName) → IsRising h → floor ≤ℤ t → get (at h t) name ≡ shown t (reverse (chain h floor name))
+  chain_shows h floor t name rise within =
+      versions_show h t name rise
+      ∙ sym (shown_kept floor t (versions h name) within)
+      ∙ ap (shown t) (sym (reverse-reverse (kept floor (versions h name))))
+
+  newest_with : (b : Batch) (h : List Batch) (name : DocName) (same : Bool) → is_unchanged (get (whole h) name) (get (whole (b ∷ h)) name) ≡ same
+      → get (whole h) name ≡ newest (versions h name)
+      → get (whole (b ∷ h)) name ≡ newest (with_change b.time (cond same None (Some (record { name = name; before = get (whole h) name; after = get (whole (b ∷ h)) name }))) (versions h name))
+  newest_with b h name true is there = unchanged (whole h) b.writes b.time name is ∙ there
+  newest_with b h name false is there = refl
+
+  newest_version : (h : List Batch) (name : DocName) → get (whole h) name ≡ newest (versions h name)
+  newest_version [] name = get-empty name_cmp name
+  newest_version (b ∷ h) name = newest_with b h name (is_unchanged (get (whole h) name) (get (whole (b ∷ h)) name)) refl (newest_version h name)
+
+  pub chain_ends : (h : List Batch) (floor : ℤ) (name : DocName) → get (whole h) name ≡ newest (reverse (chain h floor name))
+  chain_ends h floor name =
+      newest_version h name
+      ∙ sym (newest_kept floor (versions h name))
+      ∙ ap newest (sym (reverse-reverse (kept floor (versions h name))))
+
+  pub chains_tell : (h k : List Batch) (floor t : ℤ) → IsRising h → IsRising k → floor ≤ℤ t → ((name : DocName) → chain h floor name ≡ chain k floor name) → at h t ≡ at k t
+  chains_tell h k floor t rise rise_k within same =
+      same_map name_cmp_total name_same (at h t) (at k t)
+      (λ q. chain_shows h floor t q rise within ∙ ap (λ vs. shown t (reverse vs)) (same q) ∙ sym (chain_shows k floor t q rise_k within))

@@ -1,0 +1,5 @@
+//! Tests of what fs_history gives, by its public calls.
+#![tactic(auto)]
+
+#[cfg(test)]
+mod tests;

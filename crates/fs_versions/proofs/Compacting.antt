@@ -1,0 +1,140 @@
+-- What versions are, and what they show, from a later floor on.
+use Rattle.std.proofs.Common.{◌≡◌, ℕ, zero, suc, ◌-◌, ◌<◌, ℤ, ◌≤ℤ◌, Bool, true, false, cond, List, [], ◌∷◌, length, Option, Some, None, reverse, get_or, refl, sym, ap, ◌∙◌, subst, arith}
+use Rattle.std.specs.Prelude.{IsTrue, int_le, unwrap_or, is_some, is_none}
+use Rattle.std.specs.BTreeMap.{is_at}
+use Rattle.std.specs.Cmp.{Equal-is, first_so, second_so}
+use Rattle.std.specs.FinMap.{find, is_sorted}
+use Rattle.std.specs.FinMap.Entries.{below_all}
+use Rattle.std.specs.List.{All}
+use Rattle.std.specs.Map.Calls.{RetainsPairs}
+use Rattle.std.proofs.lemmas.Int.{ints}
+use Rattle.std.proofs.lemmas.List.{reverse-reverse, get_or-reverse, length-reverse}
+use Rattle.fs_path.specs.NameOrder.{name_cmp, name_same}
+use Rattle.fs_path.specs.declared.name.DocName.{DocName}
+use Rattle.fs_history.specs.Versions.{versions, base, kept, chain}
+use Rattle.fs_history.specs.declared.batch.Batch.{Batch}
+use Rattle.fs_history.specs.declared.version.Version.{Version}
+use Rattle.fs_versions.specs.Chain.{shown_at, last_document, cut}
+use Rattle.fs_versions.specs.Chains.{Chains, chain_of, Compacts}
+use Rattle.fs_versions.specs.Shows.{EndsAt, Shows}
+use Rattle.fs_versions.specs.Sound.{Tree, found, held, IsSound}
+use Rattle.fs_versions.proofs.ChainLaws.{kept_kept, shown_cut, last_cut}
+use Rattle.fs_versions.proofs.TreeLaws.{none_below}
+
+-- ---- a name's chain afterwards
+
+-- what stands at a name, from a floor on
+pub cut_held : ℤ → Option (List Version) → Option (List Version)
+cut_held f None = None
+cut_held f (Some vs) = held (cut f vs)
+
+found-find : (es : Tree) (q : DocName) → found q es ≡ find name_cmp q es
+found-find [] q = refl
+found-find (e ∷ es) q = ap (cond (is_at (name_cmp q) e.0) (Some e.1)) (found-find es q)
+
+gone : (e : DocName × List Version) (es : Tree) (q : DocName) → is_at (name_cmp q) e.0 ≡ true → IsTrue (below_all name_cmp e.0 es) → found q es ≡ None
+gone e es q ties below =
+    found-find es q ∙ ap (λ n. find name_cmp n es) (name_same q e.0 ((Equal-is _).0 ties)) ∙ none_below e.0 es below
+
+held_by : (vs : List Version) → is_some (held vs) ≡ true → held vs ≡ Some vs
+held_by [] is = absurd (cc)
+held_by (v ∷ vs) is = refl
+
+held_none : (vs : List Version) → is_some (held vs) ≡ false → held vs ≡ None
+held_none [] is = refl
+held_none (v ∷ vs) is = absurd (cc)
+
+module _ (f : ℤ) (q : DocName) where
+  next_kept : (e : DocName × List Version) (es rest : Tree) (b c : Bool) (w : List Version) → b ≡ is_some (held w) → w ≡ cut f e.1 → is_at (name_cmp q) e.0 ≡ c → (c ≡ true → found q es ≡ None)
+      → found q rest ≡ cut_held f (found q es) → found q (cond b ((e.0, w) ∷ rest) rest) ≡ cut_held f (cond c (Some e.1) (found q es))
+  unfolding cut_held
+  next_kept e es rest true true w stays is ties none more =
+      ap (λ b. cond b (Some w) (found q rest)) ties ∙ sym (held_by w (sym stays)) ∙ ap held is
+  next_kept e es rest true false w stays is ties none more = ap (λ b. cond b (Some w) (found q rest)) ties ∙ more
+  next_kept e es rest false true w stays is ties none more = more ∙ ap (cut_held f) (none refl) ∙ sym (held_none w (sym stays)) ∙ ap held is
+  next_kept e es rest false false w stays is ties none more = more
+
+  module _ {F : Type 0} (T : F → DocName → List Version → Bool → List Version → F → Type 0) (g : F)
+      (says : (k : DocName) (v : List Version) (b : Bool) (w : List Version) (g' : F) → T g k v b w g' → (b ≡ is_some (held w)) × (w ≡ cut f v) × (g' ≡ g)) where
+    pub found_kept : (es kept : Tree) → RetainsPairs T g es kept → IsTrue (is_sorted name_cmp es) → found q kept ≡ cut_held f (found q es)
+    unfolding cut_held
+    found_kept [] kept r rise = ap (found q) r
+    found_kept (e ∷ es) kept r rise =
+        let said = says e.0 e.1 r.0 r.1 r.2 r.4 in
+        let more = found_kept es r.3 (subst (λ u. RetainsPairs T u es r.3) said.2 r.5) (second_so (below_all name_cmp e.0 es) _ rise) in
+        ap (found q) r.6
+        ∙ next_kept e es r.3 r.0 (is_at (name_cmp q) e.0) r.1 said.0 said.1 refl (λ ties. gone e es q ties (first_so _ (is_sorted name_cmp es) rise)) more
+
+held_chain : (vs : List Version) → unwrap_or (held vs) [] ≡ vs
+held_chain [] = refl
+held_chain (v ∷ vs) = refl
+
+pub chain_cut : (f : ℤ) (o : Option (List Version)) → unwrap_or (cut_held f o) [] ≡ cut f (unwrap_or o [])
+unfolding cut_held
+chain_cut f None = refl
+chain_cut f (Some vs) = held_chain (cut f vs)
+
+-- ---- the chains stay sound
+
+module _ (P : Version → Type 0) where
+  all_one : (v : Version) → P v → All P (v ∷ [])
+  all_one v p k d within = let first : k ≡ 0 = omega arith in subst (λ (n : ℕ). P (get_or (v ∷ []) n d)) (sym first) p
+
+  all_cons : (v : Version) (vs : List Version) → P v → All P vs → All P (v ∷ vs)
+  all_cons v vs p ps zero d within = p
+  all_cons v vs p ps (suc k) d within = ps k d (omega arith)
+
+  all_base : (v : Version) (b : Bool) → P v → All P (cond b [] (v ∷ []))
+  all_base v true p k d within = absurd (omega arith)
+  all_base v false p k d within = all_one v p k d within
+
+  all_next : (f : ℤ) (v : Version) (vs : List Version) (b : Bool) → P v → All P (kept f vs) → All P (cond b (base v) (v ∷ kept f vs))
+  all_next f v vs true p ps = all_base v (is_none v.after) p
+  all_next f v vs false p ps = all_cons v (kept f vs) p ps
+
+  all_kept : (f : ℤ) (vs : List Version) → All P vs → All P (kept f vs)
+  all_kept f [] ps = ps
+  all_kept f (v ∷ vs) ps = all_next f v vs (int_le v.time f) (ps 0 v (omega arith)) (all_kept f vs (λ k d within. ps (suc k) d (omega arith)))
+
+  all_reverse : (vs : List Version) → All P vs → All P (reverse vs)
+  all_reverse vs ps k d within =
+      let short : k < length vs = omega (arith, length-reverse vs, within) in
+      subst P (sym (get_or-reverse vs k d short)) (ps (length vs - 1 - k) d (omega arith))
+
+  all_cut : (f : ℤ) (vs : List Version) → All P vs → All P (cut f vs)
+  all_cut f vs ps = all_reverse (kept f (reverse vs)) (all_kept f (reverse vs) (all_reverse vs ps))
+
+held_full : (vs chain : List Version) → held vs ≡ Some chain → 0 < length chain
+held_full [] chain is = absurd (cc)
+held_full (v ∷ vs) chain is = let same : v ∷ vs ≡ chain = ap (λ o. unwrap_or o (v ∷ vs)) is in subst (λ us. 0 < length us) same (omega arith)
+
+cut_full : (f : ℤ) (o : Option (List Version)) (chain : List Version) → cut_held f o ≡ Some chain → 0 < length chain
+unfolding cut_held
+cut_full f None chain is = absurd (cc)
+cut_full f (Some vs) chain is = held_full (cut f vs) chain is
+
+pub sound_cut : (old new : Tree) (f last : ℤ) → IsSound old last → ((q : DocName) → found q new ≡ cut_held f (found q old)) → IsSound new last
+sound_cut old new f last sound same = record {
+  some = λ q chain is. cut_full f (found q old) chain (sym (same q) ∙ is);
+  ends = λ q. subst (All (λ v. v.time ≤ℤ last)) (sym (ap (λ o. unwrap_or o []) (same q) ∙ chain_cut f (found q old)))
+      (all_cut (λ v. v.time ≤ℤ last) f (unwrap_or (found q old) []) (sound.ends q));
+}
+
+-- ---- and show the same
+
+cut_chain : (h : List Batch) (f t : ℤ) (q : DocName) → f ≤ℤ t → cut t (chain h f q) ≡ chain h t q
+cut_chain h f t q within =
+    ap (λ vs. reverse (kept t vs)) (reverse-reverse (kept f (versions h q))) ∙ ap reverse (kept_kept f t (versions h q) within)
+
+module _ (old new : Chains) (floor : ℤ) (done : Compacts old new floor) (within : old.floor ≤ℤ floor) (h : List Batch) (shows : Shows h old) where
+  pub shows_cut : Shows h new
+  shows_cut = record {
+    rising = shows.rising;
+    last = subst (EndsAt h) (sym done.last) shows.last;
+    chains = λ q. done.chains q ∙ ap (cut floor) (shows.chains q) ∙ cut_chain h old.floor floor q within ∙ ap (λ f. chain h f q) (sym done.to);
+    documents = λ t q high.
+        let reached : floor ≤ℤ t = subst (λ f. f ≤ℤ t) done.to high in
+        let from : old.floor ≤ℤ t = omega (arith, ints) in
+        shows.documents t q from ∙ sym (shown_cut floor t (chain_of old q) reached) ∙ ap (shown_at t) (sym (done.chains q));
+    newest = λ q. shows.newest q ∙ sym (last_cut floor (chain_of old q)) ∙ ap last_document (sym (done.chains q));
+  }

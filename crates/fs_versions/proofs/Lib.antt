@@ -1,0 +1,7 @@
+pub mod ChainLaws
+pub mod Compacting
+pub mod Installing
+pub mod Listing
+pub mod Times
+pub mod TreeLaws
+pub mod Views

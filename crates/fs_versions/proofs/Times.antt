@@ -1,0 +1,56 @@
+-- Tests of times, and chains whose times rise.
+use Rattle.std.proofs.Common.{◌≡◌, ℕ, ◌+◌, ◌<◌, ◌≤◌, ℤ, ◌≤ℤ◌, ◌<ℤ◌, Bool, true, false, eqb, List, length, take, drop, get_or, refl, sym, ap, ◌∙◌, subst, arith}
+use Rattle.std.specs.Prelude.{int_le}
+use Rattle.std.specs.List.Sorted.{IsPartitionedBy, IsPartitionPoint}
+use Rattle.std.proofs.lemmas.Int.{ints}
+use Rattle.std.proofs.lemmas.Bool.Decides.{nat_tests}
+use Rattle.std.proofs.lemmas.List.{get_or-take, get_or-drop, length-take, length-drop}
+use Rattle.fs_history.specs.declared.version.Version.{Version}
+use Rattle.fs_versions.specs.Rising.{TimesRise}
+use Rattle.fs_versions.specs.Sound.{IsSplit}
+
+pub not_after : (a b : ℤ) → a ≤ℤ b → int_le a b ≡ true
+not_after a b h = grind (arith, ints)
+
+pub after : (a b : ℤ) → b <ℤ a → int_le a b ≡ false
+after a b h = grind (arith, ints)
+
+pub le_of_test : (a b : ℤ) → int_le a b ≡ true → a ≤ℤ b
+le_of_test a b h = grind (arith, ints)
+
+pub lt_of_test : (a b : ℤ) → int_le a b ≡ false → b <ℤ a
+lt_of_test a b h = grind (arith, ints)
+
+pub le_through : (a f t : ℤ) → int_le a f ≡ true → f ≤ℤ t → int_le a t ≡ true
+le_through a f t h within = grind (arith, ints)
+
+-- what is at or before a time stands in front
+same_or_before : (chain : List Version) (t : ℤ) (i j : ℕ) (d : Version) → (i < j → (get_or chain i d).time <ℤ (get_or chain j d).time) → i ≤ j
+    → int_le (get_or chain j d).time t ≡ true → int_le (get_or chain i d).time t ≡ true
+same_or_before chain t i j d rise low passes = by_cases (eqb i j) refl
+  where
+    by_cases : (b : Bool) → eqb i j ≡ b → int_le (get_or chain i d).time t ≡ true
+    by_cases true e = let same : i ≡ j = grind (arith, nat_tests) in ap (λ k. int_le (get_or chain k d).time t) same ∙ passes
+    by_cases false e = let below : i < j = grind (arith, nat_tests) in let first = rise below in grind (arith, ints)
+
+pub partitioned : (chain : List Version) (t : ℤ) → TimesRise chain → IsPartitionedBy (λ v. int_le v.time t) chain
+partitioned chain t rise i j d low within passes = same_or_before chain t i j d (λ below. rise i j d below within) low passes
+
+-- ---- parts of a chain
+
+pub rise_take : (n : ℕ) (chain : List Version) → TimesRise chain → n ≤ length chain → TimesRise (take n chain)
+rise_take n chain rise few i j d below within =
+    let short : j < n = omega (arith, length-take n chain, within) in
+    subst (λ (v : Version). v.time <ℤ (get_or (take n chain) j d).time) (sym (get_or-take n chain i d (omega arith)))
+    (subst (λ (w : Version). (get_or chain i d).time <ℤ w.time) (sym (get_or-take n chain j d short)) (rise i j d below (omega arith)))
+
+pub rise_drop : (n : ℕ) (chain : List Version) → TimesRise chain → TimesRise (drop n chain)
+rise_drop n chain rise i j d below within =
+    let short : n + j < length chain = omega (arith, length-drop n chain, within) in
+    subst (λ (v : Version). v.time <ℤ (get_or (drop n chain) j d).time) (sym (get_or-drop n chain i d))
+    (subst (λ (w : Version). (get_or chain (n + i) d).time <ℤ w.time) (sym (get_or-drop n chain j d)) (rise (n + i) (n + j) d (omega arith) short))
+
+-- ---- how many are at or before a time
+
+pub split_of : (chain slice : List Version) (t : ℤ) (n : ℕ) → slice ≡ chain → n ≤ length slice → IsPartitionPoint (λ v. int_le v.time t ≡ true) (λ v. int_le v.time t ≡ false) slice n → IsSplit chain t n
+split_of chain slice t n same within parts = subst (λ vs. IsSplit vs t n) same (record { within = within; first = parts.0; others = parts.1 })

@@ -1,0 +1,6 @@
+pub mod Chain
+pub mod Chains
+pub mod Listed
+pub mod Rising
+pub mod Shows
+pub mod Sound

@@ -1,0 +1,10 @@
+//! The versions of the documents of a Cloud Firestore database, for reads at a time.
+#![tactic(auto)]
+
+mod chain;
+mod install;
+mod versions;
+
+pub use chain::Chain;
+pub use fs_history::Version;
+pub use versions::Versions;
