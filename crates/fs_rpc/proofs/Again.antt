@@ -1,0 +1,231 @@
+-- What is written of a message is read as the same message.
+use Rattle.std.proofs.Common.{◌≡◌, ℕ, ℤ, ◌+◌, true, false, List, [], ◌∷◌, map, filter_map, is_some, Option, Some, None, Result, Ok, IfSome, codes, refl, ap, ◌∙◌}
+use Rattle.std.proofs.lemmas.Cmp.{int_eq_equiv}
+use Rattle.std.specs.List.{AllByRecursion, list_all}
+use Rattle.std.specs.Ordering.{int_eq}
+use Rattle.serde_json.specs.Data.{Data, Items, item, member, array, object}
+use Rattle.serde_json.specs.Find.{as_array}
+use Rattle.serde_json.specs.View.{items_of}
+use Rattle.fs_path.specs.Document.{document_of, document_text, IsDocumentOf}
+use Rattle.fs_path.specs.DocumentLaws.{document_only}
+use Rattle.fs_path.specs.Place.{item_place, member_place}
+use Rattle.fs_path.specs.declared.name.DocName.{DocName}
+use Rattle.fs_path.specs.declared.name.Root.{Root}
+use Rattle.fs_status.specs.declared.code.Code.{Code}
+use Rattle.fs_status.specs.declared.code.Code.TheVariants.{InvalidArgument, FailedPrecondition, NotFound, AlreadyExists, Aborted, ResourceExhausted, Unimplemented, OutOfMemory}
+use Rattle.fs_path.specs.declared.place.Rule.TheVariants.{G}
+use Rattle.fs_json.specs.Answer.{or_fault, ◌>>=◌}
+use Rattle.fs_json.specs.Members.{is_given}
+use Rattle.fs_json.specs.declared.bad.Bad.{Bad}
+use Rattle.fs_valjson.specs.Document.{document_at, document_json}
+use Rattle.fs_valjson.specs.Reading.{list_at}
+use Rattle.fs_valjson.specs.Valid.{IsTimeHeld, IsValid}
+use Rattle.fs_valjson.specs.Writing.{list_json}
+use Rattle.fs_value.specs.Data as value
+use Rattle.fs_value.specs.declared.document.Document.{Document}
+use Rattle.fs_write.specs.declared.write_result.WriteResult.{WriteResult}
+use Rattle.fs_writejson.specs.Results.{result_json, IsResultHeld}
+use Rattle.fs_json.specs.Walk.{each_at}
+use Rattle.fs_rpc.specs.MessageJson.{batch_answer_json, commit_json, error_json, error_members, message_json, query_answer_json, query_answers_json, read_at, result_members}
+use Rattle.fs_rpc.specs.MessageSteps.{IsAnswerHeld, IsMessageHeld}
+use Rattle.fs_rpc.specs.ReadMessage.{answers_commit, answers_names, commit_result_at, error_at, message_at, query_result_at, result_at}
+use Rattle.fs_rpc.specs.ReadResults.{answered, batch_answer_at, query_answer_at, write_result_at}
+use Rattle.fs_rpc.specs.ValidMessage.{HasNames, IsAnswerOf, IsMessageOf}
+use Rattle.fs_rpc.specs.declared.message.BatchAnswer.{BatchAnswer}
+use Rattle.fs_rpc.specs.declared.message.BatchAnswer.TheVariants.{Found, Missing}
+use Rattle.fs_rpc.specs.declared.message.Message.{Message}
+use Rattle.fs_rpc.specs.declared.message.Message.TheVariants.{Commit, GetDocument, BatchGetDocuments, RunQuery, Error}
+
+-- documents are read back, as fs_valjson says
+abbrev pub DocumentsAgain : Type 0
+DocumentsAgain = (root : Root) (d : Document) (place : List ℕ) → IsValid root d → document_at root (document_json d) place ≡ Ok d
+
+-- ---- results of writes
+
+one_result : (updated : Option ℤ) (ds : List value.Data) (place : List ℕ) → IfSome updated IsTimeHeld
+    → ((p : List ℕ) → list_at (list_json ds) p ≡ Ok ds) → write_result_at (result_json (record { updated = updated; transforms = ds })) place ≡ Ok (record { updated = updated; transforms = ds })
+unfolding write_result_at result_json
+one_result None [] place t h = refl
+one_result (Some time) [] place t h = rw (t (member_place place (codes "updateTime"))) refl
+one_result None (d ∷ ds) place t h = rw (h (member_place place (codes "transformResults"))) refl
+one_result (Some time) (d ∷ ds) place t h = rw (t (member_place place (codes "updateTime")), h (member_place place (codes "transformResults"))) refl
+
+results_again : (rs : List WriteResult) (i : ℕ) (place : List ℕ) → AllByRecursion IsResultHeld rs → AllByRecursion HasNames rs
+    → each_at write_result_at (items_of (map result_json rs)) i place ≡ Ok rs
+results_again [] i place held names = refl
+results_again (r ∷ rs) i place held names =
+    rw (one_result r.updated r.transforms (item_place place i) held.0.updated (λ p. held.0.transforms p names.0), results_again rs (i + 1) place held.1 names.1) refl
+
+commit_again : (id : Option (List ℕ)) (time : ℤ) (rs : List WriteResult) (place : List ℕ) → IsTimeHeld time
+    → each_at write_result_at (items_of (map result_json rs)) 0 (member_place place (codes "writeResults")) ≡ Ok rs → commit_result_at id (commit_json time rs) place ≡ Ok (Commit id time rs)
+unfolding commit_result_at
+commit_again id time [] place t h = rw (t (member_place place (codes "commitTime"))) refl
+commit_again id time (r ∷ rs) place t h = rw (t (member_place place (codes "commitTime")), h) refl
+
+-- ---- documents
+
+name_again : (root : Root) (name : DocName) → IsDocumentOf root name → document_of root (document_text name) ≡ Ok name
+name_again root name is = document_only root (document_text name) name is refl
+
+document_given : (key : List ℕ) (d : Document) → is_given key (document_json d) ≡ true
+unfolding document_json
+document_given key d = refl
+
+found_again : (root : Root) (content : Data) (document : Document) (time : ℤ) (place : List ℕ) → is_given (codes "found") content ≡ true
+    → document_at root content (member_place place (codes "found")) ≡ Ok document → IsTimeHeld time
+    → batch_answer_at root (object (member (codes "found") content (read_at time))) place ≡ Ok (Found document time)
+unfolding batch_answer_at
+found_again root content document time place given h t = rw (given, h, t (member_place place (codes "readTime"))) refl
+
+missing_again : (root : Root) (name : DocName) (time : ℤ) (place : List ℕ) → document_of root (document_text name) ≡ Ok name → IsTimeHeld time
+    → batch_answer_at root (batch_answer_json (Missing name time)) place ≡ Ok (Missing name time)
+unfolding batch_answer_at
+missing_again root name time place h t = rw (h, t (member_place place (codes "readTime"))) refl
+
+answer_again : DocumentsAgain → (root : Root) (a : BatchAnswer) (place : List ℕ) → IsAnswerHeld a → IsAnswerOf root a → batch_answer_at root (batch_answer_json a) place ≡ Ok a
+answer_again again root (Found document time) place t valid =
+    found_again root (document_json document) document time place (document_given (codes "found") document) (again root document (member_place place (codes "found")) valid) t
+answer_again again root (Missing name time) place t valid = missing_again root name time place (name_again root name valid) t
+
+answers_again : DocumentsAgain → (root : Root) (xs : List BatchAnswer) (i : ℕ) (place : List ℕ) → AllByRecursion IsAnswerHeld xs → AllByRecursion (IsAnswerOf root) xs
+    → each_at (batch_answer_at root) (items_of (map batch_answer_json xs)) i place ≡ Ok xs
+answers_again again root [] i place held valid = refl
+answers_again again root (a ∷ xs) i place held valid = rw (answer_again again root a (item_place place i) held.0 valid.0, answers_again again root xs (i + 1) place held.1 valid.1) refl
+
+-- an item of a query's answer
+abbrev pub told : ℤ → Document → Option Document × ℤ
+told time d = (Some d, time)
+
+one_item : (root : Root) (content : Data) (d : Document) (time : ℤ) (place : List ℕ) → is_given (codes "document") content ≡ true
+    → document_at root content (member_place place (codes "document")) ≡ Ok d → IsTimeHeld time
+    → query_answer_at root (object (member (codes "document") content (read_at time))) place ≡ Ok (told time d)
+unfolding query_answer_at
+one_item root content d time place given h t = rw (given, h, t (member_place place (codes "readTime"))) refl
+
+item_again : DocumentsAgain → (root : Root) (time : ℤ) (d : Document) (place : List ℕ) → IsTimeHeld time → IsValid root d
+    → query_answer_at root (query_answer_json time d) place ≡ Ok (told time d)
+item_again again root time d place t valid =
+    one_item root (document_json d) d time place (document_given (codes "document") d) (again root d (member_place place (codes "document")) valid) t
+
+items_again : DocumentsAgain → (root : Root) (time : ℤ) (ds : List Document) (i : ℕ) (place : List ℕ) → IsTimeHeld time → AllByRecursion (IsValid root) ds
+    → each_at (query_answer_at root) (items_of (map (query_answer_json time) ds)) i place ≡ Ok (map (told time) ds)
+items_again again root time [] i place t valid = refl
+items_again again root time (d ∷ ds) i place t valid = rw (item_again again root time d (item_place place i) t valid.0, items_again again root time ds (i + 1) place t valid.1) refl
+
+same_time : (time : ℤ) → int_eq time time ≡ true
+same_time time = int_eq_equiv.refl time
+
+all_of : (time : ℤ) (ds : List Document) → list_all (λ a. int_eq a.1 time) (map (told time) ds) ≡ true
+all_of time [] = refl
+all_of time (d ∷ ds) = rw (same_time time, all_of time ds) refl
+
+all_there : (time : ℤ) (ds : List Document) → list_all (λ a. is_some a.0) (map (told time) ds) ≡ true
+all_there time [] = refl
+all_there time (d ∷ ds) = all_there time ds
+
+all_kept : (time : ℤ) (ds : List Document) → filter_map (λ a. a.0) (map (told time) ds) ≡ ds
+all_kept time [] = refl
+all_kept time (d ∷ ds) = ap (λ xs. d ∷ xs) (all_kept time ds)
+
+-- the items of documents at one time are one answer
+answered_again : (time : ℤ) (d : Document) (ds : List Document) → answered (map (told time) (d ∷ ds)) ≡ Some (d ∷ ds, time)
+answered_again time d ds = rw (same_time time, all_of time ds, all_there time ds, all_kept time ds) refl
+
+-- and so is one without a document
+none_again : (time : ℤ) → answered ((None, time) ∷ []) ≡ Some ([], time)
+none_again time = rw (same_time time) refl
+
+none_told : (root : Root) (time : ℤ) (place : List ℕ) → IsTimeHeld time → each_at (query_answer_at root) (query_answers_json [] time) 0 place ≡ Ok ((None, time) ∷ [])
+unfolding query_answer_at
+none_told root time place t = rw (t (member_place (item_place place 0) (codes "readTime"))) refl
+
+-- what is made of items that are read
+abbrev one_answer : Option (List ℕ) → List ℕ → Option (List Document × ℤ) → Result Message Bad
+one_answer id place o = or_fault G place o >>= λ one. Ok (RunQuery id one.0 one.1)
+
+query_again : DocumentsAgain → (root : Root) (id : Option (List ℕ)) (ds : List Document) (time : ℤ) (place : List ℕ) → IsTimeHeld time → AllByRecursion (IsValid root) ds
+    → query_result_at root id (query_answers_json ds time) place ≡ Ok (RunQuery id ds time)
+query_again again root id [] time place t valid =
+    ap (λ r. r >>= λ items. one_answer id place (answered items)) (none_told root time place t) ∙ ap (one_answer id place) (none_again time)
+query_again again root id (d ∷ ds) time place t valid =
+    ap (λ r. r >>= λ items. one_answer id place (answered items)) (items_again again root time (d ∷ ds) 0 place t valid) ∙ ap (one_answer id place) (answered_again time d ds)
+
+-- ---- results by their shape
+
+no_list : (d : Document) → as_array (document_json d) ≡ None
+unfolding document_json
+no_list d = refl
+
+no_commit_at : (name : DocName) (fields : List (List ℕ × value.Data)) (created updated : ℤ)
+    → answers_commit (document_json (record { name = name; fields = fields; created = created; updated = updated })) ≡ false
+unfolding document_json
+no_commit_at name [] created updated = refl
+no_commit_at name (f ∷ fs) created updated = refl
+
+no_commit : (d : Document) → answers_commit (document_json d) ≡ false
+no_commit d = no_commit_at d.name d.fields d.created d.updated
+
+document_result : DocumentsAgain → (root : Root) (id : Option (List ℕ)) (d : Document) (place : List ℕ) → IsValid root d → result_at root id (document_json d) place ≡ Ok (GetDocument id d)
+unfolding result_at
+document_result again root id d place valid = rw (no_list d, no_commit d, again root d place valid) refl
+
+commit_result : (root : Root) (id : Option (List ℕ)) (time : ℤ) (rs : List WriteResult) (place : List ℕ) → IsTimeHeld time → AllByRecursion IsResultHeld rs → AllByRecursion HasNames rs
+    → result_at root id (commit_json time rs) place ≡ Ok (Commit id time rs)
+unfolding result_at
+commit_result root id time rs place t held names = commit_again id time rs place t (results_again rs 0 (member_place place (codes "writeResults")) held names)
+
+-- what answers names is told by its first item
+tells_names : (a : BatchAnswer) (xs : Items) → answers_names (item (batch_answer_json a) xs) ≡ true
+unfolding document_json
+tells_names (Found document time) xs = refl
+tells_names (Missing name time) xs = refl
+
+names_result : DocumentsAgain → (root : Root) (id : Option (List ℕ)) (xs : List BatchAnswer) (place : List ℕ) → AllByRecursion IsAnswerHeld xs → AllByRecursion (IsAnswerOf root) xs
+    → result_at root id (array (items_of (map batch_answer_json xs))) place ≡ Ok (BatchGetDocuments id xs)
+unfolding result_at
+names_result again root id [] place held valid = refl
+names_result again root id (a ∷ xs) place held valid =
+    rw (tells_names a (items_of (map batch_answer_json xs))) (ap (λ r. r >>= λ answers. Ok (BatchGetDocuments id answers)) (answers_again again root (a ∷ xs) 0 place held valid))
+
+query_result : DocumentsAgain → (root : Root) (id : Option (List ℕ)) (ds : List Document) (time : ℤ) (place : List ℕ) → IsTimeHeld time → AllByRecursion (IsValid root) ds
+    → result_at root id (array (query_answers_json ds time)) place ≡ Ok (RunQuery id ds time)
+unfolding result_at
+query_result again root id [] time place t valid = query_again again root id [] time place t valid
+query_result again root id (d ∷ ds) time place t valid = query_again again root id (d ∷ ds) time place t valid
+
+-- ---- errors
+
+error_again : (id : Option (List ℕ)) (code : Code) (message : List ℕ) (place : List ℕ) → error_at id (error_json code message) place ≡ Ok (Error id code message)
+unfolding error_at
+error_again id InvalidArgument message place = refl
+error_again id FailedPrecondition message place = refl
+error_again id NotFound message place = refl
+error_again id AlreadyExists message place = refl
+error_again id Aborted message place = refl
+error_again id ResourceExhausted message place = refl
+error_again id Unimplemented message place = refl
+error_again id OutOfMemory message place = refl
+
+-- ---- messages
+
+result_read : (root : Root) (id : Option (List ℕ)) (d : Data) (m : Message) → is_given (codes "result") d ≡ true → result_at root id d (codes "result") ≡ Ok m
+    → message_at root (object (result_members id d)) ≡ Ok m
+unfolding message_at
+result_read root None d m given h = rw (given, h) refl
+result_read root (Some id) d m given h = rw (given, h) refl
+
+error_read : (root : Root) (id : Option (List ℕ)) (code : Code) (message : List ℕ) → message_at root (object (error_members id (error_json code message))) ≡ Ok (Error id code message)
+unfolding message_at
+error_read root None code message = error_again None code message (codes "error")
+error_read root (Some id) code message = error_again (Some id) code message (codes "error")
+
+pub message_again : DocumentsAgain → (root : Root) (m : Message) → IsMessageHeld m → IsMessageOf root m → message_at root (message_json m) ≡ Ok m
+message_again again root (Commit id time results) held valid =
+    result_read root id (commit_json time results) (Commit id time results) refl (commit_result root id time results (codes "result") held.0 held.1 valid)
+message_again again root (GetDocument id document) held valid =
+    result_read root id (document_json document) (GetDocument id document) (document_given (codes "result") document) (document_result again root id document (codes "result") valid)
+message_again again root (BatchGetDocuments id answers) held valid =
+    result_read root id (array (items_of (map batch_answer_json answers))) (BatchGetDocuments id answers) refl (names_result again root id answers (codes "result") held valid)
+message_again again root (RunQuery id documents time) held valid =
+    result_read root id (array (query_answers_json documents time)) (RunQuery id documents time) refl (query_result again root id documents time (codes "result") held valid)
+message_again again root (Error id code message) held valid = error_read root id code message

@@ -1,0 +1,83 @@
+-- What is written of a message has no float, so its text is told byte for byte.
+use Rattle.std.proofs.Common.{◌≡◌, ℕ, ℤ, false, List, [], ◌∷◌, map, Option, Some, None, codes, refl}
+use Rattle.serde_json.specs.Data.{Data, put, string}
+use Rattle.serde_json.specs.View.{items_of}
+use Rattle.serde_json.specs.Written.{has_float, items_have_float, members_have_float}
+use Rattle.fs_status.specs.declared.code.Code.{Code}
+use Rattle.fs_valjson.specs.Document.{document_json}
+use Rattle.fs_valjson.specs.FloatLaws.{document_float}
+use Rattle.fs_value.specs.declared.document.Document.{Document}
+use Rattle.fs_write.specs.declared.write_result.WriteResult.{WriteResult}
+use Rattle.fs_writejson.specs.FloatLaws.{result_float}
+use Rattle.fs_writejson.specs.Results.{result_json}
+use Rattle.fs_rpc.specs.MessageJson.{batch_answer_json, commit_json, error_json, error_members, message_json, message_json_on, query_answer_json, query_answers_json, result_members}
+use Rattle.fs_rpc.specs.declared.message.BatchAnswer.{BatchAnswer}
+use Rattle.fs_rpc.specs.declared.message.BatchAnswer.TheVariants.{Found, Missing}
+use Rattle.fs_rpc.specs.declared.message.Message.{Message}
+use Rattle.fs_rpc.specs.declared.message.Message.TheVariants.{Commit, GetDocument, BatchGetDocuments, RunQuery, Error}
+
+-- ---- the parts of a message
+
+no_float : (d : Document) → has_float (document_json d) ≡ false
+no_float d = document_float d.name d.fields d.created d.updated
+
+results_float : (rs : List WriteResult) → items_have_float (items_of (map result_json rs)) ≡ false
+results_float [] = refl
+results_float (r ∷ rs) = rw (result_float r, results_float rs) refl
+
+commit_float : (time : ℤ) (rs : List WriteResult) → has_float (commit_json time rs) ≡ false
+commit_float time [] = refl
+commit_float time (r ∷ rs) = rw (result_float r, results_float rs) refl
+
+answer_float : (a : BatchAnswer) → has_float (batch_answer_json a) ≡ false
+answer_float (Found document time) = rw (no_float document) refl
+answer_float (Missing name time) = refl
+
+answers_float : (xs : List BatchAnswer) → items_have_float (items_of (map batch_answer_json xs)) ≡ false
+answers_float [] = refl
+answers_float (a ∷ xs) = rw (answer_float a, answers_float xs) refl
+
+documents_float : (time : ℤ) (ds : List Document) → items_have_float (items_of (map (query_answer_json time) ds)) ≡ false
+documents_float time [] = refl
+documents_float time (d ∷ ds) = rw (no_float d, documents_float time ds) refl
+
+query_float : (time : ℤ) (ds : List Document) → items_have_float (query_answers_json ds time) ≡ false
+query_float time [] = refl
+query_float time (d ∷ ds) = rw (no_float d, documents_float time ds) refl
+
+pub error_float : (code : Code) (message : List ℕ) → has_float (error_json code message) ≡ false
+error_float code message = refl
+
+-- ---- messages
+
+with_result : (id : Option (List ℕ)) (d : Data) → has_float d ≡ false → members_have_float (result_members id d) ≡ false
+with_result None d h = rw h refl
+with_result (Some id) d h = rw h refl
+
+with_error : (id : Option (List ℕ)) (d : Data) → has_float d ≡ false → members_have_float (error_members id d) ≡ false
+with_error None d h = rw h refl
+with_error (Some id) d h = rw h refl
+
+pub message_float : (m : Message) → has_float (message_json m) ≡ false
+message_float (Commit id time results) = with_result id (commit_json time results) (commit_float time results)
+message_float (GetDocument id document) = with_result id (document_json document) (no_float document)
+message_float (BatchGetDocuments id answers) = with_result id _ (answers_float answers)
+message_float (RunQuery id documents time) = with_result id _ (query_float time documents)
+message_float (Error id code message) = with_error id (error_json code message) refl
+
+-- ---- the same on a session
+
+result_on : (session : List ℕ) (id : Option (List ℕ)) (d : Data) → has_float d ≡ false → members_have_float (put (codes "session") (string session) (result_members id d)) ≡ false
+result_on session None d h = rw h refl
+result_on session (Some id) d h = rw h refl
+
+error_on : (session : List ℕ) (id : Option (List ℕ)) (d : Data) → has_float d ≡ false → members_have_float (put (codes "session") (string session) (error_members id d)) ≡ false
+error_on session None d h = rw h refl
+error_on session (Some id) d h = rw h refl
+
+pub message_on_float : (session : List ℕ) (m : Message) → has_float (message_json_on session m) ≡ false
+message_on_float session (Commit id time results) = result_on session id (commit_json time results) (commit_float time results)
+message_on_float session (GetDocument id document) = result_on session id (document_json document) (no_float document)
+message_on_float session (BatchGetDocuments id answers) = result_on session id _ (answers_float answers)
+message_on_float session (RunQuery id documents time) = result_on session id _ (query_float time documents)
+message_on_float session (Error id code message) = error_on session id (error_json code message) refl

@@ -1,0 +1,9 @@
+pub mod Methods
+pub mod Id
+pub mod Requests
+pub mod Envelope
+pub mod MessageJson
+pub mod ReadResults
+pub mod ReadMessage
+pub mod ValidMessage
+pub mod MessageSteps

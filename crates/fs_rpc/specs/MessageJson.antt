@@ -1,0 +1,85 @@
+-- The JSON of messages. On a line of a transcript each has its session too, at its place in the order of names.
+-- (v1 reference: `CommitResponse`, "WriteResult", "Document", `BatchGetDocumentsResponse`, `RunQueryResponse`, and
+-- `google.rpc.Status` as REST prints it.)
+use Rattle.std.specs.Prelude.{ℕ, ℤ, List, [], ◌∷◌, Option, Some, None, map, codes}
+use Rattle.serde_json.specs.Data.{Data, unsigned, number, string, array, object, Items, no_items, item, Members, no_members, member, put}
+use Rattle.serde_json.specs.View.{items_of}
+use Rattle.fs_json.specs.Time.{time_json}
+use Rattle.fs_path.specs.Document.{document_text}
+use Rattle.fs_status.specs.Message.{message_text}
+use Rattle.fs_status.specs.Status.{http_of, status_text}
+use Rattle.fs_status.specs.declared.code.Code.{Code}
+use Rattle.fs_status.specs.declared.refusal.Refusal.{Refusal}
+use Rattle.fs_valjson.specs.Document.{document_json}
+use Rattle.fs_value.specs.declared.document.Document.{Document}
+use Rattle.fs_write.specs.declared.write_result.WriteResult.{WriteResult}
+use Rattle.fs_writejson.specs.Results.{result_json}
+use Rattle.fs_rpc.specs.declared.message.BatchAnswer.{BatchAnswer}
+use Rattle.fs_rpc.specs.declared.message.BatchAnswer.TheVariants.{Found, Missing}
+use Rattle.fs_rpc.specs.declared.message.Message.{Message}
+use Rattle.fs_rpc.specs.declared.message.Message.TheVariants.{Commit, GetDocument, BatchGetDocuments, RunQuery, Error}
+
+-- ---- errors
+
+-- `{"code":404,"message":"..","status":"NOT_FOUND"}`
+abbrev pub error_json : Code → List ℕ → Data
+error_json code message = object (member (codes "code") (number (unsigned (http_of code))) (member (codes "message") (string message) (member (codes "status") (string (status_text code)) no_members)))
+
+-- the message that tells a refusal
+abbrev pub refused : Option (List ℕ) → Refusal → Message
+refused id refusal = Error id refusal.code (message_text refusal.reason)
+
+-- ---- results
+
+-- an empty list of results is left out
+abbrev pub with_results : Items → Members
+with_results no_items = no_members
+with_results (item d ds) = member (codes "writeResults") (array (item d ds)) no_members
+
+-- `{"commitTime":"..","writeResults":[..]}`
+abbrev pub commit_json : ℤ → List WriteResult → Data
+commit_json time results = object (member (codes "commitTime") (time_json time) (with_results (items_of (map result_json results))))
+
+abbrev pub read_at : ℤ → Members
+read_at time = member (codes "readTime") (time_json time) no_members
+
+-- `{"found":{..},"readTime":".."}` or `{"missing":"..","readTime":".."}`
+abbrev pub batch_answer_json : BatchAnswer → Data
+batch_answer_json (Found document time) = object (member (codes "found") (document_json document) (read_at time))
+batch_answer_json (Missing name time) = object (member (codes "missing") (string (document_text name)) (read_at time))
+
+abbrev pub query_answer_json : ℤ → Document → Data
+query_answer_json time document = object (member (codes "document") (document_json document) (read_at time))
+
+-- one for each document; where there is none, one that has its time alone
+abbrev pub query_answers_json : List Document → ℤ → Items
+query_answers_json [] time = item (object (read_at time)) no_items
+query_answers_json (d ∷ ds) time = items_of (map (query_answer_json time) (d ∷ ds))
+
+-- ---- messages
+
+abbrev pub with_id : Option (List ℕ) → Members → Members
+with_id None ms = ms
+with_id (Some id) ms = member (codes "id") (string id) ms
+
+-- `{"id":"1","result":..}`
+abbrev pub result_members : Option (List ℕ) → Data → Members
+result_members id result = with_id id (member (codes "result") result no_members)
+
+-- `{"error":{..},"id":"1"}`
+abbrev pub error_members : Option (List ℕ) → Data → Members
+error_members id error = member (codes "error") error (with_id id no_members)
+
+abbrev pub message_members : Message → Members
+message_members (Commit id time results) = result_members id (commit_json time results)
+message_members (GetDocument id document) = result_members id (document_json document)
+message_members (BatchGetDocuments id answers) = result_members id (array (items_of (map batch_answer_json answers)))
+message_members (RunQuery id documents time) = result_members id (array (query_answers_json documents time))
+message_members (Error id code message) = error_members id (error_json code message)
+
+abbrev pub message_json : Message → Data
+message_json m = object (message_members m)
+
+-- the same on a session
+abbrev pub message_json_on : List ℕ → Message → Data
+message_json_on session m = object (put (codes "session") (string session) (message_members m))

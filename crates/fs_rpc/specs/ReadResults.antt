@@ -1,0 +1,123 @@
+-- What a request was answered: the results of writes, and documents that were asked for, as proto3 JSON.
+-- (v1 reference: "WriteResult", `BatchGetDocumentsResponse`, `RunQueryResponse`.)
+use Rattle.std.specs.Prelude.{ℕ, ℤ, Bool, ◌&&◌, ◌||◌, ◌==◌, List, [], ◌∷◌, Option, Some, None, Result, Ok, codes, filter_map, is_some, length, option_map, if◌then◌else◌}
+use Rattle.std.specs.List.{list_all}
+use Rattle.std.specs.Option.{option_map_or}
+use Rattle.std.specs.Ordering.{int_eq}
+use Rattle.std.specs.Str.{bytes_eq}
+use Rattle.serde_json.specs.Data as json
+use Rattle.fs_path.specs.Place.{member_place}
+use Rattle.fs_path.specs.declared.name.Root.{Root}
+use Rattle.fs_json.specs.Answer.{◌>>=◌}
+use Rattle.fs_json.specs.Members.{member_at, required_at, only_at, one_of_at}
+use Rattle.fs_json.specs.Paths.{document_name_at}
+use Rattle.fs_json.specs.Time.{time_at}
+use Rattle.fs_json.specs.declared.bad.Bad.{Bad}
+use Rattle.fs_valjson.specs.Document.{document_at}
+use Rattle.fs_valjson.specs.Reading.{list_at}
+use Rattle.fs_value.specs.Data.{Data}
+use Rattle.fs_value.specs.declared.document.Document.{Document}
+use Rattle.fs_write.specs.declared.write_result.WriteResult.{WriteResult}
+use Rattle.fs_json.specs.Walk.{all_at}
+use Rattle.fs_rpc.specs.declared.message.BatchAnswer.{BatchAnswer}
+use Rattle.fs_rpc.specs.declared.message.BatchAnswer.TheVariants.{Found, Missing}
+
+-- a time that has to be there
+abbrev pub required_time_at : List ℕ → json.Data → List ℕ → Result ℤ Bad
+required_time_at name d place = required_at name d place >>= λ x. time_at x (member_place place name)
+
+-- ---- results of writes
+
+-- when the document was last updated, which a delete hasn't
+abbrev pub updated_in : json.Data → List ℕ → Result (Option ℤ) Bad
+updated_in d place = member_at (codes "updateTime") d place >>= λ found.
+    option_map_or (λ x. time_at x (member_place place (codes "updateTime")) >>= λ time. Ok (Some time)) found (Ok None)
+
+-- an absent list has no values
+abbrev pub transforms_in : json.Data → List ℕ → Result (List Data) Bad
+transforms_in d place = member_at (codes "transformResults") d place >>= λ found.
+    option_map_or (λ x. list_at x (member_place place (codes "transformResults"))) found (Ok [])
+
+-- the members of a write's result
+abbrev pub write_result_members : List (List ℕ)
+write_result_members = codes "updateTime" ∷ codes "transformResults" ∷ []
+
+-- what a write is answered
+unfoldable pub write_result_at : json.Data → List ℕ → Result WriteResult Bad
+write_result_at d place = do
+  _ ← only_at write_result_members d place
+  updated ← updated_in d place
+  transforms ← transforms_in d place
+  Ok (record { updated = updated; transforms = transforms })
+
+-- an absent list has no results
+abbrev pub results_in : json.Data → List ℕ → Result (List WriteResult) Bad
+results_in d place = member_at (codes "writeResults") d place >>= λ found.
+    option_map_or (λ x. all_at write_result_at x (member_place place (codes "writeResults"))) found (Ok [])
+
+-- ---- names that were asked for
+
+-- the members of what is told of a name
+abbrev pub batch_answer_members : List (List ℕ)
+batch_answer_members = codes "found" ∷ codes "missing" ∷ codes "readTime" ∷ []
+
+-- those of which just one is there
+abbrev pub found_or_missing : List (List ℕ)
+found_or_missing = codes "found" ∷ codes "missing" ∷ []
+
+-- the document that stood there
+abbrev pub found_at : Root → json.Data → json.Data → List ℕ → Result BatchAnswer Bad
+found_at root content d place = do
+  document ← document_at root content (member_place place (codes "found"))
+  time ← required_time_at (codes "readTime") d place
+  Ok (Found document time)
+
+-- the name, where no document stood there
+abbrev pub missing_at : Root → json.Data → json.Data → List ℕ → Result BatchAnswer Bad
+missing_at root content d place = do
+  name ← document_name_at root content (member_place place (codes "missing"))
+  time ← required_time_at (codes "readTime") d place
+  Ok (Missing name time)
+
+-- what is told, by the name of its member
+abbrev pub told_at : Root → List ℕ → json.Data → json.Data → List ℕ → Result BatchAnswer Bad
+told_at root name content d place = if bytes_eq name (codes "found") then found_at root content d place else missing_at root content d place
+
+-- what is told of one name
+unfoldable pub batch_answer_at : Root → json.Data → List ℕ → Result BatchAnswer Bad
+batch_answer_at root d place = do
+  _ ← only_at batch_answer_members d place
+  one ← one_of_at found_or_missing d place
+  told_at root one.0 one.1 d place
+
+-- ---- answers of queries
+
+-- the members of one item
+abbrev pub query_answer_members : List (List ℕ)
+query_answer_members = codes "document" ∷ codes "readTime" ∷ []
+
+-- the document of an item, which may be absent
+abbrev pub document_in : Root → json.Data → List ℕ → Result (Option Document) Bad
+document_in root d place = member_at (codes "document") d place >>= λ found.
+    option_map_or (λ x. document_at root x (member_place place (codes "document")) >>= λ document. Ok (Some document)) found (Ok None)
+
+-- one item: its document and the time of the read
+unfoldable pub query_answer_at : Root → json.Data → List ℕ → Result (Option Document × ℤ) Bad
+query_answer_at root d place = do
+  _ ← only_at query_answer_members d place
+  document ← document_in root d place
+  time ← required_time_at (codes "readTime") d place
+  Ok (document, time)
+
+-- whether items are one answer: all are of this time, and one without a document stands alone
+abbrev pub is_one_answer : ℤ → List (Option Document × ℤ) → Bool
+is_one_answer time items = list_all (λ a. int_eq a.1 time) items && (list_all (λ a. is_some a.0) items || length items == 1)
+
+-- the time of items that are one answer
+abbrev pub time_of : List (Option Document × ℤ) → Option ℤ
+time_of [] = None
+time_of (a ∷ items) = if is_one_answer a.1 (a ∷ items) then Some a.1 else None
+
+-- its documents, and its time
+abbrev pub answered : List (Option Document × ℤ) → Option (List Document × ℤ)
+answered items = option_map (λ time. (filter_map (λ a. a.0) items, time)) (time_of items)

@@ -1,0 +1,102 @@
+//! Requests with what stands round them.
+ghost use Rattle.std.specs.Prelude.{◌≡◌, IfOk};
+ghost use Rattle.serde_json.specs.View.{view};
+ghost use Rattle.fs_json.specs.Answer.{Gives};
+ghost use Rattle.fs_rpc.specs.Envelope.{envelope_at, id_in, request_of, session_request_at};
+ghost use Rattle.fs_rpc.specs.Requests.{request_at};
+
+use crate::id::id_of;
+use crate::names::{ENVELOPE_HEAD, ID, METHODS, SESSION, SESSION_HEAD};
+use crate::read::read_method;
+use crate::request::{Envelope, Request};
+use fs_json::{Bad, member, one_of, only_of_two, text};
+use fs_path::{Root, Rule, Text, Way};
+use serde_json::Value;
+use std::alloc::{AllocError, Global};
+
+/// A request on a session, as a line of a script has it. A fault of the method's content is the request's, and is answered
+/// with the session and the id; so it stands in the request's place. It never is want of memory.
+#[derive(Drop, Debug)]
+pub struct SessionRequest {
+    pub session: Text,
+    pub id: Option<Text>,
+    pub request: Result<Request, Bad>,
+}
+
+/// Reads a request on a session: what stands round the request, and then the content of its method. Only a fault of the
+/// former, as an unknown member or two methods, is an error here.
+///
+/// `{"session":"s","id":"1","getDocument":{"name":"c"}}` is read, with a request that is refused at `getDocument.name`.
+#[tactic(auto, unfolding(crate::specs::Envelope::session_request_at))]
+pub fn read_session_request(alloc: Global, root: &Root, v: &Value) -> Result<SessionRequest, Bad>
+    ensures { Gives (λ r. r) result (session_request_at root.now (view v.now)) }
+{
+    let top = Way::method("");
+    only_of_two(alloc, v, &SESSION_HEAD, &METHODS, &top)?;
+    let Some(session) = member(alloc, v, SESSION, &top)? else {
+        return Err(Bad::at(alloc, Rule::G, &top));
+    };
+    let session = text(alloc, session, &Way::method(SESSION))?;
+    let id = id_of(alloc, v)?;
+    let (method, content) = one_of(alloc, v, &METHODS, &top)?;
+    let request = read_apart(alloc, root, method, content)?;
+    Ok(SessionRequest {
+        session,
+        id,
+        request,
+    })
+}
+
+// What a method asks for, or its fault, beside want of memory.
+fn read_apart(
+    alloc: Global,
+    root: &Root,
+    method: &str,
+    v: &Value,
+) -> Result<Result<Request, Bad>, AllocError>
+    ensures { IfOk result (λ r. r ≡ request_at root.now method.now (view v.now)) }
+{
+    match read_method(alloc, root, method, v) {
+        Err(Bad::Memory(e)) => Err(e),
+        read => Ok(read),
+    }
+}
+
+/// Reads a request with its id. (`formats`: a socket's message has no session.)
+#[tactic(auto, unfolding(crate::specs::Envelope::envelope_at))]
+pub fn read_envelope(alloc: Global, root: &Root, v: &Value) -> Result<Envelope, Bad>
+    ensures { Gives (λ e. e) result (envelope_at root.now (view v.now)) }
+{
+    let top = Way::method("");
+    only_of_two(alloc, v, &ENVELOPE_HEAD, &METHODS, &top)?;
+    let id = id_of(alloc, v)?;
+    let (method, content) = one_of(alloc, v, &METHODS, &top)?;
+    let request = read_method(alloc, root, method, content)?;
+    Ok(Envelope { id, request })
+}
+
+/// Reads a request's text. One that isn't the JSON of an object is at fault at the empty place.
+pub fn read_request(alloc: Global, root: &Root, line: &str) -> Result<Envelope, Bad>
+    ensures { Gives (λ e. e) result (request_of root.now line.now) }
+{
+    match Value::from_str(alloc, line) {
+        Ok(v) => read_envelope(alloc, root, &v),
+        Err(e) => {
+            if e.is_memory() {
+                Err(Bad::Memory(AllocError))
+            } else {
+                Err(Bad::at(alloc, Rule::G, &Way::method("")))
+            }
+        }
+    }
+}
+
+/// The id of an object that has one which is a text. So a request that isn't read is answered with its id all the same.
+pub fn read_id(alloc: Global, v: &Value) -> Result<Option<Text>, AllocError>
+    ensures { IfOk result (λ id. id ≡ id_in (view v.now)) }
+{
+    match v.get(ID) {
+        Some(Value::String(id)) => Ok(Some(Text::from_str(alloc, id.as_str())?)),
+        _ => Ok(None),
+    }
+}

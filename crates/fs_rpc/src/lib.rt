@@ -1,0 +1,20 @@
+//! Firestore's requests and messages: what they ask and answer, read from JSON with the place of each fault, and written.
+#![tactic(auto)]
+
+mod answers;
+mod distinct;
+mod envelope;
+mod id;
+mod message;
+mod message_read;
+mod message_write;
+mod names;
+mod read;
+mod request;
+mod results;
+
+pub use envelope::{SessionRequest, read_envelope, read_id, read_request, read_session_request};
+pub use message::{Answers, BatchAnswer, Message};
+pub use message_read::read_message;
+pub use message_write::{error_json, message_json, message_json_on, write_message};
+pub use request::{Envelope, Request};

@@ -1,0 +1,267 @@
+//! Reads messages.
+ghost use Rattle.std.specs.Prelude.{◌≡◌, ◌↔◌, Some, []};
+ghost use Rattle.serde_json.specs.Read.{read};
+ghost use Rattle.serde_json.specs.View.{items_view, view as json};
+ghost use Rattle.fs_path.specs.Way.{place_of};
+ghost use Rattle.fs_path.specs.declared.place.Rule.TheVariants.{G};
+ghost use Rattle.fs_json.specs.Answer.{Gives, or_fault};
+ghost use Rattle.fs_status.specs.Status.{status_text};
+ghost use Rattle.fs_status.specs.declared.code.Code.{Code};
+ghost use Rattle.fs_rpc.specs.ReadMessage.{answers_commit, answers_names, code_named, commit_result_at, documents_result_at, error_at, has, if_numbered, list_result_at, message_at, message_of, object_result_at, outcome_at, query_result_at, required_integer_at, required_text_at, result_at};
+
+use crate::answers::{answered, read_answers, read_query_answers};
+use crate::id::id_of;
+use crate::message::Message;
+use crate::names::{
+    CODE, COMMIT_RESULT_MEMBERS, COMMIT_TIME, ERROR_MEMBERS, FOUND, MESSAGE, MESSAGE_MEMBERS,
+    MISSING, OUTCOMES, RESULT, STATUS,
+};
+use crate::results::{read_results, required_time};
+use fs_json::{Bad, one_of, only, required, text};
+use fs_path::{Root, Rule, Text, Way};
+use fs_status::Code;
+use fs_valjson::read_document;
+use serde_json::Value;
+use std::alloc::{AllocError, Global};
+
+/// Reads a message of this root's documents from its JSON. It is told by its shape what was asked for: a list whose first
+/// item has `found` or `missing`, and an empty one, answers names; any other list a query; an object with `commitTime` a
+/// commit; and any other is a document.
+///
+/// A text that is no JSON object is refused at the empty place, and a query's items that have different times at `result`.
+pub fn read_message(alloc: Global, root: &Root, text: &str) -> Result<Message, Bad>
+    ensures { Gives (λ m. m) result (message_of root.now text.now) }
+{
+    let v = json_of(alloc, text)?;
+    read_members(alloc, root, &v)
+}
+
+fn json_of(alloc: Global, text: &str) -> Result<Value, Bad>
+    ensures { Gives json result (or_fault G [] (read text.now)) }
+{
+    match Value::from_str(alloc, text) {
+        Ok(v) => Ok(v),
+        Err(e) => if e.is_memory() {
+            Err(Bad::Memory(AllocError))
+        } else {
+            Err(Bad::at(alloc, Rule::G, &Way::method("")))
+        },
+    }
+}
+
+#[tactic(auto, unfolding(crate::specs::ReadMessage::message_at))]
+fn read_members(alloc: Global, root: &Root, v: &Value) -> Result<Message, Bad>
+    ensures { Gives (λ m. m) result (message_at root.now (json v.now)) }
+{
+    let here = Way::method("");
+    only(alloc, v, &MESSAGE_MEMBERS, &here)?;
+    let id = id_of(alloc, v)?;
+    let (name, content) = one_of(alloc, v, &OUTCOMES, &here)?;
+    read_outcome(alloc, root, id, name, content)
+}
+
+fn read_outcome(
+    alloc: Global,
+    root: &Root,
+    id: Option<Text>,
+    name: &str,
+    v: &Value,
+) -> Result<Message, Bad>
+    ensures { Gives (λ m. m) result (outcome_at root.now id name.now (json v.now)) }
+{
+    match name {
+        RESULT => read_result(alloc, root, id, v, &Way::method(name)),
+        _ => read_error(alloc, id, v, &Way::method(name)),
+    }
+}
+
+/// Reads an error, whose code has to be the number of its status in HTTP.
+#[tactic(auto, unfolding(crate::specs::ReadMessage::error_at))]
+fn read_error(alloc: Global, id: Option<Text>, v: &Value, place: &Way<'_>) -> Result<Message, Bad>
+    ensures { Gives (λ m. m) result (error_at id (json v.now) (place_of place.now)) }
+{
+    only(alloc, v, &ERROR_MEMBERS, place)?;
+    let number = required_integer(alloc, v, CODE, place)?;
+    let message = required_text(alloc, v, MESSAGE, place)?;
+    let status = required_text(alloc, v, STATUS, place)?;
+    let Some(named) = code_named(status.as_str()) else {
+        return Err(Bad::at(alloc, Rule::G, &place.member(STATUS)));
+    };
+    let Some(code) = if_numbered(number, named) else {
+        return Err(Bad::at(alloc, Rule::G, &place.member(CODE)));
+    };
+    Ok(Message::Error { id, code, message })
+}
+
+fn required_integer(alloc: Global, v: &Value, name: &str, place: &Way<'_>) -> Result<i64, Bad>
+    ensures { Gives (λ n. n) result (required_integer_at name.now (json v.now) (place_of place.now)) }
+{
+    match required(alloc, v, name, place)?.as_i64() {
+        Some(number) => Ok(number),
+        None => Err(Bad::at(alloc, Rule::G, &place.member(name))),
+    }
+}
+
+fn required_text(alloc: Global, v: &Value, name: &str, place: &Way<'_>) -> Result<Text, Bad>
+    ensures { Gives (λ t. t) result (required_text_at name.now (json v.now) (place_of place.now)) }
+{
+    let found = required(alloc, v, name, place)?;
+    text(alloc, found, &place.member(name))
+}
+
+/// The codes that refusals have.
+const CODES: [Code; 8] = [
+    Code::InvalidArgument,
+    Code::FailedPrecondition,
+    Code::NotFound,
+    Code::AlreadyExists,
+    Code::Aborted,
+    Code::ResourceExhausted,
+    Code::Unimplemented,
+    Code::OutOfMemory,
+];
+
+/// The code whose status this text is.
+fn code_named(status: &str) -> Option<Code>
+    ensures value { result ≡ code_named status.now }
+    ensures both_ways { (code : Code) → (result ≡ Some code) ↔ (status_text code ≡ status.now) }
+{
+    find_code(status)
+}
+
+fn find_code(status: &str) -> Option<Code>
+    ensures { result ≡ code_named status.now }
+{
+    CODES.iter().copied().find(|code| code.status() == status)
+}
+
+/// The code, if this is its number in HTTP.
+fn if_numbered(number: i64, code: Code) -> Option<Code>
+    ensures { result ≡ if_numbered number code }
+{
+    if number == i64::from(code.http()) {
+        Some(code)
+    } else {
+        None
+    }
+}
+
+#[tactic(auto, unfolding(crate::specs::ReadMessage::result_at))]
+fn read_result(
+    alloc: Global,
+    root: &Root,
+    id: Option<Text>,
+    v: &Value,
+    place: &Way<'_>,
+) -> Result<Message, Bad>
+    ensures { Gives (λ m. m) result (result_at root.now id (json v.now) (place_of place.now)) }
+{
+    match v.as_array() {
+        Some(items) => read_list(alloc, root, id, items.as_slice(), place),
+        None => read_object(alloc, root, id, v, place),
+    }
+}
+
+fn read_list(
+    alloc: Global,
+    root: &Root,
+    id: Option<Text>,
+    items: &[Value],
+    place: &Way<'_>,
+) -> Result<Message, Bad>
+    ensures { Gives (λ m. m) result (list_result_at root.now id (items_view items.now) (place_of place.now)) }
+{
+    if answers_names(items) {
+        read_documents(alloc, root, id, items, place)
+    } else {
+        read_query(alloc, root, id, items, place)
+    }
+}
+
+fn read_documents(
+    alloc: Global,
+    root: &Root,
+    id: Option<Text>,
+    items: &[Value],
+    place: &Way<'_>,
+) -> Result<Message, Bad>
+    ensures { Gives (λ m. m) result (documents_result_at root.now id (items_view items.now) (place_of place.now)) }
+{
+    let answers = read_answers(alloc, root, items, place)?;
+    Ok(Message::BatchGetDocuments { id, answers })
+}
+
+fn read_query(
+    alloc: Global,
+    root: &Root,
+    id: Option<Text>,
+    items: &[Value],
+    place: &Way<'_>,
+) -> Result<Message, Bad>
+    ensures { Gives (λ m. m) result (query_result_at root.now id (items_view items.now) (place_of place.now)) }
+{
+    let told = read_query_answers(alloc, root, items, place)?;
+    match answered(alloc, told)? {
+        Some((documents, time)) => Ok(Message::RunQuery {
+            id,
+            documents,
+            time,
+        }),
+        None => Err(Bad::at(alloc, Rule::G, place)),
+    }
+}
+
+fn read_object(
+    alloc: Global,
+    root: &Root,
+    id: Option<Text>,
+    v: &Value,
+    place: &Way<'_>,
+) -> Result<Message, Bad>
+    ensures { Gives (λ m. m) result (object_result_at root.now id (json v.now) (place_of place.now)) }
+{
+    if answers_commit(v) {
+        read_commit(alloc, id, v, place)
+    } else {
+        let document = read_document(alloc, root, v, place)?;
+        Ok(Message::GetDocument { id, document })
+    }
+}
+
+/// Reads what a commit is answered. (v1 reference, `CommitResponse`.)
+#[tactic(auto, unfolding(crate::specs::ReadMessage::commit_result_at))]
+fn read_commit(alloc: Global, id: Option<Text>, v: &Value, place: &Way<'_>) -> Result<Message, Bad>
+    ensures { Gives (λ m. m) result (commit_result_at id (json v.now) (place_of place.now)) }
+{
+    only(alloc, v, &COMMIT_RESULT_MEMBERS, place)?;
+    let time = required_time(alloc, v, COMMIT_TIME, place)?;
+    let results = read_results(alloc, v, place)?;
+    Ok(Message::Commit { id, time, results })
+}
+
+/// Whether a list answers names that were asked for, which is told by its first item.
+fn answers_names(items: &[Value]) -> bool
+    ensures { result ≡ answers_names (items_view items.now) }
+{
+    match items {
+        [] => true,
+        [first, ..] => has(first, FOUND) || has(first, MISSING),
+    }
+}
+
+/// Whether an object is what a commit is answered.
+fn answers_commit(v: &Value) -> bool
+    ensures { result ≡ answers_commit (json v.now) }
+{
+    has(v, COMMIT_TIME) || has(v, "commit_time")
+}
+
+/// Whether an object has this member, with a value that isn't null.
+fn has(v: &Value, key: &str) -> bool
+    ensures { result ≡ has key.now (json v.now) }
+{
+    match v.get(key) {
+        Some(found) => !found.is_null(),
+        None => false,
+    }
+}

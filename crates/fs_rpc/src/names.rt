@@ -1,0 +1,113 @@
+//! The names of methods and members.
+
+/// The method of each request, in the order of the walk. The first four are built.
+pub const METHODS: [&str; 17] = [
+    COMMIT,
+    GET_DOCUMENT,
+    BATCH_GET_DOCUMENTS,
+    RUN_QUERY,
+    "beginTransaction",
+    "rollback",
+    "listen",
+    "write",
+    "createIndex",
+    "createDocument",
+    "updateDocument",
+    "deleteDocument",
+    "partitionQuery",
+    "runAggregationQuery",
+    "listDocuments",
+    "listCollectionIds",
+    "batchWrite",
+];
+
+pub const COMMIT: &str = "commit";
+
+pub const GET_DOCUMENT: &str = "getDocument";
+
+pub const BATCH_GET_DOCUMENTS: &str = "batchGetDocuments";
+
+pub const RUN_QUERY: &str = "runQuery";
+
+/// The members of an envelope beside its method.
+pub const ENVELOPE_HEAD: [&str; 1] = [ID];
+
+/// Those of a line with a request on a session.
+pub const SESSION_HEAD: [&str; 2] = [SESSION, ID];
+
+pub const SESSION: &str = "session";
+
+pub const ID: &str = "id";
+
+pub const COMMIT_MEMBERS: [&str; 3] = [DATABASE, WRITES, TRANSACTION];
+
+pub const GET_MEMBERS: [&str; 4] = [NAME, MASK, TRANSACTION, READ_TIME];
+
+pub const BATCH_GET_MEMBERS: [&str; 5] = [DATABASE, DOCUMENTS, MASK, TRANSACTION, READ_TIME];
+
+pub const RUN_QUERY_MEMBERS: [&str; 4] = [PARENT, STRUCTURED_QUERY, TRANSACTION, READ_TIME];
+
+/// The member of a commit that isn't built.
+pub const UNBUILT_COMMIT_MEMBERS: [&str; 1] = [TRANSACTION];
+
+/// When a read is made, of which at most one way is given. Neither is built.
+pub const WHEN_MEMBERS: [&str; 2] = [TRANSACTION, READ_TIME];
+
+pub const DATABASE: &str = "database";
+
+pub const WRITES: &str = "writes";
+
+pub const NAME: &str = "name";
+
+pub const MASK: &str = "mask";
+
+pub const DOCUMENTS: &str = "documents";
+
+pub const PARENT: &str = "parent";
+
+pub const STRUCTURED_QUERY: &str = "structuredQuery";
+
+pub const TRANSACTION: &str = "transaction";
+
+pub const READ_TIME: &str = "readTime";
+
+/// The members of a message.
+pub const MESSAGE_MEMBERS: [&str; 3] = [ERROR, ID, RESULT];
+
+pub const OUTCOMES: [&str; 2] = [RESULT, ERROR];
+
+pub const ERROR: &str = "error";
+
+pub const RESULT: &str = "result";
+
+pub const ERROR_MEMBERS: [&str; 3] = [CODE, MESSAGE, STATUS];
+
+pub const CODE: &str = "code";
+
+pub const MESSAGE: &str = "message";
+
+pub const STATUS: &str = "status";
+
+pub const COMMIT_RESULT_MEMBERS: [&str; 2] = [COMMIT_TIME, WRITE_RESULTS];
+
+pub const COMMIT_TIME: &str = "commitTime";
+
+pub const WRITE_RESULTS: &str = "writeResults";
+
+pub const WRITE_RESULT_MEMBERS: [&str; 2] = [UPDATE_TIME, TRANSFORM_RESULTS];
+
+pub const UPDATE_TIME: &str = "updateTime";
+
+pub const TRANSFORM_RESULTS: &str = "transformResults";
+
+pub const BATCH_ANSWER_MEMBERS: [&str; 3] = [FOUND, MISSING, READ_TIME];
+
+pub const FOUND_OR_MISSING: [&str; 2] = [FOUND, MISSING];
+
+pub const FOUND: &str = "found";
+
+pub const MISSING: &str = "missing";
+
+pub const QUERY_ANSWER_MEMBERS: [&str; 2] = [DOCUMENT, READ_TIME];
+
+pub const DOCUMENT: &str = "document";

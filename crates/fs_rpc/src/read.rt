@@ -1,0 +1,158 @@
+//! Reading what stands under the method of a request.
+ghost use Rattle.std.specs.Prelude.{◌≡◌};
+ghost use Rattle.fs_path.specs.Way.{place_of};
+ghost use Rattle.serde_json.specs.View.{view};
+ghost use Rattle.fs_json.specs.Answer.{Gives};
+ghost use Rattle.fs_rpc.specs.Requests.{batch_get_at, commit_at, database_at, drafts_in, get_at, mask_in, parent_at, request_at, run_query_at, structured_at, when_at};
+
+use crate::distinct::read_names;
+use crate::names::{
+    BATCH_GET_DOCUMENTS, BATCH_GET_MEMBERS, COMMIT, COMMIT_MEMBERS, DATABASE, DOCUMENTS,
+    GET_DOCUMENT, GET_MEMBERS, MASK, NAME, PARENT, RUN_QUERY, RUN_QUERY_MEMBERS, STRUCTURED_QUERY,
+    UNBUILT_COMMIT_MEMBERS, WHEN_MEMBERS, WRITES,
+};
+use crate::request::Request;
+use fs_json::{
+    Bad, at_most_one_of, document_name, member, only, refuse_unbuilt, required, unless_refused,
+};
+use fs_path::{Ids, Paths, Root, Rule, Text, Way, check_database, parse_parent};
+use fs_query::Query;
+use fs_queryjson::{judge_query, walk_query};
+use fs_writejson::{Drafts, judge, read_drafts, read_mask};
+use serde_json::Value;
+use std::alloc::Global;
+
+/// What a method asks for by its content. One that isn't built is told by its name, whatever its content.
+pub fn read_method(alloc: Global, root: &Root, method: &str, v: &Value) -> Result<Request, Bad>
+    ensures { Gives (λ r. r) result (request_at root.now method.now (view v.now)) }
+{
+    let place = Way::method(method);
+    match method {
+        COMMIT => read_commit(alloc, root, v, &place),
+        GET_DOCUMENT => read_get(alloc, root, v, &place),
+        BATCH_GET_DOCUMENTS => read_batch_get(alloc, root, v, &place),
+        RUN_QUERY => read_run_query(alloc, root, v, &place),
+        _ => Err(Bad::Method(Text::from_str(alloc, method)?)),
+    }
+}
+
+/// Reads a `CommitRequest`.
+#[tactic(auto, unfolding(crate::specs::Requests::commit_at))]
+fn read_commit(alloc: Global, root: &Root, v: &Value, place: &Way<'_>) -> Result<Request, Bad>
+    ensures { Gives (λ r. r) result (commit_at root.now (view v.now) (place_of place.now)) }
+{
+    only(alloc, v, &COMMIT_MEMBERS, place)?;
+    read_database(alloc, root, v, place)?;
+    let drafts = read_drafts_of(alloc, root, v, place)?;
+    refuse_unbuilt(alloc, v, &UNBUILT_COMMIT_MEMBERS, place)?;
+    let writes = judge(alloc, drafts, &place.member(WRITES))?;
+    Ok(Request::Commit {
+        database: root.copy(alloc)?,
+        writes,
+    })
+}
+
+/// Reads a `GetDocumentRequest`.
+#[tactic(auto, unfolding(crate::specs::Requests::get_at))]
+fn read_get(alloc: Global, root: &Root, v: &Value, place: &Way<'_>) -> Result<Request, Bad>
+    ensures { Gives (λ r. r) result (get_at root.now (view v.now) (place_of place.now)) }
+{
+    only(alloc, v, &GET_MEMBERS, place)?;
+    let name = required(alloc, v, NAME, place)?;
+    let name = document_name(alloc, root, name, &place.member(NAME))?;
+    let mask = read_mask_of(alloc, v, place)?;
+    read_when(alloc, v, place)?;
+    Ok(Request::GetDocument { name, mask })
+}
+
+/// Reads a `BatchGetDocumentsRequest`. A name that stands twice is asked for once.
+#[tactic(auto, unfolding(crate::specs::Requests::batch_get_at))]
+fn read_batch_get(alloc: Global, root: &Root, v: &Value, place: &Way<'_>) -> Result<Request, Bad>
+    ensures { Gives (λ r. r) result (batch_get_at root.now (view v.now) (place_of place.now)) }
+{
+    only(alloc, v, &BATCH_GET_MEMBERS, place)?;
+    read_database(alloc, root, v, place)?;
+    let names = required(alloc, v, DOCUMENTS, place)?;
+    let documents = read_names(alloc, root, names, &place.member(DOCUMENTS))?;
+    let mask = read_mask_of(alloc, v, place)?;
+    read_when(alloc, v, place)?;
+    Ok(Request::BatchGetDocuments {
+        database: root.copy(alloc)?,
+        documents,
+        mask,
+    })
+}
+
+/// Reads a `RunQueryRequest`.
+#[tactic(auto, unfolding(crate::specs::Requests::run_query_at))]
+fn read_run_query(alloc: Global, root: &Root, v: &Value, place: &Way<'_>) -> Result<Request, Bad>
+    ensures { Gives (λ r. r) result (run_query_at root.now (view v.now) (place_of place.now)) }
+{
+    only(alloc, v, &RUN_QUERY_MEMBERS, place)?;
+    let parent = required(alloc, v, PARENT, place)?;
+    let parent = read_parent(alloc, root, parent, &place.member(PARENT))?;
+    let query = read_structured(alloc, &parent, v, place)?;
+    Ok(Request::RunQuery {
+        database: root.copy(alloc)?,
+        query,
+    })
+}
+
+// The query, whose rules are tested after the walk of the whole request.
+#[tactic(auto, unfolding(crate::specs::Requests::structured_at))]
+fn read_structured(alloc: Global, parent: &Ids, v: &Value, place: &Way<'_>) -> Result<Query, Bad>
+    ensures { Gives (λ q. q) result (structured_at parent.now (view v.now) (place_of place.now)) }
+{
+    let structured = required(alloc, v, STRUCTURED_QUERY, place)?;
+    let walked = walk_query(alloc, parent, structured, &place.member(STRUCTURED_QUERY))?;
+    read_when(alloc, v, place)?;
+    judge_query(alloc, walked, &place.member(STRUCTURED_QUERY))
+}
+
+// The database has to be the root's.
+fn read_database(alloc: Global, root: &Root, v: &Value, place: &Way<'_>) -> Result<(), Bad>
+    ensures { Gives (λ u. u) result (database_at root.now (view v.now) (place_of place.now)) }
+{
+    let database = required(alloc, v, DATABASE, place)?;
+    let place = place.member(DATABASE);
+    match database.as_str() {
+        Some(text) => unless_refused(alloc, check_database(root, text), &place),
+        None => Err(Bad::at(alloc, Rule::G, &place)),
+    }
+}
+
+fn read_parent(alloc: Global, root: &Root, v: &Value, place: &Way<'_>) -> Result<Ids, Bad>
+    ensures { Gives (λ ids. ids) result (parent_at root.now (view v.now) (place_of place.now)) }
+{
+    match v.as_str() {
+        Some(text) => unless_refused(alloc, parse_parent(alloc, root, text), place),
+        None => Err(Bad::at(alloc, Rule::G, place)),
+    }
+}
+
+// The writes of a commit as they are walked, of which there are none where the list is absent.
+fn read_drafts_of(alloc: Global, root: &Root, v: &Value, place: &Way<'_>) -> Result<Drafts, Bad>
+    ensures { Gives (λ ds. ds) result (drafts_in root.now (view v.now) (place_of place.now)) }
+{
+    match member(alloc, v, WRITES, place)? {
+        Some(list) => read_drafts(alloc, root, list, &place.member(WRITES)),
+        None => Ok(Drafts::new(alloc)),
+    }
+}
+
+fn read_mask_of(alloc: Global, v: &Value, place: &Way<'_>) -> Result<Option<Paths>, Bad>
+    ensures { Gives (λ m. m) result (mask_in (view v.now) (place_of place.now)) }
+{
+    match member(alloc, v, MASK, place)? {
+        Some(mask) => Ok(Some(read_mask(alloc, mask, &place.member(MASK))?)),
+        None => Ok(None),
+    }
+}
+
+// When a read is made can't be told yet.
+fn read_when(alloc: Global, v: &Value, place: &Way<'_>) -> Result<(), Bad>
+    ensures { Gives (λ u. u) result (when_at (view v.now) (place_of place.now)) }
+{
+    at_most_one_of(alloc, v, &WHEN_MEMBERS, place)?;
+    refuse_unbuilt(alloc, v, &WHEN_MEMBERS, place)
+}
