@@ -9,6 +9,10 @@ mixed    each second line commits a document of ten fields of mixed kinds, each 
 commits  each line commits a document of one integer
 reads    a thousand documents of one integer are committed, and then each line reads one of them
 
+Then requests over a collection of 10,000 documents of ten fields: a filter that 10 of them meet, an order by one field with
+limit 50, and a read of 100 names. Each is timed as what 20 of them add to a run that makes the documents, beside a plain
+Python loop over as many dicts, with the requests parsed and the replies printed by `json`.
+
 Then the memory of a document is measured: what a run that commits to so many names takes more at its peak than one that
 commits as many documents to one name. At last lines of 10 MB are carried out: how long each takes, and what the run takes
 more at its peak than one without lines, by the line's bytes.
@@ -161,6 +165,79 @@ def measure(name, requests):
             library, floor, count / floor, seconds / floor))
 
 
+MANY = 10000
+TIMES = 20
+
+
+def many_documents(rand):
+    """Commits of 500 documents each; of the numbers from 0 to 999 each is that of ten documents."""
+    for start in range(0, MANY, 500):
+        yield {"commit": {"database": ROOT, "writes": [
+            {"update": {"name": "%s/c/d%05d" % (DOCUMENTS, i),
+                        "fields": {**ten_fields(rand), "count": {"integerValue": str(i * 7919 % 1000)}}}}
+            for i in range(start, start + 500)]}}
+
+
+def run_query(**query):
+    return {"runQuery": {"parent": DOCUMENTS, "structuredQuery": {"from": [{"collectionId": "c"}], **query}}}
+
+
+def rare(rand):
+    """A filter that ten documents meet."""
+    return run_query(where={"fieldFilter": {
+        "field": {"fieldPath": "count"}, "op": "EQUAL", "value": {"integerValue": str(rand.randrange(1000))}}})
+
+
+def ordered(rand):
+    """An order by one field, with a limit."""
+    return run_query(orderBy=[{"field": {"fieldPath": "name"}, "direction": "DESCENDING"}], limit=50)
+
+
+def hundred(rand):
+    """A read of a hundred documents by their names."""
+    names = ["%s/c/d%05d" % (DOCUMENTS, rand.randrange(MANY)) for _ in range(100)]
+    return {"batchGetDocuments": {"database": ROOT, "documents": names}}
+
+
+def plain_answer(documents, request):
+    """What a plain loop over dicts does for such a request."""
+    if "batchGetDocuments" in request:
+        names = dict.fromkeys(request["batchGetDocuments"]["documents"])
+        return [{"found": documents[name]} if name in documents else {"missing": name} for name in names]
+    query = request["runQuery"]["structuredQuery"]
+    found = [d for d in documents.values() if d["name"].startswith(DOCUMENTS + "/c/")]
+    if "where" in query:
+        wanted = query["where"]["fieldFilter"]
+        path, value = wanted["field"]["fieldPath"], wanted["value"]
+        found = [d for d in found if d["fields"].get(path) == value]
+    for order in query.get("orderBy", []):
+        path = order["field"]["fieldPath"]
+        found = [d for d in found if path in d["fields"]]
+        found.sort(key=lambda d: d["fields"][path]["stringValue"], reverse=order.get("direction") == "DESCENDING")
+    return [{"document": d} for d in found[:query.get("limit")]]
+
+
+def plain_seconds(documents, lines):
+    start = time.perf_counter()
+    for line in lines:
+        json.dumps({"result": plain_answer(documents, json.loads(line))})
+    return (time.perf_counter() - start) / len(lines)
+
+
+def measure_requests(seed):
+    made = list(many_documents(random.Random(seed)))
+    documents = {w["update"]["name"]: w["update"] for request in made for w in request["commit"]["writes"]}
+    before = best_of(script_of(made), RUNS)[0]
+    for name, request in (("a filter that ten meet", rare), ("an order with limit 50", ordered), ("a read of 100 names", hundred)):
+        rand = random.Random(seed)
+        asked = [request(rand) for _ in range(TIMES)]
+        taken = (best_of(script_of(made + asked), RUNS)[0] - before) / TIMES
+        plain = min(plain_seconds(documents, [json.dumps(one) for one in asked]) for _ in range(RUNS))
+        looked_at = 100 if request is hundred else MANY
+        print("%s: %.2f ms, %.0f ns a document; Python %.2f ms, %.0f ns" % (
+            name, taken * 1e3, taken * 1e9 / looked_at, plain * 1e3, plain * 1e9 / looked_at))
+
+
 def peak_of(lines, seed, fields, names):
     return best_of(script_of(documents(lines, random.Random(seed), fields, names)), 1)[1] * 1024
 
@@ -210,6 +287,7 @@ def main():
     subprocess.run([FSEMU, "replay"], stdin=subprocess.DEVNULL, check=True)
     for name, requests in (("mixed", mixed), ("commits", commits), ("reads", reads)):
         measure(name, requests(lines, random.Random(seed)))
+    measure_requests(seed)
     measure_memory("one integer", 5 * lines, seed, one_field)
     measure_memory("ten fields", 5 * lines, seed, ten_fields)
     for name, request in (("documents", large_documents), ("small values", small_values), ("mask", long_mask)):

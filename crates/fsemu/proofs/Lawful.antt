@@ -11,24 +11,26 @@ use Rattle.fs_write.specs.WrittenName.{is_written}
 use Rattle.fs_write.specs.declared.write.Write.{Write}
 use Rattle.fsemu.specs.Laws.{IsOneLine, commits, is_commit, writes_of, asked_writes, is_written_in, after_lines}
 use Rattle.fsemu.specs.Limits.{longest_line}
-use Rattle.fsemu.specs.Line.{too_long, asked_at, is_unbuilt_form, json_of, line_from, line_in, line_of}
+use Rattle.fsemu.specs.Line.{too_long, is_unbuilt_form, json_of, line_from, line_in, line_of}
 use Rattle.fs_status.specs.declared.code.Code.TheVariants.{Unimplemented}
-use Rattle.fsemu.specs.Reply.{json_line, line_error, error_json, refused_json, result_reply}
-use Rattle.fs_valjson.specs.Document.{document_at, document_json}
-use Rattle.fs_valjson.specs.Valid.{IsValid}
-use Rattle.fsemu.specs.declared.request.Asked.{Asked}
+use Rattle.fs_rpc.specs.Envelope.{session_request_at}
+use Rattle.fs_rpc.specs.MessageJson.{error_json, message_json_on}
+use Rattle.fs_rpc.specs.declared.envelope.SessionRequest.{SessionRequest}
+use Rattle.fs_rpc.specs.declared.message.Message.TheVariants as message
+use Rattle.fs_rpc.specs.declared.request.Request.{Request}
+use Rattle.fs_rpc.specs.declared.request.Request.TheVariants.{Commit, GetDocument, BatchGetDocuments, RunQuery}
+use Rattle.fsemu.specs.Read.{found_answer}
+use Rattle.fsemu.specs.Reply.{json_line, line_error, refused_json}
 use Rattle.fs_json.specs.declared.bad.Bad.{Bad}
 use Rattle.fs_path.specs.declared.name.Root.{Root}
 use Rattle.serde_json.specs.Data.{Data}
 use Rattle.serde_json.specs.Written.{compact_text}
 use Rattle.fsemu.proofs.OneLine.{no_newline}
 use Rattle.std.specs.Prelude.{nat_lt, not, ◌||◌, Result, Ok, Err}
-use Rattle.fsemu.specs.Step.{start, is_over, after_commit, after_request, after_reading, after_line, output_of, line_output, found_reply, reply}
+use Rattle.fsemu.specs.Step.{start, is_over, after_commit, after_reading, after_read, after_line, output_of, line_output, reply}
 use Rattle.fsemu.specs.Transcript.{lines_of, written, transcript}
 use Rattle.fsemu.specs.declared.request.Line.{Line}
 use Rattle.fsemu.specs.declared.request.Line.TheVariants as line
-use Rattle.fsemu.specs.declared.request.Request.{Request}
-use Rattle.fsemu.specs.declared.request.Request.TheVariants.{Commit, GetDocument, Refused}
 use Rattle.fsemu.specs.declared.state.State.{State}
 
 -- ---- what changes nothing
@@ -37,12 +39,14 @@ over_changes_nothing : (s : State) (writes : List Write) (over : Bool) → not o
 over_changes_nothing s writes true e = refl
 over_changes_nothing s writes false e = absurd (cc)
 
-request_changes_nothing : (s : State) (r : Request) → commits r ≡ false → after_request s r ≡ s
-request_changes_nothing s (Commit writes) e = over_changes_nothing s writes (is_over writes) e
-request_changes_nothing s (GetDocument name) e = refl
-request_changes_nothing s (Refused reason) e = refl
+request_changes_nothing : (s : State) (r : Result Request Bad) → commits r ≡ false → after_reading s r ≡ s
+request_changes_nothing s (Ok (Commit database writes)) e = over_changes_nothing s writes (is_over writes) e
+request_changes_nothing s (Ok (GetDocument name mask)) e = refl
+request_changes_nothing s (Ok (BatchGetDocuments database names mask)) e = refl
+request_changes_nothing s (Ok (RunQuery database query)) e = refl
+request_changes_nothing s (Err bad) e = refl
 
-reading_changes_nothing : (s : State) (l : Line) → is_commit l ≡ false → after_reading s l ≡ s
+reading_changes_nothing : (s : State) (l : Line) → is_commit l ≡ false → after_read s l ≡ s
 reading_changes_nothing s line.Empty e = refl
 reading_changes_nothing s line.NotBuilt e = refl
 reading_changes_nothing s (line.Refused reason) e = refl
@@ -58,12 +62,14 @@ over_rises : (s : State) (writes : List Write) (over : Bool) → not over ≡ tr
 over_rises s writes true e = absurd (cc)
 over_rises s writes false e = refl
 
-request_rises : (s : State) (r : Request) → commits r ≡ true → (after_request s r).last ≡ (s.last +ℤ pos 1)
-request_rises s (Commit writes) e = over_rises s writes (is_over writes) e
-request_rises s (GetDocument name) e = absurd (cc)
-request_rises s (Refused reason) e = absurd (cc)
+request_rises : (s : State) (r : Result Request Bad) → commits r ≡ true → (after_reading s r).last ≡ (s.last +ℤ pos 1)
+request_rises s (Ok (Commit database writes)) e = over_rises s writes (is_over writes) e
+request_rises s (Ok (GetDocument name mask)) e = absurd (cc)
+request_rises s (Ok (BatchGetDocuments database names mask)) e = absurd (cc)
+request_rises s (Ok (RunQuery database query)) e = absurd (cc)
+request_rises s (Err bad) e = absurd (cc)
 
-reading_rises : (s : State) (l : Line) → is_commit l ≡ true → (after_reading s l).last ≡ (s.last +ℤ pos 1)
+reading_rises : (s : State) (l : Line) → is_commit l ≡ true → (after_read s l).last ≡ (s.last +ℤ pos 1)
 reading_rises s line.Empty e = absurd (cc)
 reading_rises s line.NotBuilt e = absurd (cc)
 reading_rises s (line.Refused reason) e = absurd (cc)
@@ -88,12 +94,14 @@ module _ (unwritten : Unwritten) where
   over_keeps s writes n true e = refl
   over_keeps s writes n false e = unwritten s.documents writes (s.last +ℤ pos 1) n e
 
-  request_keeps : (s : State) (r : Request) (n : DocName) → is_written n (writes_of r) ≡ false → get (after_request s r).documents n ≡ get s.documents n
-  request_keeps s (Commit writes) n e = over_keeps s writes n (is_over writes) e
-  request_keeps s (GetDocument name) n e = refl
-  request_keeps s (Refused reason) n e = refl
+  request_keeps : (s : State) (r : Result Request Bad) (n : DocName) → is_written n (writes_of r) ≡ false → get (after_reading s r).documents n ≡ get s.documents n
+  request_keeps s (Ok (Commit database writes)) n e = over_keeps s writes n (is_over writes) e
+  request_keeps s (Ok (GetDocument name mask)) n e = refl
+  request_keeps s (Ok (BatchGetDocuments database names mask)) n e = refl
+  request_keeps s (Ok (RunQuery database query)) n e = refl
+  request_keeps s (Err bad) n e = refl
 
-  reading_keeps : (s : State) (l : Line) (n : DocName) → is_written n (asked_writes l) ≡ false → get (after_reading s l).documents n ≡ get s.documents n
+  reading_keeps : (s : State) (l : Line) (n : DocName) → is_written n (asked_writes l) ≡ false → get (after_read s l).documents n ≡ get s.documents n
   reading_keeps s line.Empty n e = refl
   reading_keeps s line.NotBuilt n e = refl
   reading_keeps s (line.Refused reason) n e = refl
@@ -139,7 +147,7 @@ is_empty line.NotBuilt = false
 is_empty (line.Refused reason) = false
 is_empty (line.Asked asked) = false
 
-read_some : (read : Result Asked Bad) → is_empty (line_from read) ≡ false
+read_some : (read : Result SessionRequest Bad) → is_empty (line_from read) ≡ false
 read_some (Ok asked) = refl
 read_some (Err bad) = refl
 
@@ -149,7 +157,7 @@ some_either false k l d e = e
 
 some_in : (root : Root) (d : Option Data) → is_empty (line_in root d) ≡ false
 some_in root None = refl
-some_in root (Some d) = some_either (is_unbuilt_form d) line.NotBuilt (line_from (asked_at root d)) refl (read_some (asked_at root d))
+some_in root (Some d) = some_either (is_unbuilt_form d) line.NotBuilt (line_from (session_request_at root d)) refl (read_some (session_request_at root d))
 
 json_one_line : (d : Data) → IsOneLine (json_line d)
 json_one_line d = (compact_text d, refl, no_newline d)
@@ -158,7 +166,7 @@ output_one_line : (s : State) (n : ℕ) (l : Line) → is_empty l ≡ false → 
 output_one_line s n line.Empty e = absurd (cc)
 output_one_line s n line.NotBuilt e = json_one_line (line_error (error_json Unimplemented (codes "line not read yet")) n)
 output_one_line s n (line.Refused reason) e = json_one_line (line_error (refused_json reason) n)
-output_one_line s n (line.Asked asked) e = json_one_line (reply s asked.session asked.id asked.request)
+output_one_line s n (line.Asked asked) e = json_one_line (message_json_on asked.session (reply s asked.id asked.request))
 
 pub one_line : (s : State) (n b : ℕ) (bytes : List ℕ) → IsOneLine (line_output s n (b ∷ bytes))
 unfolding line_output
@@ -167,7 +175,5 @@ one_line s n b bytes =
 
 -- ---- what a read answers
 
-pub read_back : ((root : Root) (d : Document) (place : List ℕ) → IsValid root d → document_at root (document_json d) place ≡ Ok d)
-    → (s : State) (session : List ℕ) (id : Option (List ℕ)) (name : DocName) (d : Document) (place : List ℕ) → get s.documents name ≡ Some d → IsValid s.root d
-    → (answer : Data) × (reply s session id (GetDocument name) ≡ result_reply session id answer) × (document_at s.root answer place ≡ Ok d)
-read_back again s session id name d place there valid = (document_json d, ap (found_reply s session id) there, again s.root d place valid)
+pub shows_what_stands : (s : State) (id : Option (List ℕ)) (name : DocName) (d : Document) → get s.documents name ≡ Some d → reply s id (Ok (GetDocument name None)) ≡ message.GetDocument id d
+shows_what_stands s id name d there = ap (found_answer s id None) there

@@ -1,5 +1,5 @@
 -- What lines write, cut off one after another.
-use Rattle.std.proofs.Common.{◌≡◌, ℕ, ◌+◌, Bool, true, false, cond, eqb, List, [], ◌∷◌, ◌++◌, refl, ap, sym, ◌∙◌, append_assoc, pos, negsuc, ℤ, leb, ◌≤◌, ◌+ℤ◌, ◌≤ℤ◌, subst, arith}
+use Rattle.std.proofs.Common.{◌≡◌, ℕ, ◌+◌, Bool, true, false, cond, eqb, List, [], ◌∷◌, ◌++◌, Result, Ok, Err, refl, ap, sym, ◌∙◌, append_assoc, pos, negsuc, ℤ, leb, ◌≤◌, ◌+ℤ◌, ◌≤ℤ◌, subst, arith}
 use Rattle.std.proofs.lemmas.List.{append-nil}
 use Rattle.std.specs.List.{onto_first}
 use Rattle.fsemu.specs.declared.state.State.{State}
@@ -10,10 +10,11 @@ use Rattle.fsemu.specs.Limits.{longest_input}
 use Rattle.fsemu.specs.Line.{line_of}
 use Rattle.fsemu.specs.declared.request.Line.{Line}
 use Rattle.fsemu.specs.declared.request.Line.TheVariants as line
-use Rattle.fsemu.specs.declared.request.Request.{Request}
-use Rattle.fsemu.specs.declared.request.Request.TheVariants.{Commit, GetDocument, Refused}
+use Rattle.fs_json.specs.declared.bad.Bad.{Bad}
+use Rattle.fs_rpc.specs.declared.request.Request.{Request}
+use Rattle.fs_rpc.specs.declared.request.Request.TheVariants.{Commit, GetDocument, BatchGetDocuments, RunQuery}
 use Rattle.fs_write.specs.declared.write.Write.{Write}
-use Rattle.fsemu.specs.Step.{start, CanCommit, is_over, after_commit, after_request, after_reading, after_line, line_output}
+use Rattle.fsemu.specs.Step.{start, CanCommit, is_over, after_commit, after_reading, after_read, after_line, line_output}
 use Rattle.fsemu.specs.Transcript.{lines_of, all_but_last, written, played, transcript}
 
 some_lines_at : (b : Bool) (x : ℕ) (lines : List (List ℕ)) → (line : List ℕ) × (more : List (List ℕ)) × (cond b ([] ∷ lines) (onto_first x lines) ≡ line ∷ more)
@@ -78,12 +79,14 @@ over_rises : (s : State) (writes : List Write) (over : Bool) → (s.last ≤ℤ 
 over_rises s writes true = (omega (arith, ints), omega (arith, ints))
 over_rises s writes false = (omega (arith, ints), omega (arith, ints))
 
-request_rises : (s : State) (r : Request) → (s.last ≤ℤ (after_request s r).last) × ((after_request s r).last ≤ℤ (s.last +ℤ pos 1))
-request_rises s (Commit writes) = over_rises s writes (is_over writes)
-request_rises s (GetDocument name) = (omega (arith, ints), omega (arith, ints))
-request_rises s (Refused reason) = (omega (arith, ints), omega (arith, ints))
+request_rises : (s : State) (r : Result Request Bad) → (s.last ≤ℤ (after_reading s r).last) × ((after_reading s r).last ≤ℤ (s.last +ℤ pos 1))
+request_rises s (Ok (Commit database writes)) = over_rises s writes (is_over writes)
+request_rises s (Ok (GetDocument name mask)) = (omega (arith, ints), omega (arith, ints))
+request_rises s (Ok (BatchGetDocuments database names mask)) = (omega (arith, ints), omega (arith, ints))
+request_rises s (Ok (RunQuery database query)) = (omega (arith, ints), omega (arith, ints))
+request_rises s (Err bad) = (omega (arith, ints), omega (arith, ints))
 
-reading_rises : (s : State) (l : Line) → (s.last ≤ℤ (after_reading s l).last) × ((after_reading s l).last ≤ℤ (s.last +ℤ pos 1))
+reading_rises : (s : State) (l : Line) → (s.last ≤ℤ (after_read s l).last) × ((after_read s l).last ≤ℤ (s.last +ℤ pos 1))
 reading_rises s line.Empty = (omega (arith, ints), omega (arith, ints))
 reading_rises s line.NotBuilt = (omega (arith, ints), omega (arith, ints))
 reading_rises s (line.Refused reason) = (omega (arith, ints), omega (arith, ints))

@@ -1,22 +1,25 @@
 -- What the laws of scripts speak of.
-use Rattle.std.specs.Prelude.{◌≡◌, ℕ, Bool, false, not, ◌||◌, ◌==◌, List, [], ◌∷◌, ◌++◌}
+use Rattle.std.specs.Prelude.{◌≡◌, ℕ, Bool, false, not, ◌||◌, ◌==◌, List, [], ◌∷◌, ◌++◌, Result, Ok, Err}
 use Rattle.std.specs.List.{list_any}
 use Rattle.fs_path.specs.declared.name.DocName.{DocName}
+use Rattle.fs_json.specs.declared.bad.Bad.{Bad}
+use Rattle.fs_rpc.specs.declared.request.Request.{Request}
+use Rattle.fs_rpc.specs.declared.request.Request.TheVariants.{Commit, GetDocument, BatchGetDocuments, RunQuery}
 use Rattle.fs_write.specs.WrittenName.{is_written}
 use Rattle.fs_write.specs.declared.write.Write.{Write}
 use Rattle.fsemu.specs.Line.{line_of}
 use Rattle.fsemu.specs.Step.{after_line, is_over}
 use Rattle.fsemu.specs.declared.request.Line.{Line}
 use Rattle.fsemu.specs.declared.request.Line.TheVariants as line
-use Rattle.fsemu.specs.declared.request.Request.{Request}
-use Rattle.fsemu.specs.declared.request.Request.TheVariants.{Commit, GetDocument, Refused}
 use Rattle.fsemu.specs.declared.state.State.{State}
 
 -- whether a line asks for a commit, and not for one of too many writes
-abbrev pub commits : Request → Bool
-commits (Commit writes) = not (is_over writes)
-commits (GetDocument name) = false
-commits (Refused reason) = false
+abbrev pub commits : Result Request Bad → Bool
+commits (Ok (Commit database writes)) = not (is_over writes)
+commits (Ok (GetDocument name mask)) = false
+commits (Ok (BatchGetDocuments database names mask)) = false
+commits (Ok (RunQuery database query)) = false
+commits (Err bad) = false
 
 abbrev pub is_commit : Line → Bool
 is_commit line.Empty = false
@@ -25,10 +28,12 @@ is_commit (line.Refused reason) = false
 is_commit (line.Asked asked) = commits asked.request
 
 -- the writes that a line asks for
-abbrev pub writes_of : Request → List Write
-writes_of (Commit writes) = writes
-writes_of (GetDocument name) = []
-writes_of (Refused reason) = []
+abbrev pub writes_of : Result Request Bad → List Write
+writes_of (Ok (Commit database writes)) = writes
+writes_of (Ok (GetDocument name mask)) = []
+writes_of (Ok (BatchGetDocuments database names mask)) = []
+writes_of (Ok (RunQuery database query)) = []
+writes_of (Err bad) = []
 
 abbrev pub asked_writes : Line → List Write
 asked_writes line.Empty = []

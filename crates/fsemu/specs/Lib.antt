@@ -3,8 +3,8 @@ pub mod Laws
 pub mod Limits
 pub mod Line
 pub mod Moved
+pub mod Read
 pub mod Reply
-pub mod Request
 pub mod Run
 pub mod Step
 pub mod Transcript

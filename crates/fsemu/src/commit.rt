@@ -32,9 +32,8 @@ fn named_by(
 {
     let mut there = DocumentMap::new(alloc);
     for write in writes {
-        let found = documents.get(alloc, write.name())?;
-        match found {
-            Some(document) => there.put(document)?,
+        match documents.get(write.name()) {
+            Some(document) => there.put(alloc, document.copy(alloc)?)?,
             None => {}
         }
     }
@@ -48,27 +47,27 @@ fn take_out(documents: &mut DocumentMap, name: &DocName)
 }
 
 // Makes one change.
-fn make(documents: &mut DocumentMap, change: Change) -> Result<(), AllocError>
+fn make(alloc: Global, documents: &mut DocumentMap, change: Change) -> Result<(), AllocError>
     requires { IsNamed change }
     ensures { OnOk result ((name : Named) → get documents.new name
         ≡ cond (eq_by_cmp name_cmp name change.name) change.after (get documents.old name)) }
 {
     let Change { name, after, .. } = change;
     match after {
-        Some(document) => documents.put(document)?,
+        Some(document) => documents.put(alloc, document)?,
         None => take_out(documents, &name),
     }
     Ok(())
 }
 
 // Takes changes over into the documents.
-fn take_over(documents: &mut DocumentMap, changes: Changes) -> Result<(), AllocError>
+fn take_over(alloc: Global, documents: &mut DocumentMap, changes: Changes) -> Result<(), AllocError>
     requires { AllByRecursion IsNamed changes }
     ensures { OnOk result ((name : Named) → get documents.new name ≡ document_after documents.old changes name) }
 {
     let mut rest = changes.into_vec();
     while let Some(change) = rest.pop() {
-        make(documents, change)?;
+        make(alloc, documents, change)?;
     }
     Ok(())
 }
@@ -99,7 +98,7 @@ pub fn commit(
     batches_are_lawful();
     match apply_batch(alloc, &there, writes, time) {
         Ok((changes, results)) => {
-            take_over(documents, changes)?;
+            take_over(alloc, documents, changes)?;
             Ok(Ok(results))
         }
         Err(refusal) => Ok(Err(unless_memory(refusal)?)),

@@ -1,14 +1,11 @@
 //! What holds of every script.
-ghost use Rattle.std.specs.Prelude.{◌≡◌, ◌∷◌, ◌++◌, ◌+ℤ◌, ℕ, ℤ, List, [], Option, Some, Ok, Err, pos, true, false};
+ghost use Rattle.std.specs.Prelude.{◌≡◌, ◌∷◌, ◌++◌, ◌+ℤ◌, ℕ, List, [], Option, Some, None, Ok, Err, pos, true, false};
 ghost use Rattle.std.specs.FinMap.{get};
 ghost use Rattle.fs_path.specs.declared.name.DocName.{DocName};
 ghost use Rattle.fs_status.specs.declared.refusal.Refusal.{Refusal};
 ghost use Rattle.fs_value.specs.declared.document.Document.{Document};
-ghost use Rattle.serde_json.specs.Data.{Data};
-ghost use Rattle.fs_valjson.specs.Document.{document_at};
-ghost use Rattle.fs_valjson.specs.Valid.{IsValid};
-ghost use Rattle.fsemu.specs.Reply.{result_reply};
-ghost use Rattle.fsemu.specs.declared.request.Request.TheVariants.{GetDocument};
+ghost use Rattle.fs_rpc.specs.declared.message.Message.TheVariants as message;
+ghost use Rattle.fs_rpc.specs.declared.request.Request.TheVariants.{GetDocument};
 ghost use Rattle.fsemu.specs.Laws.{IsOneLine, is_commit, is_written_in, after_lines};
 ghost use Rattle.fsemu.specs.Line.{line_of};
 ghost use Rattle.fsemu.specs.Step.{reply, after_commit, after_line, line_output, next_time};
@@ -17,7 +14,6 @@ ghost use Rattle.fs_write.specs.Batch.{batch};
 ghost use Rattle.fs_write.specs.declared.write.Write.{Write};
 ghost use Rattle.fsemu.specs.declared.state.State.{State};
 
-use fs_valjson::documents_read_back;
 use fs_write::batches_are_lawful;
 
 /// The laws of scripts, as a user sees them.
@@ -36,13 +32,12 @@ pub fn scripts_are_lawful()
     // Each line that isn't empty gives exactly one line, and an empty one none.
     ensures one_line { (s : State) (number : ℕ) (first : ℕ) (bytes : List ℕ) → IsOneLine (line_output s number (first ∷ bytes)) }
     ensures no_line { (s : State) (number : ℕ) → line_output s number [] ≡ [] }
-    // What a read answers reads back, at any place, as the document that stands.
-    ensures read_back { (s : State) (session : List ℕ) (id : Option (List ℕ)) (name : DocName) (d : Document) (place : List ℕ)
-        → get s.documents name ≡ Some d → IsValid s.root d
-        → (answer : Data) × (reply s session id (GetDocument name) ≡ result_reply session id answer) × (document_at s.root answer place ≡ Ok d) }
+    // A read without a mask is answered with the document that stands. (That messages are read back is a clause of those that
+    // write them.)
+    ensures shown { (s : State) (id : Option (List ℕ)) (name : DocName) (d : Document) → get s.documents name ≡ Some d
+        → reply s id (Ok (GetDocument name None)) ≡ message.GetDocument id d }
     // The last line may end in a newline or not.
     ensures newline { (script : List ℕ) → transcript (script ++ 10 ∷ []) ≡ transcript script }
 {
-    documents_read_back();
     batches_are_lawful();
 }

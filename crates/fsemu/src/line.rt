@@ -1,16 +1,13 @@
 //! Reading the lines of a script.
 ghost use Rattle.std.specs.Prelude.{◌≡◌, IfOk, Some, map, option_map};
-ghost use Rattle.fs_path.specs.Way.{place_of};
 ghost use Rattle.serde_json.specs.View.{view};
-ghost use Rattle.fs_json.specs.Answer.{Gives};
-ghost use Rattle.fsemu.specs.Request.{or_refused};
-ghost use Rattle.fsemu.specs.Line.{asked_at, has_any, json_of, line_of, line_in, line_reason, is_unbuilt_form, request_at, text_if_there};
+ghost use Rattle.fsemu.specs.Line.{has_any, json_of, line_of, line_in, line_reason, is_unbuilt_form};
 
 use crate::limits::LONGEST_LINE;
-use crate::read::{read_commit, read_get};
-use crate::request::{Asked, Line, Request};
-use fs_json::{Bad, member, one_of, only_of_two, text};
-use fs_path::{Place, Root, Rule, Text, Way};
+use crate::request::Line;
+use fs_json::Bad;
+use fs_path::{Place, Root, Rule};
+use fs_rpc::read_session_request;
 use fs_status::{LineFault, Reason};
 use serde_json::Value;
 use std::alloc::{AllocError, Global};
@@ -19,78 +16,6 @@ use std::alloc::{AllocError, Global};
 const UNBUILT_FORMS: [&str; 10] = [
     "clock", "compact", "leave", "manual", "settle", "retry", "load", "match", "raise", "client",
 ];
-
-/// The members of a request beside its method.
-const HEAD: [&str; 2] = ["session", "id"];
-
-/// The methods of requests, in the order of the walk. The first two are built.
-const METHODS: [&str; 17] = [
-    "commit",
-    "getDocument",
-    "batchGetDocuments",
-    "runQuery",
-    "beginTransaction",
-    "rollback",
-    "listen",
-    "write",
-    "createIndex",
-    "createDocument",
-    "updateDocument",
-    "deleteDocument",
-    "partitionQuery",
-    "runAggregationQuery",
-    "listDocuments",
-    "listCollectionIds",
-    "batchWrite",
-];
-
-// What a method asks for. A fault of the method is the request's, and not the line's.
-fn read_request(alloc: Global, root: &Root, method: &str, v: &Value) -> Result<Request, AllocError>
-    ensures { IfOk result (λ r. r ≡ or_refused (request_at root.now method.now (view v.now))) }
-{
-    let place = Way::method(method);
-    let read = match method {
-        "commit" => read_commit(alloc, root, v, &place),
-        "getDocument" => read_get(alloc, root, v, &place),
-        _ => Err(Bad::Method(Text::from_str(alloc, method)?)),
-    };
-    match read {
-        Ok(request) => Ok(request),
-        Err(Bad::At(rule, place)) => Ok(Request::Refused(Reason::Rule(rule, place))),
-        Err(Bad::Method(name)) => Ok(Request::Refused(Reason::Method(name))),
-        Err(Bad::Memory(e)) => Err(e),
-    }
-}
-
-fn read_id(alloc: Global, v: Option<&Value>, place: &Way<'_>) -> Result<Option<Text>, Bad>
-    ensures { Gives (λ t. t) result (text_if_there (option_map (λ x. view x.now) v.entry) (place_of place.now)) }
-{
-    match v {
-        Some(id) => Ok(Some(text(alloc, id, place)?)),
-        None => Ok(None),
-    }
-}
-
-#[tactic(auto, unfolding(crate::specs::Line::asked_at))]
-fn read_asked(alloc: Global, root: &Root, v: &Value) -> Result<Asked, Bad>
-    ensures { Gives (λ a. a) result (asked_at root.now (view v.now)) }
-{
-    let top = Way::method("");
-    only_of_two(alloc, v, &HEAD, &METHODS, &top)?;
-    let Some(session) = member(alloc, v, "session", &top)? else {
-        return Err(Bad::at(alloc, Rule::G, &top));
-    };
-    let session = text(alloc, session, &Way::method("session"))?;
-    let id = member(alloc, v, "id", &top)?;
-    let id = read_id(alloc, id, &Way::method("id"))?;
-    let (method, content) = one_of(alloc, v, &METHODS, &top)?;
-    let request = read_request(alloc, root, method, content)?;
-    Ok(Asked {
-        session,
-        id,
-        request,
-    })
-}
 
 // Whether an object has a member of one of these names, whatever it holds.
 fn has_any(v: &Value, names: &[&str]) -> bool
@@ -147,7 +72,7 @@ fn line_in(alloc: Global, root: &Root, v: &Value) -> Result<Line, AllocError>
     if is_unbuilt_form(v) {
         return Ok(Line::NotBuilt);
     }
-    match read_asked(alloc, root, v) {
+    match read_session_request(alloc, root, v) {
         Ok(asked) => Ok(Line::Asked(asked)),
         Err(Bad::At(rule, place)) => Ok(Line::Refused(line_fault(rule, place))),
         Err(Bad::Method(name)) => Ok(Line::Refused(Reason::Method(name))),

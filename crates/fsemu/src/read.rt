@@ -1,77 +1,104 @@
-//! Reading the methods of requests.
-ghost use Rattle.std.specs.Prelude.{◌≡◌};
-ghost use Rattle.fs_path.specs.Way.{place_of};
-ghost use Rattle.serde_json.specs.View.{view};
-ghost use Rattle.fs_json.specs.Answer.{Gives};
-ghost use Rattle.fsemu.specs.Request.{database_at, drafts_in, commit_at, get_at};
+//! Carrying out reads.
+ghost use Rattle.std.specs.Prelude.{◌≡◌, IfOk, Some, map};
+ghost use Rattle.fsemu.specs.Read.{shown, get_answer, batch_answer, batch_answers, query_answer};
 
-use crate::request::Request;
-use fs_json::{
-    Bad, at_most_one_of, document_name, member, only, refuse_unbuilt, required, unless_refused,
-};
-use fs_path::{Root, Rule, Way, check_database};
-use fs_writejson::{Drafts, judge, read_drafts};
-use serde_json::Value;
-use std::alloc::Global;
+use crate::state::State;
+use fs_path::{DocName, Names, Paths, Text};
+use fs_query::{Query, answer_among, answers_are_lawful, project};
+use fs_rpc::{Answers, BatchAnswer, Message};
+use fs_status::{Reason, Refusal};
+use fs_value::{Document, Documents};
+use std::alloc::{AllocError, Global};
 
-/// The members of a commit.
-const COMMIT_MEMBERS: [&str; 3] = ["database", "writes", "transaction"];
-
-/// Those that aren't built.
-const UNBUILT_COMMIT_MEMBERS: [&str; 1] = ["transaction"];
-
-/// The members of a read.
-const GET_MEMBERS: [&str; 4] = ["name", "mask", "transaction", "readTime"];
-
-/// Those that aren't built, beside the next two.
-const UNBUILT_GET_MEMBERS: [&str; 1] = ["mask"];
-
-/// When a read is made, of which at most one way is given.
-const WHEN_MEMBERS: [&str; 2] = ["transaction", "readTime"];
-
-fn read_database(alloc: Global, root: &Root, v: &Value, place: &Way<'_>) -> Result<(), Bad>
-    ensures { Gives (λ u. u) result (database_at root.now (view v.now) (place_of place.now)) }
+// A document with the fields that a mask names, or with all of them where there is none.
+fn shown(alloc: Global, document: &Document, mask: &Option<Paths>) -> Result<Document, AllocError>
+    ensures { IfOk result (λ d. d ≡ shown mask.now document.now) }
 {
-    match v.as_str() {
-        Some(text) => unless_refused(alloc, check_database(root, text), place),
-        None => Err(Bad::at(alloc, Rule::G, place)),
+    match mask {
+        Some(paths) => project(alloc, document, paths),
+        None => document.copy(alloc),
     }
 }
 
-/// The writes of a commit as they are walked, of which there are none where the list is absent.
-fn read_drafts_of(alloc: Global, root: &Root, v: &Value, place: &Way<'_>) -> Result<Drafts, Bad>
-    ensures { Gives (λ ds. ds) result (drafts_in root.now (view v.now) (place_of place.now)) }
+/// Reads one document, as the last commit left it.
+pub fn read_document(
+    alloc: Global,
+    state: &State,
+    id: Option<Text>,
+    name: &DocName,
+    mask: &Option<Paths>,
+) -> Result<Message, AllocError>
+    ensures { IfOk result (λ m. m ≡ get_answer state.now id name.now mask.now) }
 {
-    match member(alloc, v, "writes", place)? {
-        Some(list) => read_drafts(alloc, root, list, &place.member("writes")),
-        None => Ok(Drafts::new(alloc)),
+    match state.documents.get(name) {
+        Some(document) => Ok(Message::GetDocument {
+            id,
+            document: shown(alloc, document, mask)?,
+        }),
+        None => Message::refused(alloc, id, &Refusal::of(Reason::NoDocument(state.last))),
     }
 }
 
-/// Reads a `CommitRequest`.
-#[tactic(auto, unfolding(crate::specs::Request::commit_at))]
-pub fn read_commit(alloc: Global, root: &Root, v: &Value, place: &Way<'_>) -> Result<Request, Bad>
-    ensures { Gives (λ r. r) result (commit_at root.now (view v.now) (place_of place.now)) }
+fn read_one(
+    alloc: Global,
+    state: &State,
+    name: &DocName,
+    mask: &Option<Paths>,
+) -> Result<BatchAnswer, AllocError>
+    ensures { IfOk result (λ a. a ≡ batch_answer state.now mask.now name.now) }
 {
-    only(alloc, v, &COMMIT_MEMBERS, place)?;
-    let database = required(alloc, v, "database", place)?;
-    read_database(alloc, root, database, &place.member("database"))?;
-    let drafts = read_drafts_of(alloc, root, v, place)?;
-    refuse_unbuilt(alloc, v, &UNBUILT_COMMIT_MEMBERS, place)?;
-    let writes = judge(alloc, drafts, &place.member("writes"))?;
-    Ok(Request::Commit(writes))
+    match state.documents.get(name) {
+        Some(document) => Ok(BatchAnswer::Found(shown(alloc, document, mask)?, state.last)),
+        None => Ok(BatchAnswer::Missing(name.copy(alloc)?, state.last)),
+    }
 }
 
-/// Reads a `GetDocumentRequest`.
-#[tactic(auto, unfolding(crate::specs::Request::get_at))]
-pub fn read_get(alloc: Global, root: &Root, v: &Value, place: &Way<'_>) -> Result<Request, Bad>
-    ensures { Gives (λ r. r) result (get_at root.now (view v.now) (place_of place.now)) }
+/// Reads several documents, in the order of their names in the request.
+pub fn read_batch(
+    alloc: Global,
+    state: &State,
+    names: &Names,
+    mask: &Option<Paths>,
+) -> Result<Answers, AllocError>
+    ensures { IfOk result (λ answers. answers ≡ batch_answers state.now mask.now names.now) }
 {
-    only(alloc, v, &GET_MEMBERS, place)?;
-    let name = required(alloc, v, "name", place)?;
-    let name = document_name(alloc, root, name, &place.member("name"))?;
-    refuse_unbuilt(alloc, v, &UNBUILT_GET_MEMBERS, place)?;
-    at_most_one_of(alloc, v, &WHEN_MEMBERS, place)?;
-    refuse_unbuilt(alloc, v, &WHEN_MEMBERS, place)?;
-    Ok(Request::GetDocument(name))
+    let mut answers = Answers::new(alloc);
+    for name in names.as_slice() {
+        answers.push(read_one(alloc, state, name, mask)?)?;
+    }
+    Ok(answers)
+}
+
+// The same documents as a query selects their fields.
+fn selected(
+    alloc: Global,
+    found: Documents,
+    select: &Option<Paths>,
+) -> Result<Documents, AllocError>
+    ensures { IfOk result (λ ds. ds ≡ map (shown select.now) found) }
+{
+    match select {
+        Some(paths) => projected(alloc, &found, paths),
+        None => Ok(found),
+    }
+}
+
+fn projected(alloc: Global, found: &Documents, paths: &Paths) -> Result<Documents, AllocError>
+    ensures { IfOk result (λ ds. ds ≡ map (shown (Some paths.now)) found.now) }
+{
+    let mut documents = Documents::new(alloc);
+    for document in found.as_slice() {
+        documents.push(project(alloc, document, paths)?)?;
+    }
+    Ok(documents)
+}
+
+/// Runs a query over all documents, which stay where they are; only those that it answers are copied.
+pub fn read_query(alloc: Global, state: &State, query: &Query) -> Result<Documents, AllocError>
+    ensures { IfOk result (λ ds. ds ≡ query_answer state.now query.now) }
+{
+    answers_are_lawful();
+    let documents = state.documents.lent(alloc)?;
+    let found = answer_among(alloc, query, documents.as_slice())?;
+    selected(alloc, found, &query.select)
 }

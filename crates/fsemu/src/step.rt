@@ -1,23 +1,23 @@
 //! What one line does: to the state, and to the output.
 ghost use Rattle.std.specs.Prelude.{◌≡◌, ◌++◌, pos, ◌+ℤ◌, IfOk, OnOk, false};
-ghost use Rattle.fs_time.specs.Moment.{IsMoment};
 ghost use Rattle.serde_json.specs.View.{view};
 ghost use Rattle.serde_json.specs.Written.{has_float};
-ghost use Rattle.fsemu.specs.Reply.{error_reply, refusal_json};
-ghost use Rattle.fsemu.specs.Step.{CanCommit, next_time, commit_reply, reply, after_request, after_reading, output_of, after_line, line_output};
+ghost use Rattle.fs_rpc.specs.MessageJson.{message_json_on};
+ghost use Rattle.fsemu.specs.Line.{reason_of};
+ghost use Rattle.fsemu.specs.Step.{CanCommit, next_time, committed, commit_answer, answer, after_writes, after_request, after_reading, reply, after_read, output_of, after_line, line_output};
 
 use crate::commit::commit;
 use crate::limits::MOST_WRITES;
 use crate::line::read_line;
-use crate::reply::{
-    commit_json, error_json, error_reply, line_error, push_line, refusal_json, result_reply,
-};
-use crate::request::{Asked, Line, Request};
+use crate::read::{read_batch, read_document, read_query};
+use crate::reply::{line_error, push_line, refusal_json};
+use crate::request::Line;
 use crate::state::State;
-use fs_path::{DocName, Text};
+use fs_json::Bad;
+use fs_path::Text;
+use fs_rpc::{Message, Request, SessionRequest, error_json, message_json_on};
 use fs_status::{Code, Reason, Refusal};
 use fs_time::Micros;
-use fs_valjson::write_document;
 use fs_write::{WriteResults, Writes};
 use serde_json::Value;
 use std::alloc::{AllocError, Global};
@@ -33,97 +33,112 @@ fn next_time(state: &State) -> Micros
 fn carry_out_commit(
     alloc: Global,
     state: &mut State,
-    session: &str,
-    id: &Option<Text>,
-    writes: Writes,
-) -> Result<Value, AllocError>
+    id: Option<Text>,
+    writes: &Writes,
+) -> Result<Message, AllocError>
     requires { CanCommit state.old }
-    ensures reply { IfOk result (λ v. view v ≡ reply state.old session.now id.now (Request.Commit writes)) }
-    ensures no_float { IfOk result (λ v. has_float (view v) ≡ false) }
-    ensures state { OnOk result (state.new ≡ after_request state.old (Request.Commit writes)) }
+    ensures reply { IfOk result (λ m. m ≡ commit_answer state.old id writes.now) }
+    ensures state { OnOk result (state.new ≡ after_writes state.old writes.now) }
 {
     if writes.len() > MOST_WRITES {
         let refusal = Refusal::at_limit(alloc, "writes", MOST_WRITES as u64)?;
-        return refuse(alloc, session, id, &refusal);
+        return Message::refused(alloc, id, &refusal);
     }
     let time = next_time(state);
-    let answer = commit(alloc, &mut state.documents, &writes, time)?;
+    let answer = commit(alloc, &mut state.documents, writes, time)?;
     state.last = time;
-    commit_reply(alloc, time, session, id, answer)
+    committed(alloc, id, time, answer)
 }
 
-fn commit_reply(
+fn committed(
     alloc: Global,
+    id: Option<Text>,
     time: Micros,
-    session: &str,
-    id: &Option<Text>,
     answer: Result<WriteResults, Refusal>,
-) -> Result<Value, AllocError>
-    ensures reply { IfOk result (λ v. view v ≡ commit_reply time session.now id.now answer) }
-    ensures no_float { IfOk result (λ v. has_float (view v) ≡ false) }
+) -> Result<Message, AllocError>
+    ensures { IfOk result (λ m. m ≡ committed id time answer) }
 {
     match answer {
-        Ok(results) => {
-            let answer = commit_json(alloc, time, &results)?;
-            result_reply(alloc, session, id, answer)
-        }
-        Err(refusal) => refuse(alloc, session, id, &refusal),
+        Ok(results) => Ok(Message::Commit { id, time, results }),
+        Err(refusal) => Message::refused(alloc, id, &refusal),
     }
 }
 
-fn refuse(
+// Carries out a request: what it is answered.
+fn carry_out_request(
     alloc: Global,
-    session: &str,
-    id: &Option<Text>,
-    refusal: &Refusal,
-) -> Result<Value, AllocError>
-    ensures reply { IfOk result (λ v. view v ≡ error_reply session.now id.now (refusal_json refusal.now)) }
-    ensures no_float { IfOk result (λ v. has_float (view v) ≡ false) }
-{
-    let error = refusal_json(alloc, refusal)?;
-    error_reply(alloc, session, id, error)
-}
-
-fn read_out(
-    alloc: Global,
-    state: &State,
-    session: &str,
-    id: &Option<Text>,
-    name: &DocName,
-) -> Result<Value, AllocError>
-    ensures reply { IfOk result (λ v. view v ≡ reply state.now session.now id.now (Request.GetDocument name.now)) }
-    ensures no_float { IfOk result (λ v. has_float (view v) ≡ false) }
-{
-    match state.documents.get(alloc, name)? {
-        Some(document) => {
-            let answer = write_document(alloc, &document)?;
-            result_reply(alloc, session, id, answer)
-        }
-        None => {
-            let refusal = Refusal::of(Reason::NoDocument(state.last));
-            refuse(alloc, session, id, &refusal)
-        }
-    }
-}
-
-// Carries out a request: what it is answered, without a float in it.
-fn carry_out_request(alloc: Global, state: &mut State, asked: Asked) -> Result<Value, AllocError>
+    state: &mut State,
+    id: Option<Text>,
+    request: Request,
+) -> Result<Message, AllocError>
     requires { CanCommit state.old }
-    ensures reply { IfOk result (λ v. view v ≡ reply state.old asked.session asked.id asked.request) }
-    ensures no_float { IfOk result (λ v. has_float (view v) ≡ false) }
-    ensures state { OnOk result (state.new ≡ after_request state.old asked.request) }
+    ensures reply { IfOk result (λ m. m ≡ answer state.old id request) }
+    ensures state { OnOk result (state.new ≡ after_request state.old request) }
 {
-    let Asked {
+    match request {
+        Request::Commit { writes, .. } => carry_out_commit(alloc, state, id, &writes),
+        Request::GetDocument { name, mask } => read_document(alloc, state, id, &name, &mask),
+        Request::BatchGetDocuments {
+            documents,
+            mask,
+            ..
+        } => {
+            let answers = read_batch(alloc, state, &documents, &mask)?;
+            Ok(Message::BatchGetDocuments { id, answers })
+        }
+        Request::RunQuery { query, .. } => {
+            let documents = read_query(alloc, state, &query)?;
+            let time = state.last;
+            Ok(Message::RunQuery {
+                id,
+                documents,
+                time,
+            })
+        }
+    }
+}
+
+// Why a request that isn't read is refused.
+fn reason_of(bad: Bad) -> Reason
+    ensures { result ≡ reason_of bad }
+{
+    match bad {
+        Bad::At(rule, place) => Reason::Rule(rule, place),
+        Bad::Method(name) => Reason::Method(name),
+        Bad::Memory(_) => Reason::Memory,
+    }
+}
+
+// What a request on a session is answered, one that isn't read too.
+fn answer_to(
+    alloc: Global,
+    state: &mut State,
+    id: Option<Text>,
+    request: Result<Request, Bad>,
+) -> Result<Message, AllocError>
+    requires { CanCommit state.old }
+    ensures reply { IfOk result (λ m. m ≡ reply state.old id request) }
+    ensures state { OnOk result (state.new ≡ after_reading state.old request) }
+{
+    match request {
+        Ok(request) => carry_out_request(alloc, state, id, request),
+        Err(bad) => Message::refused(alloc, id, &Refusal::of(reason_of(bad))),
+    }
+}
+
+fn reply_to(alloc: Global, state: &mut State, asked: SessionRequest) -> Result<Value, AllocError>
+    requires { CanCommit state.old }
+    ensures reply { IfOk result (λ v. view v ≡ message_json_on asked.session (reply state.old asked.id asked.request)) }
+    ensures no_float { IfOk result (λ v. has_float (view v) ≡ false) }
+    ensures state { OnOk result (state.new ≡ after_reading state.old asked.request) }
+{
+    let SessionRequest {
         session,
         id,
         request,
     } = asked;
-    let session = session.as_str();
-    match request {
-        Request::Commit(writes) => carry_out_commit(alloc, state, session, &id, writes),
-        Request::GetDocument(name) => read_out(alloc, state, session, &id, &name),
-        Request::Refused(reason) => refuse(alloc, session, &id, &Refusal::of(reason)),
-    }
+    let message = answer_to(alloc, state, id, request)?;
+    message_json_on(alloc, session.as_str(), &message)
 }
 
 // Carries out a line that was read, and adds what it writes to the output.
@@ -136,7 +151,7 @@ fn carry_out_read(
 ) -> Result<(), AllocError>
     requires { CanCommit state.old }
     ensures output { OnOk result (out.new.items ≡ out.old.items ++ output_of state.old number line) }
-    ensures state { OnOk result (state.new ≡ after_reading state.old line) }
+    ensures state { OnOk result (state.new ≡ after_read state.old line) }
 {
     match line {
         Line::Empty => Ok(()),
@@ -149,7 +164,7 @@ fn carry_out_read(
             push_line(alloc, out, &line_error(alloc, error, number)?)
         }
         Line::Asked(asked) => {
-            let reply = carry_out_request(alloc, state, asked)?;
+            let reply = reply_to(alloc, state, asked)?;
             push_line(alloc, out, &reply)
         }
     }

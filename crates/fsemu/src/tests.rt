@@ -1,3 +1,4 @@
+mod queries;
 mod rows;
 mod tables;
 
@@ -6,6 +7,7 @@ use crate::run::run;
 use fs_edge::{MemoryClock, MemoryDoors, MemorySink, MemorySource, Moments, Pace, Paces, Status};
 use fs_path::Bytes;
 use fs_time::Micros;
+use queries::{READS as READS_OF_MANY, REQUESTS};
 use rows::WRITES;
 use std::alloc::{AllocError, Global};
 use std::process::Abort;
@@ -142,6 +144,7 @@ fn a_request_at_fault_is_refused_at_its_place(rt: HostRuntime) -> Result<(), Fai
     each_is_refused(&rt, alloc, READS, "\"getDocument\":", "", 400, invalid)?;
     each_is_refused(&rt, alloc, COMMITS, "\"commit\":", "", 400, invalid)?;
     each_is_refused(&rt, alloc, FIELDS, A_COMMIT_OF, "}}}]}", 400, invalid)?;
+    each_is_refused(&rt, alloc, REQUESTS, "", "", 400, invalid)?;
     each_is_refused(&rt, alloc, UNBUILT, "", "", 501, "UNIMPLEMENTED")
 }
 
@@ -215,6 +218,11 @@ fn each_is_written(rt: &impl Abort, alloc: Global, table: &str) -> Result<(), Fa
 #[test]
 fn writes_are_carried_out_and_answered(rt: HostRuntime) -> Result<(), Fail> {
     each_is_written(&rt, rt.alloc(), WRITES)
+}
+
+#[test]
+fn queries_and_batch_reads_are_answered(rt: HostRuntime) -> Result<(), Fail> {
+    each_is_written(&rt, rt.alloc(), READS_OF_MANY)
 }
 
 /// A commit of so many deletes.

@@ -110,17 +110,17 @@ null -> G at commit.writes[0].update.fields.n
 {"arrayValue":{"values":[{"arrayValue":{}}]}} -> E7 at commit.writes[0]"#;
 
 /// Requests that are well formed and not built, and their refusals.
-pub const UNBUILT: &str = r#""runQuery":{} -> method runQuery
-"run_query":1 -> method runQuery
+pub const UNBUILT: &str =
+    r#""runQuery":{"parent":"~","structuredQuery":{},"readTime":"x"} -> method readTime
+"runQuery":{"parent":"~","structuredQuery":{},"transaction":1} -> method transaction
+"batchGetDocuments":{"database":"@","documents":["~/c/a"],"transaction":"x"} -> method transaction
 "beginTransaction":{} -> method beginTransaction
 "rollback":{} -> method rollback
 "listen":{} -> method listen
 "write":{} -> method write
 "createIndex":{} -> method createIndex
-"batchGetDocuments":{} -> method batchGetDocuments
 "createDocument":{} -> method createDocument
 "batchWrite":{} -> method batchWrite
-"getDocument":{"name":"~/c/a","mask":{}} -> method mask
 "getDocument":{"name":"~/c/a","transaction":""} -> method transaction
 "getDocument":{"name":"~/c/a","read_time":1} -> method readTime
 "commit":{"database":"@","transaction":1} -> method transaction

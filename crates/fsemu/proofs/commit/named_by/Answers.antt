@@ -1,9 +1,10 @@
-use Rattle.std.proofs.Common.{◌≡◌, ◌+◌, IfSome, sym, ap, ◌∙◌, subst, take}
+use Rattle.std.proofs.Common.{◌≡◌, ◌+◌, Some, IfSome, sym, ap, ◌∙◌, subst, take}
+use Rattle.std.specs.Prelude.{option_copied}
 use Rattle.std.specs.FinMap.{get, get-empty}
 use Rattle.fs_path.specs.NameOrder.{name_cmp}
 use Rattle.fsemu.proofs.Commits.{Shows, shows_found, shows_absent}
 use Rattle.fsemu.proofs.commit.named_by.Goals as goal
-use Rattle.fsemu.proofs.commit.named_by.Goals.{in-Some+in_ok-put-in-Some, in-None}
+use Rattle.fsemu.proofs.commit.named_by.Goals.{in-Some+in_ok-copy-in-Some+in_ok-put-in-Some, in-None}
 
 pub loop-write-init : goal.loop-write-init
 loop-write-init c = λ q. ap (λ m. get m q) c.new-there.ensures ∙ get-empty name_cmp q
@@ -15,12 +16,16 @@ loop-write-preserved c =
     let l = c.loop-write in
     let w = c.write-item.result in
     let n = c.name.result.now in
-    let value = c.in_ok-found.ensures.value in
-    let named = c.in_ok-found.ensures.named in
-    elim c.match-found.branch [
-      | in-Some+in_ok-put-in-Some x ↦
-          shows_found docs ws l.write-index w l.there c.loop-write-test.true c.write-item.is l.invariant x.in-Some.document n c.name.ensures (sym x.in-Some.is ∙ value) (subst (λ o. IfSome o (λ d. d.name ≡ n)) x.in-Some.is named)
-          c.match-found.there (x.there-is ∙ x.in_ok-put-in-Some.ensures.ok)
+    let value = c.get.ensures.value in
+    let named = c.get.ensures.named in
+    elim c.match-get.branch [
+      | in-Some+in_ok-copy-in-Some+in_ok-put-in-Some x ↦
+          let copied = x.in_ok-copy-in-Some.ensures in
+          shows_found docs ws l.write-index w l.there c.loop-write-test.true c.write-item.is l.invariant x.in_ok-copy-in-Some.field-0 n c.name.ensures
+          (ap Some copied ∙ ap option_copied (sym x.in-Some.is) ∙ value)
+          (ap (λ d. d.name) copied ∙ subst (λ o. IfSome o (λ d. d.now.name ≡ n)) x.in-Some.is named)
+          c.match-get.there (x.there-is ∙ x.in_ok-put-in-Some.ensures.ok)
       | in-None x ↦
-          subst (Shows docs (take (l.write-index + 1) ws)) (sym x.there-is) (shows_absent docs ws l.write-index w l.there c.loop-write-test.true c.write-item.is l.invariant n c.name.ensures (sym x.in-None.is ∙ value))
+          subst (Shows docs (take (l.write-index + 1) ws)) (sym x.there-is)
+          (shows_absent docs ws l.write-index w l.there c.loop-write-test.true c.write-item.is l.invariant n c.name.ensures (ap option_copied (sym x.in-None.is) ∙ value))
     ]

@@ -1,5 +1,5 @@
 use Rattle.std.proofs.Common.{◌+ℤ◌, pos}
-use Rattle.fsemu.proofs.Lawful.{changes_nothing, time_rises, lines_keep, one_line, nothing_written, read_back, last_newline}
+use Rattle.fsemu.proofs.Lawful.{changes_nothing, time_rises, lines_keep, one_line, nothing_written, shows_what_stands, last_newline}
 use Rattle.fsemu.proofs.laws.scripts_are_lawful.Goals as goal
 
 pub returns : goal.returns
@@ -10,6 +10,6 @@ returns c = record {
   unmade = λ s writes refusal is. c.batches_are_lawful.ensures.refused_stays s.documents writes (s.last +ℤ pos 1) refusal is;
   one_line = one_line;
   no_line = nothing_written;
-  read_back = read_back c.documents_read_back.ensures;
+  shown = shows_what_stands;
   newline = last_newline;
 }
