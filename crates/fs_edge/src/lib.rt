@@ -10,6 +10,7 @@ mod real;
 mod sink;
 mod source;
 mod status;
+mod steps;
 
 pub use clock::Clock;
 pub use doors::{Door, Doors};
@@ -24,3 +25,4 @@ pub use real::{RealSink, RealSource};
 pub use sink::{Gave, Sink};
 pub use source::{Source, Took};
 pub use status::Status;
+pub use steps::Steps;
