@@ -22,7 +22,6 @@ use Rattle.fs_value.specs.declared.fields.Field.{Field}
 use Rattle.fs_value.specs.declared.value.Value.{Value}
 use Rattle.fs_edit.specs.OpenView.{open_view, entry_view}
 use Rattle.fs_edit.specs.declared.open_fields.Open.{Open}
-use Rattle.fs_edit.specs.declared.open_fields.Open.TheVariants.{Whole}
 
 -- ---- in order
 

@@ -1,2 +1,5 @@
+pub mod Elements
 pub mod Entries
 pub mod Steps
+pub mod Together
+pub mod ValueSets

@@ -1,21 +1,24 @@
 -- A path of two names or more, from its first name on.
 use Rattle.std.proofs.Common.{◌≡◌, ◌≢◌, ℕ, ◌<◌, List, [], ◌∷◌, Result, Ok, Err, length, get_or, take, drop, ◌-◌, refl, sym, ap, ◌∙◌, arith}
-use Rattle.std.specs.Prelude.{IsTrue, Bool, true, false, cond, map, Option, Some, None, IfOk, OnOk, option_map, option_and_then, unwrap_or}
+use Rattle.std.specs.Prelude.{IsTrue, cond, map, Option, Some, None, IfOk, OnOk, option_map, option_and_then, unwrap_or}
 use Rattle.std.specs.Option.{option_map_or}
 use Rattle.std.specs.BTreeMap.{is_at}
 use Rattle.std.specs.Map.{lookup}
 use Rattle.std.specs.FinMap.{find, put, is_sorted}
 use Rattle.std.proofs.Math.Seq.{take-length}
 use Rattle.fs_path.specs.TextOrder.{text_cmp}
-use Rattle.fs_value.specs.Data.{Data, object, members_of}
+use Rattle.fs_value.specs.Data.{Data, null, array, object, items_of, members_of}
 use Rattle.fs_value.specs.DataLaws.{fields_of-members_of}
 use Rattle.fs_value.specs.FieldPaths.{map_of, map_fields, fields_under, fields_below, get_fields, set_fields, unset_fields, unset_below}
 use Rattle.fs_value.specs.View.{view}
 use Rattle.fs_value.specs.declared.value.Value.{Value}
 use Rattle.fs_value.specs.declared.value.Value.TheVariants.{Null, Boolean, Integer, Timestamp, String, Bytes, Reference, Array, Map}
 use Rattle.fs_edit.specs.Below.{value_below}
-use Rattle.fs_edit.specs.Get.{no_map}
+use Rattle.fs_edit.specs.FieldChange.{value_made}
+use Rattle.fs_edit.specs.Numbers.{integer_in}
 use Rattle.fs_edit.specs.OpenView.{open_view, entry_view}
+use Rattle.fs_edit.specs.declared.field_change.FieldChange.{FieldChange}
+use Rattle.fs_edit.specs.declared.field_change.FieldChange.TheVariants.{Set, Elements}
 use Rattle.fs_edit.specs.declared.open_fields.Open.{Open}
 use Rattle.fs_edit.proofs.Entries.{Rise, found, changed, put_same, rising}
 
@@ -65,10 +68,15 @@ get_more (n ∷ l ∷ ks) k fs more is =
     ∙ below l ks (find text_cmp k fs)
     ∙ ap (λ xs. option_and_then (value_below xs) (find text_cmp k fs)) (sym (rest_is n (l ∷ ks)))
 
--- below a map, but for the map itself
-pub get_map : (names : List (List ℕ)) (fs : List (List ℕ × Data)) → option_and_then no_map (get_fields names fs) ≡ option_and_then no_map (value_below names (object (members_of fs)))
+-- the integer below a map, which is none itself
+pub get_map : (names : List (List ℕ)) (fs : List (List ℕ × Data)) → integer_in (get_fields names fs) ≡ integer_in (value_below names (object (members_of fs)))
 get_map [] fs = refl
-get_map (k ∷ ks) fs = ap (λ xs. option_and_then no_map (get_fields (k ∷ ks) xs)) (sym (fields_of-members_of fs))
+get_map (k ∷ ks) fs = ap (λ xs. integer_in (get_fields (k ∷ ks) xs)) (sym (fields_of-members_of fs))
+
+-- an array is no integer, and none is below it
+pub get_array : (names : List (List ℕ)) (ds : List Data) → None ≡ integer_in (value_below names (array (items_of ds)))
+get_array [] ds = refl
+get_array (k ∷ ks) ds = ap integer_in (sym (get_nothing (k ∷ ks)))
 
 -- in a map that isn't opened
 pub within_map : (names : List (List ℕ)) (k : List ℕ) (d : Data) (fs : List (List ℕ × Data)) (o : Option Data) → 0 < length names → k ≡ get_or names 0 k → d ≡ object (members_of fs)
@@ -104,6 +112,16 @@ set_more [] k v fs more is = absurd (omega arith)
 set_more (n ∷ []) k v fs more is = absurd (omega arith)
 set_more (n ∷ l ∷ ks) k v fs more is = λ i. put text_cmp (sym is i) (map_of (set_fields (sym (rest_is n (l ∷ ks)) i) v (fields_below (find text_cmp (sym is i) fs)))) fs
 
+-- a change of a value, from its first name on
+pub change_more : (names : List (List ℕ)) (k : List ℕ) (c : FieldChange) (fs : List (List ℕ × Data)) → 1 < length names → k ≡ get_or names 0 k
+    → set_fields names (value_made c (get_fields names fs)) fs
+    ≡ put text_cmp k (map_of (set_fields (rest names) (value_made c (get_fields (rest names) (fields_below (find text_cmp k fs)))) (fields_below (find text_cmp k fs)))) fs
+change_more [] k c fs more is = absurd (omega arith)
+change_more (n ∷ []) k c fs more is = absurd (omega arith)
+change_more (n ∷ l ∷ ks) k c fs more is =
+    set_more (n ∷ l ∷ ks) k (value_made c (get_fields (n ∷ l ∷ ks) fs)) fs more is
+    ∙ (λ i. put text_cmp k (map_of (set_fields (rest (n ∷ l ∷ ks)) (value_made c (get_fields (sym (rest_is n (l ∷ ks)) i) (fields_below (find text_cmp (sym is i) fs)))) (fields_below (find text_cmp k fs)))) fs)
+
 pub unset_more : (names : List (List ℕ)) (k : List ℕ) (fs : List (List ℕ × Data)) → 1 < length names → k ≡ get_or names 0 k
     → unset_fields names fs ≡ option_map_or (λ ms. put text_cmp k (map_of (unset_fields (rest names) ms)) fs) (fields_under k fs) fs
 unset_more [] k fs more is = absurd (omega arith)
@@ -112,16 +130,16 @@ unset_more (n ∷ l ∷ ks) k fs more is = λ i. option_map_or (λ ms. put text_
 
 -- ---- at a key that is there
 
--- a value with another set below it
-pub set_there : (names : List (List ℕ)) (key : List ℕ) (v : Data) (es fs : List (List ℕ × Open)) (was now : Open) → 1 < length names → key ≡ get_or names 0 key → Rise es → Rise fs
+-- a value with a change below it
+pub change_there : (names : List (List ℕ)) (key : List ℕ) (c : FieldChange) (es fs : List (List ℕ × Open)) (was now : Open) → 1 < length names → key ≡ get_or names 0 key → Rise es → Rise fs
     → lookup (is_at (text_cmp key)) es ≡ Some was → ((q : List ℕ) → lookup (is_at (text_cmp q)) fs ≡ cond (is_at (text_cmp key) q) (Some now) (lookup (is_at (text_cmp q)) es))
-    → open_view now ≡ map_of (set_fields (rest names) v (fields_below (Some (open_view was))))
-    → map entry_view fs ≡ set_fields names v (map entry_view es)
-set_there names key v es fs was now more first old new there is set =
+    → open_view now ≡ map_of (set_fields (rest names) (value_made c (get_fields (rest names) (fields_below (Some (open_view was))))) (fields_below (Some (open_view was))))
+    → map entry_view fs ≡ set_fields names (value_made c (get_fields names (map entry_view es))) (map entry_view es)
+change_there names key c es fs was now more first old new there is set =
     changed es fs key now old new is
     ∙ ap (λ d. put text_cmp key d (map entry_view es)) set
-    ∙ ap (λ o. put text_cmp key (map_of (set_fields (rest names) v (fields_below o))) (map entry_view es)) (sym (found es key ∙ ap (option_map open_view) there))
-    ∙ sym (set_more names key v (map entry_view es) more first)
+    ∙ ap (λ o. put text_cmp key (map_of (set_fields (rest names) (value_made c (get_fields (rest names) (fields_below o))) (fields_below o))) (map entry_view es)) (sym (found es key ∙ ap (option_map open_view) there))
+    ∙ sym (change_more names key c (map entry_view es) more first)
 
 -- without what is below it, or as it was
 unset_value : (names : List (List ℕ)) (key : List ℕ) (d : Data) (fs : List (List ℕ × Data)) (o : Option (List (List ℕ × Data))) → IsTrue (is_sorted text_cmp fs) → find text_cmp key fs ≡ Some d
@@ -144,12 +162,21 @@ unset_there names key es fs was now more first old new there is unset =
 
 -- ---- at a key that isn't there
 
-pub set_missing : (names : List (List ℕ)) (key : List ℕ) (v made : Data) (fs : List (List ℕ × Data)) → 1 < length names → key ≡ get_or names 0 key → find text_cmp key fs ≡ None
-    → made ≡ map_of (set_fields (rest names) v []) → put text_cmp key made fs ≡ set_fields names v fs
-set_missing names key v made fs more first missing is =
+-- a value put at a copy of the key, in the same fields
+pub put_alike : (key copy : List ℕ) (d : Data) (fs same new : List (List ℕ × Data)) → copy ≡ key → same ≡ fs → new ≡ put text_cmp copy d same → new ≡ put text_cmp key d fs
+put_alike key copy d fs same new copied are is = is ∙ (λ i. put text_cmp (copied i) d (are i))
+
+-- a change makes of null what it makes of no value
+pub made_of_null : (c : FieldChange) → value_made c (Some null) ≡ value_made c None
+made_of_null (Set v) = refl
+made_of_null (Elements c) = refl
+
+pub change_missing : (names : List (List ℕ)) (key : List ℕ) (c : FieldChange) (made : Data) (fs : List (List ℕ × Data)) → 1 < length names → key ≡ get_or names 0 key → find text_cmp key fs ≡ None
+    → made ≡ map_of (set_fields (rest names) (value_made c (get_fields (rest names) [])) []) → put text_cmp key made fs ≡ set_fields names (value_made c (get_fields names fs)) fs
+change_missing names key c made fs more first missing is =
     ap (λ d. put text_cmp key d fs) is
-    ∙ ap (λ o. put text_cmp key (map_of (set_fields (rest names) v (fields_below o))) fs) (sym missing)
-    ∙ sym (set_more names key v fs more first)
+    ∙ ap (λ o. put text_cmp key (map_of (set_fields (rest names) (value_made c (get_fields (rest names) (fields_below o))) (fields_below o))) fs) (sym missing)
+    ∙ sym (change_more names key c fs more first)
 
 pub unset_missing : (names : List (List ℕ)) (key : List ℕ) (fs : List (List ℕ × Data)) → 1 < length names → key ≡ get_or names 0 key → find text_cmp key fs ≡ None → fs ≡ unset_fields names fs
 unset_missing names key fs more first missing =

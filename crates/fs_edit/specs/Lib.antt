@@ -1,4 +1,8 @@
-pub mod OpenView
-pub mod Falls
-pub mod Get
+pub mod ArrayChanges
+pub mod Arrays
 pub mod Below
+pub mod Closing
+pub mod Falls
+pub mod FieldChange
+pub mod Numbers
+pub mod OpenView

@@ -1,7 +1,11 @@
 //! The fields of a document, opened for any number of changes at field paths.
 #![tactic(auto)]
 
-mod get;
+mod array_change;
+mod closing;
+mod field_change;
+mod integer;
+mod open_array;
 mod open_fields;
 mod set;
 mod unset;

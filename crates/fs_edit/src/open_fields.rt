@@ -1,24 +1,28 @@
 //! Opened fields, and how they are opened and closed.
+use crate::field_change::FieldChange;
+use crate::open_array::OpenArray;
 use fs_path::Text;
-use fs_value::{Field, Fields, Value};
+use fs_value::{Field, Fields, Value, Values};
 use std::alloc::{AllocError, Global};
 use std::collections::BTreeMap;
 use std::marker::Model;
 
-/// The value of an opened field. A map is opened only where a path leads into it.
+/// The value of an opened field. A map is opened only where a path leads into it, an array where its elements are changed.
 #[cycle(open)]
 #[derive(Drop, Debug)]
 pub(crate) enum Open {
     Whole(Value),
     Map(OpenFields),
+    Array(OpenArray),
 }
 
 /// Fields that are opened for changes: each takes the logarithm of their number, where `Fields` move what stands behind
 /// a field that is put in or taken out. Contracts see them as `Fields`, a list of pairs whose keys rise:
 ///
-///     opened                {a: {b: 1, c: 2}, d: 3}      `a` is one whole value
-///     after a.b is set      {a: {b: 5, c: 2}, d: 3}      `a` is opened too
-///     closed                {a: {b: 5, c: 2}, d: 3}
+///     opened                    {a: {b: 1, c: 2}, d: [3]}         `a` and `d` are whole values
+///     a.b is set to 5           {a: {b: 5, c: 2}, d: [3]}         `a` is opened too
+///     3, 4 appended to d        {a: {b: 5, c: 2}, d: [3, 4]}      `d` is opened, with a change that waits
+///     closed                    {a: {b: 5, c: 2}, d: [3, 4]}
 #[cycle(open)]
 #[derive(Drop, Debug)]
 pub struct OpenFields {
@@ -104,6 +108,8 @@ impl Open {
     ghost use Rattle.std.specs.Prelude.{◌≡◌, IfOk, Some};
     ghost use Rattle.fs_value.specs.FieldPaths.{fields_below};
     ghost use Rattle.fs_value.specs.View.{view};
+    ghost use Rattle.fs_edit.specs.Arrays.{elements_in};
+    ghost use Rattle.fs_edit.specs.FieldChange.{value_made};
     ghost use Rattle.fs_edit.specs.OpenView.{open_view};
 
     #[cycle(close)]
@@ -113,6 +119,7 @@ impl Open {
         match self {
             Open::Whole(value) => Ok(value),
             Open::Map(fields) => Ok(Value::Map(fields.close(alloc)?)),
+            Open::Array(array) => Ok(Value::Array(array.close(alloc)?)),
         }
     }
 
@@ -123,7 +130,33 @@ impl Open {
         match self {
             Open::Map(fields) => Ok(fields),
             Open::Whole(Value::Map(fields)) => OpenFields::open(alloc, fields),
-            Open::Whole(_) => OpenFields::open(alloc, Fields::new(alloc)),
+            _ => OpenFields::open(alloc, Fields::new(alloc)),
+        }
+    }
+
+    // The elements of an array, opened, or none of a value that is no array.
+    #[tactic(auto, using(crate::proofs::Elements::array_elements))]
+    fn into_array(self, alloc: Global) -> OpenArray
+        ensures { result ≡ elements_in (Some (open_view self)) }
+    {
+        match self {
+            Open::Array(array) => array,
+            Open::Whole(Value::Array(elements)) => OpenArray::of(alloc, elements),
+            _ => OpenArray::of(alloc, Values::new(alloc)),
+        }
+    }
+
+    // What a change makes of a value.
+    pub(crate) fn changed(self, alloc: Global, change: FieldChange) -> Result<Open, AllocError>
+        ensures { IfOk result (λ o. open_view o ≡ value_made change (Some (open_view self))) }
+    {
+        match change {
+            FieldChange::Set(value) => Ok(Open::Whole(value)),
+            FieldChange::Elements(change) => {
+                let mut array = self.into_array(alloc);
+                array.change(change)?;
+                Ok(Open::Array(array))
+            }
         }
     }
 }

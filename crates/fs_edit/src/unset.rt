@@ -56,6 +56,6 @@ fn is_map(place: &Open) -> bool
     match place {
         Open::Map(_) => true,
         Open::Whole(Value::Map(_)) => true,
-        Open::Whole(_) => false,
+        _ => false,
     }
 }

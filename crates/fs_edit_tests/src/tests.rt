@@ -2,7 +2,7 @@
 use crate::tables::{CHANGED, FOUND};
 use fs_edit::OpenFields;
 use fs_path::{FieldPath, Text, parse_field};
-use fs_value::{Fields, Value, Values, fields_same, same};
+use fs_value::{Fields, Value, Values, fields_same};
 use std::alloc::{AllocError, Global};
 use std::mem::replace;
 use std::test::Fail;
@@ -16,6 +16,7 @@ fn key(alloc: Global, c: char) -> Result<Text, AllocError> {
 fn read(alloc: Global, text: &str) -> Result<Fields, AllocError> {
     let mut outer: Vec<(Text, Fields)> = Vec::new(alloc);
     let mut fields = Fields::new(alloc);
+    let mut elements = None;
     let mut last = 'a';
     for c in text.trim().chars() {
         match c {
@@ -26,10 +27,16 @@ fn read(alloc: Global, text: &str) -> Result<Fields, AllocError> {
                     fields.put(name, Value::Map(inner))?;
                 }
             }
-            '[' => fields.put(key(alloc, last)?, Value::Array(Values::new(alloc)))?,
-            _ => match c.to_digit(10) {
-                Some(n) => fields.put(key(alloc, last)?, Value::Integer(i64::from(n)))?,
-                None => last = c,
+            '[' => elements = Some(Values::new(alloc)),
+            ']' => {
+                if let Some(values) = elements.take() {
+                    fields.put(key(alloc, last)?, Value::Array(values))?;
+                }
+            }
+            _ => match (c.to_digit(10), &mut elements) {
+                (Some(n), Some(values)) => values.push(Value::Integer(i64::from(n)))?,
+                (Some(n), None) => fields.put(key(alloc, last)?, Value::Integer(i64::from(n)))?,
+                (None, _) => last = c,
             },
         }
     }
@@ -52,9 +59,26 @@ fn path(alloc: Global, text: &str) -> Result<FieldPath, AllocError> {
     }
 }
 
+// Numbers of one digit.
+fn numbers(alloc: Global, text: &str) -> Result<Values, AllocError> {
+    let mut values = Values::new(alloc);
+    for c in text.trim().chars() {
+        if let Some(n) = c.to_digit(10) {
+            values.push(Value::Integer(i64::from(n)))?;
+        }
+    }
+    Ok(values)
+}
+
 fn changed(alloc: Global, fields: OpenFields, change: &str) -> Result<OpenFields, AllocError> {
     if let Some(taken) = change.trim().strip_prefix('-') {
         return fields.unset(alloc, &path(alloc, taken)?);
+    }
+    if let Some((at, given)) = change.split_once('+') {
+        return fields.append_missing(alloc, &path(alloc, at)?, &numbers(alloc, given)?);
+    }
+    if let Some((at, given)) = change.split_once('~') {
+        return fields.remove_all(alloc, &path(alloc, at)?, &numbers(alloc, given)?);
     }
     match change.split_once('=') {
         Some((at, given)) => match value(alloc, given)? {
@@ -86,14 +110,12 @@ fn is_changed(alloc: Global, line: &str) -> Result<bool, AllocError> {
 fn is_found(alloc: Global, line: &str) -> Result<bool, AllocError> {
     let (given, wanted) = line.split_once("=>").unwrap_or((line, ""));
     let (fields, at) = given.split_once('?').unwrap_or((given, "a"));
-    let fields = after(alloc, fields)?;
-    let found = fields.get(&path(alloc, at)?);
-    let wanted = value(alloc, wanted)?;
-    Ok(match (found, &wanted) {
-        (Some(v), Some(w)) => same(v, w),
-        (None, None) => true,
-        _ => false,
-    })
+    let found = after(alloc, fields)?.integer_at(&path(alloc, at)?);
+    let wanted = match value(alloc, wanted)? {
+        Some(Value::Integer(n)) => Some(n),
+        _ => None,
+    };
+    Ok(found == wanted)
 }
 
 #[test]
@@ -105,7 +127,7 @@ fn changes_of_opened_fields(rt: HostRuntime) -> Result<(), Fail> {
 }
 
 #[test]
-fn values_in_opened_fields(rt: HostRuntime) -> Result<(), Fail> {
+fn integers_in_opened_fields(rt: HostRuntime) -> Result<(), Fail> {
     for line in FOUND.lines() {
         assert!(rt; line.is_empty() || is_found(rt.alloc(), line)?, "{line}");
     }

@@ -1,5 +1,5 @@
 -- What a commit changes, told by the documents before and after it.
-use Rattle.std.proofs.Common.{◌≡◌, ℤ, Bool, true, false, cond, List, [], ◌∷◌, Option, Some, None, Result, Ok, Err, refl, sym, ap, ◌∙◌, subst}
+use Rattle.std.proofs.Common.{◌≡◌, ℤ, Bool, true, false, cond, List, [], ◌∷◌, Option, Some, None, Result, Ok, Err, refl, sym, ap, ◌∙◌}
 use Rattle.std.specs.FinMap.{get}
 use Rattle.fs_path.specs.declared.name.DocName.{DocName}
 use Rattle.fs_status.specs.declared.refusal.Refusal.{Refusal}

@@ -13,7 +13,7 @@ use Rattle.std.proofs.Math.Seq.{take-append_seam}
 use Rattle.fs_value.specs.Data.{Data}
 use Rattle.fs_value.specs.ValueOrder.{value_cmp}
 use Rattle.fs_value.specs.ValueOrderLaws.{value_cmp_total, value_same}
-use Rattle.fs_write.specs.Operation.{has_value, append_missing, remove_all}
+use Rattle.fs_edit.specs.Arrays.{has_value, append_missing, remove_all}
 
 -- ---- whether a value is among these
 

@@ -2,13 +2,10 @@ pub mod AfterChanges
 pub mod AfterLaws
 pub mod Arrays
 pub mod BatchLaws
-pub mod Elements
 pub mod Fields
-pub mod Lent
 pub mod Names
 pub mod Numbers
 pub mod Overlaps
 pub mod StageChanges
 pub mod Stages
-pub mod ValueSets
 pub mod WriteLaws

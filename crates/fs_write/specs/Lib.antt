@@ -9,5 +9,4 @@ pub mod Rules
 pub mod Staging
 pub mod Transforms
 pub mod ValueRules
-pub mod ValueSets
 pub mod WrittenName

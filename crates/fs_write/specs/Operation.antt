@@ -7,13 +7,12 @@
 --     3      maximum 4                      4, reported 4
 --     [1]    append missing 1, 2, 2         [1, 2], reported null
 --     [1, 2, 1]    remove all 1             [2], reported null
-use Rattle.std.specs.Prelude.{Bool, not, ℤ, pos, neg_ℤ, ◌+ℤ◌, ◌*ℤ◌, ◌≤ℤ◌, List, [], ◌∷◌, ◌++◌, Option, Some, None, if◌then◌else◌}
+use Rattle.std.specs.Prelude.{ℤ, pos, neg_ℤ, ◌+ℤ◌, ◌*ℤ◌, ◌≤ℤ◌, Option}
 use Rattle.std.specs.Int.{int_max, int_min, int_div_euclid}
-use Rattle.std.specs.List.{list_any, filter}
 use Rattle.std.specs.Option.{option_map_or}
-use Rattle.std.specs.Ordering.{eq_by_cmp}
-use Rattle.fs_value.specs.Data.{Data, null, integer, timestamp, array, items_of, list_of}
-use Rattle.fs_value.specs.ValueOrder.{value_cmp}
+use Rattle.fs_value.specs.Data.{Data, null, integer, timestamp, array, items_of}
+use Rattle.fs_edit.specs.Arrays.{elements_in, append_missing, remove_all}
+use Rattle.fs_edit.specs.Numbers.{integer_in}
 use Rattle.fs_write.specs.declared.transform.Operation.{Operation}
 use Rattle.fs_write.specs.declared.transform.Operation.TheVariants.{RequestTime, Increment, Maximum, Minimum, AppendMissing, RemoveAll}
 
@@ -34,11 +33,6 @@ IsInteger n = (least_integer ≤ℤ n) × (n ≤ℤ greatest_integer)
 abbrev pub saturated : ℤ → ℤ
 saturated n = int_max least_integer (int_min greatest_integer n)
 
--- the integer that is there
-abbrev pub integer_in : Option Data → Option ℤ
-integer_in (Some (integer n)) = Some n
-integer_in there = None
-
 -- the microseconds of a millisecond
 abbrev pub millisecond : ℤ
 millisecond = pos 1000
@@ -46,26 +40,6 @@ millisecond = pos 1000
 -- a time rounded down to milliseconds
 abbrev pub whole_milliseconds : ℤ → ℤ
 whole_milliseconds t = int_div_euclid t millisecond *ℤ millisecond
-
--- ---- arrays
-
--- the elements of the array that is there
-abbrev pub elements_in : Option Data → List Data
-elements_in (Some (array ds)) = list_of ds
-elements_in there = []
-
--- whether a value is among these
-abbrev pub has_value : List Data → Data → Bool
-has_value ds d = list_any (eq_by_cmp value_cmp d) ds
-
--- each of the second elements is appended in its turn, unless it is there by then
-abbrev pub append_missing : List Data → List Data → List Data
-append_missing there [] = there
-append_missing there (d ∷ ds) = append_missing (if has_value there d then there else there ++ d ∷ []) ds
-
--- the first elements that aren't among the second
-abbrev pub remove_all : List Data → List Data → List Data
-remove_all there ds = filter (λ d. not (has_value ds d)) there
 
 -- ---- operations
 

@@ -1,12 +1,14 @@
 //! The transforms of a write, made in their order.
 ghost use Rattle.std.specs.Prelude.{◌≡◌, IfOk, OnOk};
+ghost use Rattle.fs_value.specs.FieldPaths.{set_fields};
 ghost use Rattle.fs_value.specs.View.{view};
 ghost use Rattle.fs_write.specs.Operation.{reported};
 ghost use Rattle.fs_write.specs.Transforms.{value_set, fields_after, transformed, transform_results};
 
-use crate::operation::value_after;
+use crate::operation::{incremented, larger, smaller, whole_milliseconds};
 use crate::transform::{Operation, Transform, Transforms};
 use fs_edit::OpenFields;
+use fs_path::FieldPath;
 use fs_time::Micros;
 use fs_value::{Fields, Value, Values};
 use std::alloc::{AllocError, Global};
@@ -45,20 +47,45 @@ fn apply(
     ensures fields { IfOk result (λ r. r.0 ≡ fields_after transform.now time fields) }
     ensures result { IfOk result (λ r. view r.1 ≡ reported transform.now.operation (value_set transform.now time fields)) }
 {
-    let operation = &transform.operation;
-    let value = value_after(alloc, operation, time, fields.get(&transform.path))?;
-    let result = reported(alloc, operation, &value)?;
-    let after = fields.set(alloc, &transform.path, value)?;
-    Ok((after, result))
+    let path = &transform.path;
+    match &transform.operation {
+        Operation::RequestTime => {
+            let now = Value::Timestamp(whole_milliseconds(time));
+            set(alloc, fields, path, now)
+        }
+        Operation::Increment(n) => {
+            let number = incremented(fields.integer_at(path), *n);
+            set(alloc, fields, path, Value::Integer(number))
+        }
+        Operation::Maximum(n) => {
+            let number = larger(fields.integer_at(path), *n);
+            set(alloc, fields, path, Value::Integer(number))
+        }
+        Operation::Minimum(n) => {
+            let number = smaller(fields.integer_at(path), *n);
+            set(alloc, fields, path, Value::Integer(number))
+        }
+        Operation::AppendMissing(values) => {
+            let after = fields.append_missing(alloc, path, values)?;
+            Ok((after, Value::Null))
+        }
+        Operation::RemoveAll(values) => {
+            let after = fields.remove_all(alloc, path, values)?;
+            Ok((after, Value::Null))
+        }
+    }
 }
 
-// What is reported of an operation that made this value.
-fn reported(alloc: Global, operation: &Operation, value: &Value) -> Result<Value, AllocError>
-    ensures { IfOk result (λ r. view r ≡ reported operation.now (view value.now)) }
+// Sets a value, which is also the result.
+fn set(
+    alloc: Global,
+    fields: OpenFields,
+    path: &FieldPath,
+    value: Value,
+) -> Result<(OpenFields, Value), AllocError>
+    ensures fields { IfOk result (λ r. r.0 ≡ set_fields path.now.parts (view value) fields) }
+    ensures result { IfOk result (λ r. view r.1 ≡ view value) }
 {
-    match operation {
-        Operation::AppendMissing(_) => Ok(Value::Null),
-        Operation::RemoveAll(_) => Ok(Value::Null),
-        _ => value.copy(alloc),
-    }
+    let result = value.copy(alloc)?;
+    Ok((fields.set(alloc, path, value)?, result))
 }

@@ -2,7 +2,8 @@
 ghost use Rattle.std.specs.Prelude.{◌≡◌, ℕ, ◌≤◌, ℤ, ◌+ℤ◌, ◌*ℤ◌, ◌≤ℤ◌, ◌<ℤ◌, ◌⊎◌, List, ◌∷◌, ◌++◌, Some, length, take};
 ghost use Rattle.std.specs.List.{Contains};
 ghost use Rattle.fs_value.specs.Data.{Data, integer};
-ghost use Rattle.fs_write.specs.Operation.{IsInteger, least_integer, greatest_integer, millisecond, whole_milliseconds, append_missing, remove_all, value_after};
+ghost use Rattle.fs_edit.specs.Arrays.{append_missing, remove_all};
+ghost use Rattle.fs_write.specs.Operation.{IsInteger, least_integer, greatest_integer, millisecond, whole_milliseconds, value_after};
 ghost use Rattle.fs_write.specs.declared.transform.Operation.TheVariants.{Increment, Maximum, Minimum};
 
 /// The laws of operations, for all values and operands. An increment gives the sum where 64 bits hold it, and else the end

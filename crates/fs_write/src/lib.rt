@@ -2,7 +2,6 @@
 #![tactic(auto)]
 
 mod apply;
-mod array;
 mod batch;
 mod change;
 mod laws;
@@ -11,6 +10,7 @@ mod one_write;
 mod operation;
 mod overlap;
 mod rules;
+mod timed_change;
 mod transform;
 mod value_rules;
 mod write;
@@ -24,6 +24,7 @@ pub use laws::operations_are_lawful;
 pub use limits::LONGEST_TRANSFORM_PATH;
 pub use overlap::overlap_with;
 pub use rules::{check, check_with};
+pub use timed_change::{TimedChange, TimedChanges};
 pub use transform::{Operation, Transform, Transforms};
 pub use write::{Act, Precondition, Write, Writes};
 pub use write_laws::{batches_are_lawful, writes_are_lawful};

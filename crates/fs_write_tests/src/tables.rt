@@ -1,7 +1,7 @@
 //! What the tests of transforms and rules expect, worked out by hand from the v1 reference.
 
 /// The fields before, the transforms, the fields after and the results. The time of the commit is 2024-01-01T00:00:00.123456Z.
-pub const TRANSFORMED: [(&str, &str, &str, &str); 48] = [
+pub const TRANSFORMED: [(&str, &str, &str, &str); 51] = [
     // increment: the sum, up to the ends of 64 bits
     ("n: 3", "n increment 4", "n: 7", "7"),
     ("n: 3", "n increment -4", "n: -1", "-1"),
@@ -113,6 +113,19 @@ pub const TRANSFORMED: [(&str, &str, &str, &str); 48] = [
         "null null null",
     ),
     ("", "a.b maximum 5; a remove 1", "a: [ ]", "5 null"),
+    (
+        "a: [ 1 2 ]",
+        "a append 3; a remove 1; a append 1 3; a remove 2",
+        "a: [ 3 1 ]",
+        "null null null null",
+    ),
+    ("a: [ 1 ]", "a append 2; a increment 3", "a: 3", "null 3"),
+    (
+        "a: [ 1 ]",
+        "a append 2; a.b append 3; a.b append 4",
+        "a: { b: [ 3 4 ] }",
+        "null null null",
+    ),
     // at paths
     (
         "a: { b: 1 c: 2 }",

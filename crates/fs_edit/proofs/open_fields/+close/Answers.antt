@@ -1,4 +1,4 @@
-use Rattle.std.proofs.Common.{ap, sym, subst}
+use Rattle.std.proofs.Common.{sym, subst}
 use Rattle.fs_edit.proofs.Entries.{Rise, closed_rising}
 use Rattle.fs_edit.proofs.open_fields.+close.Goals as goal
 

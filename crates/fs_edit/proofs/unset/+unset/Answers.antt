@@ -1,5 +1,5 @@
 use Rattle.std.proofs.Common.{◌<◌, ap, sym, ◌∙◌, subst, length, arith}
-use Rattle.std.specs.Prelude.{refl, ℕ, List, Some, None, IsSome, map, option_map}
+use Rattle.std.specs.Prelude.{refl, ℕ, List, IsSome, map, option_map}
 use Rattle.std.specs.BTreeMap.{BTreeMap}
 use Rattle.std.specs.FinMap.{find}
 use Rattle.fs_path.specs.TextOrder.{text_cmp}

@@ -1,7 +1,7 @@
-use Rattle.std.proofs.Common.{◌≡◌, ◌+◌, length, ap, sym, ◌∙◌, subst, map, arith}
+use Rattle.std.proofs.Common.{length, ap, sym, ◌∙◌, subst, map, arith}
 use Rattle.std.specs.Prelude.{IsTrue}
 use Rattle.std.specs.FinMap.{is_sorted}
-use Rattle.std.specs.Vec.Iter.{into_iter_items, into_iter_len}
+use Rattle.std.specs.Vec.Iter.{into_iter_items}
 use Rattle.fs_path.specs.TextOrder.{text_cmp}
 use Rattle.fs_value.specs.View.{field_view}
 use Rattle.fs_edit.proofs.Entries.{moved_more}
