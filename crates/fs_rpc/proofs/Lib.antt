@@ -4,3 +4,10 @@ pub mod Named
 pub mod Put
 pub mod Once
 pub mod Structured
+pub mod Parents
+pub mod CommitAgain
+pub mod GetAgain
+pub mod BatchGetAgain
+pub mod RunQueryAgain
+pub mod RequestAgain
+pub mod RequestFloats

@@ -1,6 +1,6 @@
 -- The id by which an answer is told from others.
 use Rattle.std.specs.Prelude.{ℕ, List, [], Option, Some, None, Result, Ok, codes}
-use Rattle.serde_json.specs.Data.{Data}
+use Rattle.serde_json.specs.Data.{Data, string, Members, put}
 use Rattle.serde_json.specs.Find.{as_str}
 use Rattle.fs_path.specs.declared.place.Rule.TheVariants.{G}
 use Rattle.fs_json.specs.Answer.{or_fault, ◌>>=◌}
@@ -15,3 +15,8 @@ text_if_there (Some d) place = or_fault G place (as_str d) >>= λ text. Ok (Some
 -- the id of a request or of its answer
 abbrev pub id_at : Data → Result (Option (List ℕ)) Bad
 id_at d = member_at (codes "id") d [] >>= λ given. text_if_there given (codes "id")
+
+-- the id, where there is one, at its place in the order of names
+abbrev pub with_id_put : Option (List ℕ) → Members → Members
+with_id_put None others = others
+with_id_put (Some id) others = put (codes "id") (string id) others

@@ -6,4 +6,8 @@ pub mod MessageJson
 pub mod ReadResults
 pub mod ReadMessage
 pub mod ValidMessage
+pub mod Steps
 pub mod MessageSteps
+pub mod RequestJson
+pub mod ValidRequest
+pub mod RequestSteps

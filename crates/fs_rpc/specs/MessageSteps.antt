@@ -1,8 +1,8 @@
--- What only private clauses cite: the members of a message that is written, put in one after another, and that the parts
--- of it, as they are written, are read back.
-use Rattle.std.specs.Prelude.{ℕ, ℤ, List, Option, Some, None, codes}
+-- What only private clauses cite: a part of a message as its members are put in one after another, and that the parts of it,
+-- as they are written, are read back.
+use Rattle.std.specs.Prelude.{ℕ, ℤ, List, codes}
 use Rattle.std.specs.List.{AllByRecursion}
-use Rattle.serde_json.specs.Data.{Data, string, array, object, Items, no_items, item, Members, no_members, put}
+use Rattle.serde_json.specs.Data.{Data, object, no_members, put}
 use Rattle.fs_json.specs.Time.{time_json}
 use Rattle.fs_valjson.specs.Valid.{IsTimeHeld}
 use Rattle.fs_writejson.specs.Results.{IsResultHeld}
@@ -10,16 +10,6 @@ use Rattle.fs_rpc.specs.declared.message.BatchAnswer.{BatchAnswer}
 use Rattle.fs_rpc.specs.declared.message.BatchAnswer.TheVariants.{Found, Missing}
 use Rattle.fs_rpc.specs.declared.message.Message.{Message}
 use Rattle.fs_rpc.specs.declared.message.Message.TheVariants.{Commit, GetDocument, BatchGetDocuments, RunQuery, Error}
-
--- the id, where there is one
-abbrev pub with_id_put : Option (List ℕ) → Members → Members
-with_id_put None others = others
-with_id_put (Some id) others = put (codes "id") (string id) others
-
--- results, where there are some
-abbrev pub with_results_put : Items → Members → Members
-with_results_put no_items others = others
-with_results_put (item d ds) others = put (codes "writeResults") (array (item d ds)) others
 
 -- an object of this member and the time of the read
 abbrev pub timed_put : List ℕ → Data → ℤ → Data

@@ -1,6 +1,6 @@
 -- The requests that are built, as proto3 JSON: what each reads as, or the first place in the walk where it is at fault.
 -- (v1 reference: `CommitRequest`, `GetDocumentRequest`, `BatchGetDocumentsRequest`, `RunQueryRequest`.)
-use Rattle.std.specs.Prelude.{ℕ, Bool, List, [], ◌∷◌, ◌++◌, Option, Some, None, Result, Ok, Err, codes, if◌then◌else◌, ⊤}
+use Rattle.std.specs.Prelude.{ℕ, List, [], ◌∷◌, ◌++◌, Option, Some, None, Result, Ok, Err, codes, if◌then◌else◌, ⊤}
 use Rattle.std.specs.List.{list_any}
 use Rattle.std.specs.Option.{option_map_or}
 use Rattle.std.specs.Str.{bytes_eq}

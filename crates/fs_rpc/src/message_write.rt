@@ -10,15 +10,17 @@ ghost use Rattle.fs_json.specs.Time.{time_json};
 ghost use Rattle.fs_valjson.specs.Valid.{IsTimeHeld};
 ghost use Rattle.fs_writejson.specs.Results.{result_json, IsResultHeld};
 ghost use Rattle.fs_rpc.specs.MessageJson.{batch_answer_json, commit_json, error_json, error_members, message_json, message_json_on, message_members, query_answer_json, query_answers_json, result_members};
-ghost use Rattle.fs_rpc.specs.MessageSteps.{IsAnswerHeld, IsMessageHeld, timed_put, with_id_put, with_results_put};
+ghost use Rattle.fs_rpc.specs.MessageSteps.{IsAnswerHeld, IsMessageHeld, timed_put};
 ghost use Rattle.fs_rpc.specs.ReadMessage.{message_of};
 ghost use Rattle.fs_rpc.specs.ValidMessage.{IsMessageOf};
 
+use crate::id::put_id;
+use crate::list::put_list;
 use crate::message::{BatchAnswer, Message};
 use crate::names::{
-    COMMIT_TIME, DOCUMENT, ERROR, FOUND, ID, MISSING, READ_TIME, RESULT, SESSION, WRITE_RESULTS,
+    COMMIT_TIME, DOCUMENT, ERROR, FOUND, MISSING, READ_TIME, RESULT, SESSION, WRITE_RESULTS,
 };
-use fs_json::{write_text, write_time};
+use fs_json::write_time;
 use fs_path::{Text, print_document};
 use fs_status::Code;
 use fs_time::Micros;
@@ -131,21 +133,6 @@ fn with_error(
     Ok(members)
 }
 
-/// Puts in the id, where there is one.
-fn put_id(
-    alloc: Global,
-    members: &mut Map<String, Value>,
-    id: &Option<Text>,
-) -> Result<(), AllocError>
-    ensures { OnOk result (members_view members.new.entries
-        ≡ with_id_put id.now (members_view members.old.entries)) }
-{
-    match id {
-        Some(id) => serde_json::put(members, alloc, ID, write_text(alloc, id)?),
-        None => Ok(()),
-    }
-}
-
 /// What a commit is answered. Results that are none are left out. (v1 reference, `CommitResponse`.)
 fn write_commit(alloc: Global, time: Micros, results: &[WriteResult]) -> Result<Value, AllocError>
     ensures value { IfOk result (λ j. json j ≡ commit_json time results.now) }
@@ -154,22 +141,8 @@ fn write_commit(alloc: Global, time: Micros, results: &[WriteResult]) -> Result<
     let mut members = Map::new(alloc);
     serde_json::put(&mut members, alloc, COMMIT_TIME, moment(alloc, time)?)?;
     let written = write_results(alloc, results)?;
-    put_results(alloc, &mut members, written)?;
+    put_list(alloc, &mut members, WRITE_RESULTS, written)?;
     Ok(Value::Object(members))
-}
-
-fn put_results(
-    alloc: Global,
-    members: &mut Map<String, Value>,
-    results: Vec<Value>,
-) -> Result<(), AllocError>
-    ensures { OnOk result (members_view members.new.entries
-        ≡ with_results_put (items_view results.items) (members_view members.old.entries)) }
-{
-    if results.is_empty() {
-        return Ok(());
-    }
-    serde_json::put(members, alloc, WRITE_RESULTS, Value::Array(results))
 }
 
 fn write_results(alloc: Global, results: &[WriteResult]) -> Result<Vec<Value>, AllocError>

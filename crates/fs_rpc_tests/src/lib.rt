@@ -2,6 +2,12 @@
 #![tactic(auto)]
 
 #[cfg(test)]
+mod lines;
+#[cfg(test)]
 mod message_tables;
 #[cfg(test)]
 mod messages;
+#[cfg(test)]
+mod request_tables;
+#[cfg(test)]
+mod requests;

@@ -1,6 +1,7 @@
+use crate::lines::{demo, parts, shown, spelled_out};
 use crate::message_tables::{MESSAGES, ON_A_SESSION, REFUSED};
 use fs_json::{Bad, time};
-use fs_path::{Root, Text, Way, parse_document};
+use fs_path::{Text, Way, parse_document};
 use fs_rpc::{
     Answers, BatchAnswer, Message, error_json, message_json, message_json_on, read_message,
     write_message,
@@ -8,46 +9,8 @@ use fs_rpc::{
 use fs_status::{Code, Reason, Refusal};
 use fs_time::Micros;
 use serde_json::Value;
-use std::alloc::{AllocError, Global};
+use std::alloc::Global;
 use std::test::Fail;
-
-fn demo(alloc: Global) -> Result<Root, AllocError> {
-    Ok(Root {
-        project: Text::from_str(alloc, "demo")?,
-        database: Text::from_str(alloc, "(default)")?,
-    })
-}
-
-// A line with what its short forms stand for.
-fn spelled_out(alloc: Global, line: &str) -> Result<String, AllocError> {
-    let line = line.replace(alloc, "~", "projects/demo/databases/(default)/documents")?;
-    let line = line
-        .as_str()
-        .replace(alloc, "1us", "2024-01-01T00:00:00.000001Z")?;
-    let line = line
-        .as_str()
-        .replace(alloc, "2us", "2024-01-01T00:00:00.000002Z")?;
-    line.as_str().replace(alloc, "0s", "2024-01-01T00:00:00Z")
-}
-
-// A line's JSON, and what is written of it.
-fn parts(line: &str) -> Option<(&str, &str)> {
-    let (json, want) = line.split_once(" =>")?;
-    Some((json, if want.is_empty() { json } else { want.trim() }))
-}
-
-// The text of what was written, or the refusal with its place.
-fn shown(alloc: Global, written: Result<String, Bad>) -> Result<String, Fail> {
-    match written {
-        Ok(text) => Ok(text),
-        Err(Bad::At(rule, place)) => {
-            let place = place.as_str();
-            let shown = format!(in alloc; "{rule:?} at {place}")?;
-            Ok(String::from_str(alloc, shown.as_str().trim())?)
-        }
-        Err(bad) => Err(Fail::from(bad)),
-    }
-}
 
 // What is written of the message that is read, by both writers.
 fn written_again(alloc: Global, json: &str) -> Result<String, Bad> {

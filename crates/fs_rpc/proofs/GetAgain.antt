@@ -1,0 +1,37 @@
+-- What is written of the read of one document is read as the same.
+use Rattle.std.proofs.Common.{◌≡◌, ℕ, List, Option, Some, None, Ok, codes, refl}
+use Rattle.fs_path.specs.Document.{document_text, IsDocumentOf}
+use Rattle.fs_path.specs.DocumentLaws.{document_only}
+use Rattle.fs_path.specs.Place.{member_place}
+use Rattle.fs_path.specs.declared.field.FieldPath.{FieldPath}
+use Rattle.fs_path.specs.declared.name.DocName.{DocName}
+use Rattle.fs_path.specs.declared.name.Root.{Root}
+use Rattle.serde_json.specs.Data.{Members, no_members, member, object, string, put}
+use Rattle.fs_rpc.specs.Envelope.{envelope_at, session_request_at}
+use Rattle.fs_rpc.specs.Id.{with_id_put}
+use Rattle.fs_rpc.specs.RequestJson.{get_json}
+use Rattle.fs_rpc.specs.RequestSteps.{IsMaskHeld}
+use Rattle.fs_rpc.specs.Requests.{get_at}
+use Rattle.fs_rpc.specs.declared.request.Request.{Request}
+use Rattle.fs_rpc.specs.declared.request.Request.TheVariants.{GetDocument}
+
+pub get_again : (root : Root) (name : DocName) (mask : Option (List FieldPath)) (place : List ℕ) → IsDocumentOf root name → IsMaskHeld mask
+    → get_at root (get_json name mask) place ≡ Ok (GetDocument name mask)
+unfolding get_at
+get_again root name None place valid held = rw (document_only root (document_text name) name valid refl) refl
+get_again root name (Some paths) place valid held = rw (document_only root (document_text name) name valid refl, held.again (member_place place (codes "mask"))) refl
+
+-- ---- with its id
+
+pub get_read : (root : Root) (id : Option (List ℕ)) (ms : Members) (r : Request) → get_at root (object ms) (codes "getDocument") ≡ Ok r
+    → envelope_at root (object (with_id_put id (member (codes "getDocument") (object ms) no_members))) ≡ Ok (record { id = id; request = r })
+unfolding envelope_at
+get_read root None ms r h = rw h refl
+get_read root (Some id) ms r h = rw h refl
+
+pub get_read_on : (root : Root) (session : List ℕ) (id : Option (List ℕ)) (ms : Members) (r : Request) → get_at root (object ms) (codes "getDocument") ≡ Ok r
+    → session_request_at root (object (put (codes "session") (string session) (with_id_put id (member (codes "getDocument") (object ms) no_members))))
+    ≡ Ok (record { session = session; id = id; request = Ok r })
+unfolding session_request_at
+get_read_on root session None ms r h = rw h refl
+get_read_on root session (Some id) ms r h = rw h refl

@@ -1,0 +1,51 @@
+-- What is written of a request is read as the same request, with the same id, also on a session.
+use Rattle.std.proofs.Common.{◌≡◌, ℕ, List, Option, Ok, codes, sym, subst}
+use Rattle.fs_path.specs.declared.name.Root.{Root}
+use Rattle.fs_rpc.specs.Envelope.{envelope_at, session_request_at}
+use Rattle.fs_rpc.specs.RequestJson.{envelope_json, envelope_json_on, method_of, request_json}
+use Rattle.fs_rpc.specs.RequestSteps.{IsRequestHeld}
+use Rattle.fs_rpc.specs.Requests.{request_at}
+use Rattle.fs_rpc.specs.ValidRequest.{IsRequestOf}
+use Rattle.fs_rpc.specs.declared.request.Envelope.{Envelope}
+use Rattle.fs_rpc.specs.declared.request.Request.{Request}
+use Rattle.fs_rpc.specs.declared.request.Request.TheVariants.{Commit, GetDocument, BatchGetDocuments, RunQuery}
+use Rattle.fs_rpc.proofs.BatchGetAgain.{batch_get_again, batch_get_read, batch_get_read_on}
+use Rattle.fs_rpc.proofs.CommitAgain.{commit_again, commit_read, commit_read_on}
+use Rattle.fs_rpc.proofs.GetAgain.{get_again, get_read, get_read_on}
+use Rattle.fs_rpc.proofs.RunQueryAgain.{run_query_again, run_query_read, run_query_read_on}
+
+-- what stands under the method
+content_again : (root : Root) (r : Request) → IsRequestHeld r → IsRequestOf root r → request_at root (method_of r) (request_json r) ≡ Ok r
+content_again root (Commit database writes) held valid =
+    subst (λ d. request_at root (codes "commit") (request_json (Commit d writes)) ≡ Ok (Commit d writes)) (sym valid.same) (commit_again root writes (codes "commit") valid.named held valid.allowed)
+content_again root (GetDocument name mask) held valid = get_again root name mask (codes "getDocument") valid held
+content_again root (BatchGetDocuments database documents mask) held valid =
+    subst (λ d. request_at root (codes "batchGetDocuments") (request_json (BatchGetDocuments d documents mask)) ≡ Ok (BatchGetDocuments d documents mask)) (sym valid.same)
+    (batch_get_again root documents mask (codes "batchGetDocuments") valid.named valid.each valid.once held)
+content_again root (RunQuery database query) held valid =
+    subst (λ d. request_at root (codes "runQuery") (request_json (RunQuery d query)) ≡ Ok (RunQuery d query)) (sym valid.same)
+    (run_query_again root query (codes "runQuery") valid.parent (λ place. held.again place valid.valid))
+
+-- a request with this id
+abbrev with_id : Option (List ℕ) → Request → Envelope
+with_id id r = record { id = id; request = r }
+
+read_again : (root : Root) (id : Option (List ℕ)) (r : Request) → request_at root (method_of r) (request_json r) ≡ Ok r → envelope_at root (envelope_json (with_id id r)) ≡ Ok (with_id id r)
+read_again root id (Commit database writes) h = commit_read root id _ (Commit database writes) h
+read_again root id (GetDocument name mask) h = get_read root id _ (GetDocument name mask) h
+read_again root id (BatchGetDocuments database documents mask) h = batch_get_read root id _ (BatchGetDocuments database documents mask) h
+read_again root id (RunQuery database query) h = run_query_read root id _ (RunQuery database query) h
+
+read_again_on : (root : Root) (session : List ℕ) (id : Option (List ℕ)) (r : Request) → request_at root (method_of r) (request_json r) ≡ Ok r
+    → session_request_at root (envelope_json_on session (with_id id r)) ≡ Ok (record { session = session; id = id; request = Ok r })
+read_again_on root session id (Commit database writes) h = commit_read_on root session id _ (Commit database writes) h
+read_again_on root session id (GetDocument name mask) h = get_read_on root session id _ (GetDocument name mask) h
+read_again_on root session id (BatchGetDocuments database documents mask) h = batch_get_read_on root session id _ (BatchGetDocuments database documents mask) h
+read_again_on root session id (RunQuery database query) h = run_query_read_on root session id _ (RunQuery database query) h
+
+pub envelope_again : (root : Root) (e : Envelope) → IsRequestHeld e.request → IsRequestOf root e.request → envelope_at root (envelope_json e) ≡ Ok e
+envelope_again root e held valid = read_again root e.id e.request (content_again root e.request held valid)
+
+pub session_again : (root : Root) (session : List ℕ) (e : Envelope) → IsRequestHeld e.request → IsRequestOf root e.request
+    → session_request_at root (envelope_json_on session e) ≡ Ok (record { session = session; id = e.id; request = Ok e.request })
+session_again root session e held valid = read_again_on root session e.id e.request (content_again root e.request held valid)

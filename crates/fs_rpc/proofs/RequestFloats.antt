@@ -1,0 +1,73 @@
+-- What is written of a request has no float, so its text is told byte for byte.
+use Rattle.std.proofs.Common.{◌≡◌, ℕ, false, List, [], ◌∷◌, Option, Some, None, codes, refl}
+use Rattle.std.proofs.lemmas.Bool.{or_parts}
+use Rattle.std.specs.declared.cmp.Ordering.{Ordering}
+use Rattle.std.specs.declared.cmp.Ordering.TheVariants.{Less, Equal, Greater}
+use Rattle.std.specs.Cmp.Lexicographic.{slice_cmp}
+use Rattle.std.specs.List.{AllByRecursion}
+use Rattle.std.specs.Ordering.{nat_cmp, match_ordering}
+use Rattle.serde_json.specs.Data.{Data, Members, no_members, member, put, string}
+use Rattle.serde_json.specs.Written.{has_float, items_have_float, members_have_float}
+use Rattle.fs_path.specs.declared.field.FieldPath.{FieldPath}
+use Rattle.fs_path.specs.declared.name.DocName.{DocName}
+use Rattle.fs_write.specs.declared.write.Write.{Write}
+use Rattle.fs_rpc.specs.Id.{with_id_put}
+use Rattle.fs_rpc.specs.RequestJson.{envelope_json, envelope_json_on, envelope_members, method_of, names_json, request_json, with_mask, writes_json, writes_member}
+use Rattle.fs_rpc.specs.RequestSteps.{IsMaskHeld, IsRequestHeld, IsWriteHeld}
+use Rattle.fs_rpc.specs.declared.request.Envelope.{Envelope}
+use Rattle.fs_rpc.specs.declared.request.Request.{Request}
+use Rattle.fs_rpc.specs.declared.request.Request.TheVariants.{Commit, GetDocument, BatchGetDocuments, RunQuery}
+
+-- ---- the parts of a request
+
+writes_float : (ws : List Write) → AllByRecursion IsWriteHeld ws → items_have_float (writes_json ws) ≡ false
+writes_float [] held = refl
+writes_float (w ∷ ws) held = rw (held.0.float, writes_float ws held.1) refl
+
+commit_float : (ws : List Write) → AllByRecursion IsWriteHeld ws → members_have_float (writes_member ws) ≡ false
+commit_float [] held = refl
+commit_float (w ∷ ws) held = rw (held.0.float, writes_float ws held.1) refl
+
+names_float : (ns : List DocName) → items_have_float (names_json ns) ≡ false
+names_float [] = refl
+names_float (n ∷ ns) = names_float ns
+
+mask_float : (mask : Option (List FieldPath)) (rest : Members) → IsMaskHeld mask → members_have_float rest ≡ false → members_have_float (with_mask mask rest) ≡ false
+mask_float None rest held h = h
+mask_float (Some paths) rest held h = rw (held.float, h) refl
+
+content_float : (r : Request) → IsRequestHeld r → has_float (request_json r) ≡ false
+content_float (Commit database writes) held = commit_float writes held
+content_float (GetDocument name mask) held = mask_float mask _ held refl
+content_float (BatchGetDocuments database documents mask) held = rw (names_float documents, mask_float mask no_members held refl) refl
+content_float (RunQuery database query) held = rw held.float refl
+
+-- ---- members that are put in
+
+-- put in before, over, or behind the first member
+put_float_at : (o : Ordering) (k l : List ℕ) (d e : Data) (ms more : Members) → has_float d ≡ false → has_float e ≡ false → members_have_float ms ≡ false → members_have_float more ≡ false
+    → members_have_float (match_ordering o (member k d (member l e ms)) (member l d ms) (member l e more)) ≡ false
+put_float_at Less k l d e ms more one first rest behind = rw (one, first, rest) refl
+put_float_at Equal k l d e ms more one first rest behind = rw (one, rest) refl
+put_float_at Greater k l d e ms more one first rest behind = rw (first, behind) refl
+
+put_float : (k : List ℕ) (d : Data) (ms : Members) → has_float d ≡ false → members_have_float ms ≡ false → members_have_float (put k d ms) ≡ false
+put_float k d no_members one h = rw one refl
+put_float k d (member l e ms) one h =
+    let parts = or_parts (has_float e) (members_have_float ms) h in
+    put_float_at (slice_cmp nat_cmp k l) k l d e ms (put k d ms) one parts.0 parts.1 (put_float k d ms one parts.1)
+
+with_id_float : (id : Option (List ℕ)) (ms : Members) → members_have_float ms ≡ false → members_have_float (with_id_put id ms) ≡ false
+with_id_float None ms h = h
+with_id_float (Some id) ms h = put_float (codes "id") (string id) ms refl h
+
+-- ---- requests
+
+envelope_members_float : (e : Envelope) → IsRequestHeld e.request → members_have_float (envelope_members e) ≡ false
+envelope_members_float e held = with_id_float e.id (member (method_of e.request) (request_json e.request) no_members) (rw (content_float e.request held) refl)
+
+pub envelope_float : (e : Envelope) → IsRequestHeld e.request → has_float (envelope_json e) ≡ false
+envelope_float e held = envelope_members_float e held
+
+pub envelope_on_float : (session : List ℕ) (e : Envelope) → IsRequestHeld e.request → has_float (envelope_json_on session e) ≡ false
+envelope_on_float session e held = put_float (codes "session") (string session) (envelope_members e) refl (envelope_members_float e held)

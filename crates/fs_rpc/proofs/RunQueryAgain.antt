@@ -1,0 +1,76 @@
+-- What is written of the run of a query is read as the same.
+use Rattle.std.proofs.Common.{◌≡◌, ℕ, true, List, Option, Some, None, Result, Ok, Err, codes, refl, ◌∙◌}
+use Rattle.fs_path.specs.Document.{document_text, under, IsParentOf}
+use Rattle.fs_path.specs.Place.{member_place}
+use Rattle.fs_path.specs.declared.name.Root.{Root}
+use Rattle.serde_json.specs.Data.{Data, Members, no_members, member, object, string, put}
+use Rattle.fs_json.specs.Answer.{◌>>=◌}
+use Rattle.fs_json.specs.Members.{is_given, required_at}
+use Rattle.fs_json.specs.declared.bad.Bad.{Bad}
+use Rattle.fs_query.specs.Asked.{Asked}
+use Rattle.fs_queryjson.specs.From.{parent_of as scope_parent}
+use Rattle.fs_queryjson.specs.Query.{permitted_at, query_at, walked_at}
+use Rattle.fs_queryjson.specs.Written.{query_json}
+use Rattle.fs_rpc.specs.Envelope.{envelope_at, session_request_at}
+use Rattle.fs_rpc.specs.Id.{with_id_put}
+use Rattle.fs_rpc.specs.RequestJson.{run_query_json}
+use Rattle.fs_rpc.specs.Requests.{run_query_at, structured_at, when_at}
+use Rattle.fs_rpc.specs.declared.request.Request.{Request}
+use Rattle.fs_rpc.specs.declared.request.Request.TheVariants.{RunQuery}
+use Rattle.fs_rpc.proofs.Parents.{parent_again}
+use Rattle.fs_rpc.proofs.Structured.{structured_gives}
+
+-- ---- the query
+
+query_given : (key : List ℕ) (q : Asked) → is_given key (query_json q) ≡ true
+unfolding query_json
+query_given key q = refl
+
+-- what is read as a query by itself is read so below its parent
+permitted_again : (parent : List (List ℕ)) (d s : Data) (place : List ℕ) (q : Asked) (walked : Result Asked Bad) → required_at (codes "structuredQuery") d place ≡ Ok s → when_at d place ≡ Ok tt
+    → walked_at parent s (member_place place (codes "structuredQuery")) ≡ walked → (walked >>= λ w. permitted_at w (member_place place (codes "structuredQuery"))) ≡ Ok q
+    → structured_at parent d place ≡ Ok q
+permitted_again parent d s place q (Ok w) there now is h = structured_gives parent d s place w there is now ∙ h
+permitted_again parent d s place q (Err bad) there now is h = absurd (cc)
+
+-- the members of a request whose query is this
+abbrev asked_by : List ℕ → Data → Data
+asked_by parent s = object (member (codes "parent") (string parent) (member (codes "structuredQuery") s no_members))
+
+query_there : (parent : List ℕ) (s : Data) (place : List ℕ) → is_given (codes "structuredQuery") s ≡ true → required_at (codes "structuredQuery") (asked_by parent s) place ≡ Ok s
+query_there parent s place given = rw given refl
+
+read_now : (parent : List ℕ) (s : Data) (place : List ℕ) → is_given (codes "structuredQuery") s ≡ true → when_at (asked_by parent s) place ≡ Ok tt
+read_now parent s place given = rw given refl
+
+-- ---- the run
+
+query_run : (root : Root) (ids : List (List ℕ)) (s : Data) (q : Asked) (place : List ℕ) → is_given (codes "structuredQuery") s ≡ true → IsParentOf root ids
+    → structured_at ids (asked_by (document_text (under root ids)) s) place ≡ Ok q → run_query_at root (asked_by (document_text (under root ids)) s) place ≡ Ok (RunQuery root q)
+unfolding run_query_at
+query_run root ids s q place given is h = rw (given, parent_again root ids is, h) refl
+
+pub run_query_again : (root : Root) (q : Asked) (place : List ℕ) → IsParentOf root (scope_parent q.scope)
+    → ((p : List ℕ) → query_at (scope_parent q.scope) (query_json q) p ≡ Ok q) → run_query_at root (run_query_json root q) place ≡ Ok (RunQuery root q)
+run_query_again root q place is again =
+    let ids = scope_parent q.scope in
+    let parent = document_text (under root ids) in
+    let given = query_given (codes "structuredQuery") q in
+    query_run root ids (query_json q) q place given is
+    (permitted_again ids (asked_by parent (query_json q)) (query_json q) place q (walked_at ids (query_json q) (member_place place (codes "structuredQuery")))
+    (query_there parent (query_json q) place given) (read_now parent (query_json q) place given) refl (again (member_place place (codes "structuredQuery"))))
+
+-- ---- with its id
+
+pub run_query_read : (root : Root) (id : Option (List ℕ)) (ms : Members) (r : Request) → run_query_at root (object ms) (codes "runQuery") ≡ Ok r
+    → envelope_at root (object (with_id_put id (member (codes "runQuery") (object ms) no_members))) ≡ Ok (record { id = id; request = r })
+unfolding envelope_at
+run_query_read root None ms r h = rw h refl
+run_query_read root (Some id) ms r h = rw h refl
+
+pub run_query_read_on : (root : Root) (session : List ℕ) (id : Option (List ℕ)) (ms : Members) (r : Request) → run_query_at root (object ms) (codes "runQuery") ≡ Ok r
+    → session_request_at root (object (put (codes "session") (string session) (with_id_put id (member (codes "runQuery") (object ms) no_members))))
+    ≡ Ok (record { session = session; id = id; request = Ok r })
+unfolding session_request_at
+run_query_read_on root session None ms r h = rw h refl
+run_query_read_on root session (Some id) ms r h = rw h refl

@@ -1,0 +1,97 @@
+-- The JSON of requests, as it is written. The members of each object stand in byte order of their names, and what is absent is
+-- left out. So are writes where there are none; documents that are none are an empty list, since they have to be there. A
+-- query's parent, the root's documents or one of them, stands beside it. (v1 reference: `CommitRequest`,
+-- `GetDocumentRequest`, `BatchGetDocumentsRequest`, `RunQueryRequest`; proto3 JSON.)
+--
+--     a commit of a delete            {"commit":{"database":"projects/p/databases/d","writes":[{"delete":".."}]},"id":"1"}
+--     a read, without an id           {"getDocument":{"name":"projects/p/databases/d/documents/c/a"}}
+--     the collection c of the root    {"id":"2","runQuery":{"parent":"projects/p/databases/d/documents",
+--                                      "structuredQuery":{"from":[{"collectionId":"c"}]}}}
+use Rattle.std.specs.Prelude.{ℕ, List, [], ◌∷◌, Option, Some, None, map, codes}
+use Rattle.fs_path.specs.Database.{database_text}
+use Rattle.fs_path.specs.Document.{document_text, under}
+use Rattle.fs_path.specs.declared.field.FieldPath.{FieldPath}
+use Rattle.fs_path.specs.declared.name.DocName.{DocName}
+use Rattle.fs_path.specs.declared.name.Root.{Root}
+use Rattle.fs_path.specs.declared.scope.Scope.{Scope}
+use Rattle.serde_json.specs.Data.{Data, string, array, object, Items, Members, no_members, member, put}
+use Rattle.serde_json.specs.View.{items_of}
+use Rattle.fs_query.specs.Asked.{Asked}
+use Rattle.fs_queryjson.specs.From.{parent_of}
+use Rattle.fs_queryjson.specs.Written.{query_json}
+use Rattle.fs_write.specs.declared.write.Write.{Write}
+use Rattle.fs_writejson.specs.Mask.{mask_json}
+use Rattle.fs_writejson.specs.Written.{write_json}
+use Rattle.fs_rpc.specs.Id.{with_id_put}
+use Rattle.fs_rpc.specs.declared.request.Envelope.{Envelope}
+use Rattle.fs_rpc.specs.declared.request.Request.{Request}
+use Rattle.fs_rpc.specs.declared.request.Request.TheVariants.{Commit, GetDocument, BatchGetDocuments, RunQuery}
+
+-- ---- parts
+
+abbrev pub database_json : Root → Data
+database_json database = string (database_text database)
+
+abbrev pub name_json : DocName → Data
+name_json name = string (document_text name)
+
+abbrev pub names_json : List DocName → Items
+names_json names = items_of (map name_json names)
+
+abbrev pub writes_json : List Write → Items
+writes_json writes = items_of (map write_json writes)
+
+-- writes, where there are some
+abbrev pub writes_member : List Write → Members
+writes_member [] = no_members
+writes_member (w ∷ ws) = member (codes "writes") (array (writes_json (w ∷ ws))) no_members
+
+-- a mask, where there is one, in front of what follows
+abbrev pub with_mask : Option (List FieldPath) → Members → Members
+with_mask None rest = rest
+with_mask (Some paths) rest = member (codes "mask") (mask_json paths) rest
+
+-- what the collections of a query stand below: the root's documents, or one of them
+abbrev pub parent_json : Root → Scope → Data
+parent_json database scope = string (document_text (under database (parent_of scope)))
+
+-- ---- methods
+
+abbrev pub commit_json : Root → List Write → Data
+commit_json database writes = object (member (codes "database") (database_json database) (writes_member writes))
+
+abbrev pub get_json : DocName → Option (List FieldPath) → Data
+get_json name mask = object (with_mask mask (member (codes "name") (name_json name) no_members))
+
+abbrev pub batch_get_json : Root → List DocName → Option (List FieldPath) → Data
+batch_get_json database documents mask =
+    object (member (codes "database") (database_json database) (member (codes "documents") (array (names_json documents)) (with_mask mask no_members)))
+
+abbrev pub run_query_json : Root → Asked → Data
+run_query_json database query =
+    object (member (codes "parent") (parent_json database query.scope) (member (codes "structuredQuery") (query_json query) no_members))
+
+-- what stands under the method
+abbrev pub request_json : Request → Data
+request_json (Commit database writes) = commit_json database writes
+request_json (GetDocument name mask) = get_json name mask
+request_json (BatchGetDocuments database documents mask) = batch_get_json database documents mask
+request_json (RunQuery database query) = run_query_json database query
+
+abbrev pub method_of : Request → List ℕ
+method_of (Commit database writes) = codes "commit"
+method_of (GetDocument name mask) = codes "getDocument"
+method_of (BatchGetDocuments database documents mask) = codes "batchGetDocuments"
+method_of (RunQuery database query) = codes "runQuery"
+
+-- ---- requests with their ids
+
+abbrev pub envelope_members : Envelope → Members
+envelope_members e = with_id_put e.id (member (method_of e.request) (request_json e.request) no_members)
+
+abbrev pub envelope_json : Envelope → Data
+envelope_json e = object (envelope_members e)
+
+-- the same on a session
+abbrev pub envelope_json_on : List ℕ → Envelope → Data
+envelope_json_on session e = object (put (codes "session") (string session) (envelope_members e))

@@ -1,0 +1,42 @@
+-- The requests that are read back from what is written of them. A text is read only where its JSON nests no deeper than JSON
+-- is read; that is asked beside this.
+use Rattle.std.specs.Prelude.{◌≡◌, List}
+use Rattle.std.specs.List.{AllByRecursion, IsDistinct}
+use Rattle.fs_path.specs.Database.{IsDatabase}
+use Rattle.fs_path.specs.Document.{IsDocumentOf, IsParentOf}
+use Rattle.fs_path.specs.NameOrder.{name_eq}
+use Rattle.fs_path.specs.declared.name.DocName.{DocName}
+use Rattle.fs_path.specs.declared.name.Root.{Root}
+use Rattle.fs_query.specs.Asked.{Asked}
+use Rattle.fs_queryjson.specs.From.{parent_of}
+use Rattle.fs_queryjson.specs.Valid.{IsValid}
+use Rattle.fs_write.specs.declared.write.Write.{Write}
+use Rattle.fs_writejson.specs.Valid.{IsWriteOf}
+use Rattle.fs_rpc.specs.declared.request.Request.{Request}
+use Rattle.fs_rpc.specs.declared.request.Request.TheVariants.{Commit, GetDocument, BatchGetDocuments, RunQuery}
+
+-- writes of the root's documents, none of which breaks a rule of writes
+pub record IsCommitOf (root : Root) (database : Root) (writes : List Write) : Type 0 where
+  pub same : database ≡ root
+  pub named : IsDatabase root
+  pub allowed : AllByRecursion (IsWriteOf root) writes
+
+-- names of the root's documents, each once
+pub record IsBatchOf (root : Root) (database : Root) (documents : List DocName) : Type 0 where
+  pub same : database ≡ root
+  pub named : IsDatabase root
+  pub each : AllByRecursion (IsDocumentOf root) documents
+  pub once : IsDistinct name_eq documents
+
+-- a query below the root's documents or one of them, which breaks no rule of queries
+pub record IsQueryOf (root : Root) (database : Root) (query : Asked) : Type 0 where
+  pub same : database ≡ root
+  pub parent : IsParentOf root (parent_of query.scope)
+  pub valid : IsValid query
+
+-- a request of the root's documents; any mask may be given
+abbrev pub IsRequestOf : Root → Request → Type 0
+IsRequestOf root (Commit database writes) = IsCommitOf root database writes
+IsRequestOf root (GetDocument name mask) = IsDocumentOf root name
+IsRequestOf root (BatchGetDocuments database documents mask) = IsBatchOf root database documents
+IsRequestOf root (RunQuery database query) = IsQueryOf root database query

@@ -1,0 +1,254 @@
+//! Writes requests.
+ghost use Rattle.std.specs.Prelude.{◌≡◌, ◌≤◌, false, Some, Ok, IfOk, OnOk};
+ghost use Rattle.std.specs.List.{AllByRecursion};
+ghost use Rattle.fs_path.specs.declared.name.Root.{Root};
+ghost use Rattle.serde_json.specs.Data.{depth};
+ghost use Rattle.serde_json.specs.Read.{max_depth};
+ghost use Rattle.serde_json.specs.View.{items_view, members_view, view};
+ghost use Rattle.serde_json.specs.Written.{compact_text, has_float};
+ghost use Rattle.fs_queryjson.specs.Written.{query_json};
+ghost use Rattle.fs_writejson.specs.Mask.{mask_json};
+ghost use Rattle.fs_writejson.specs.Written.{write_json};
+ghost use Rattle.fs_rpc.specs.Envelope.{envelope_at, request_of, session_request_at};
+ghost use Rattle.fs_rpc.specs.RequestJson.{batch_get_json, commit_json, database_json, envelope_json, envelope_json_on, envelope_members, get_json, method_of, names_json, parent_json, request_json, run_query_json, writes_json};
+ghost use Rattle.fs_rpc.specs.RequestSteps.{ArePathsHeld, IsMaskHeld, IsQueryHeld, IsRequestHeld, IsWriteHeld, with_mask_put};
+ghost use Rattle.fs_rpc.specs.ValidRequest.{IsRequestOf};
+
+use crate::id::put_id;
+use crate::list::put_list;
+use crate::names::{
+    BATCH_GET_DOCUMENTS, COMMIT, DATABASE, DOCUMENTS, GET_DOCUMENT, MASK, NAME, PARENT, RUN_QUERY,
+    SESSION, STRUCTURED_QUERY, WRITES,
+};
+use crate::print::{print_database, print_parent};
+use crate::request::{Envelope, Request};
+use fs_json::write_text;
+use fs_path::{DocName, Paths, Root, Scope, Text, print_document};
+use fs_query::Query;
+use fs_queryjson::write_query;
+use fs_write::Write;
+use fs_writejson::{write_mask, write_write};
+use serde_json::{Map, Value};
+use std::alloc::{AllocError, Global};
+
+/// Writes a request with its id, where it has one, as a socket's message has it.
+pub fn request_json(alloc: Global, e: &Envelope) -> Result<Value, AllocError>
+    ensures json { IfOk result (λ v. view v ≡ envelope_json e.now) }
+
+    // It has no float, so what is printed of it is told byte for byte.
+    ensures no_float { IfOk result (λ v. has_float (view v) ≡ false) }
+
+    // Where it is a request of the root's documents, it is read back as the same request, with the same id.
+    ensures again { IfOk result (λ v. (root : Root) → IsRequestOf root e.now.request
+        → envelope_at root (view v) ≡ Ok e.now) }
+{
+    Ok(Value::Object(write_members(alloc, e)?))
+}
+
+/// Writes a request with the name of its session, as a line of a script has it.
+pub fn request_json_on(alloc: Global, session: &Text, e: &Envelope) -> Result<Value, AllocError>
+    ensures json { IfOk result (λ v. view v ≡ envelope_json_on session.now e.now) }
+    ensures no_float { IfOk result (λ v. has_float (view v) ≡ false) }
+
+    // It is read back as the same request on that session.
+    ensures again { IfOk result (λ v. (root : Root) → IsRequestOf root e.now.request
+        → session_request_at root (view v) ≡ Ok (record { session = session.now; id = e.now.id; request = Ok e.now.request })) }
+{
+    let mut members = write_members(alloc, e)?;
+    let session = write_text(alloc, session)?;
+    serde_json::put(&mut members, alloc, SESSION, session)?;
+    Ok(Value::Object(members))
+}
+
+/// Writes a request as the text of its JSON, without spaces.
+pub fn write_request(alloc: Global, e: &Envelope) -> Result<Text, AllocError>
+    ensures text { IfOk result (λ t. t ≡ compact_text (envelope_json e.now)) }
+
+    // Where its JSON also nests no deeper than JSON is read, the text is read back as the same request, with the same id.
+    ensures again { IfOk result (λ t. (root : Root) → IsRequestOf root e.now.request
+        → depth (envelope_json e.now) ≤ max_depth → request_of root t ≡ Ok e.now) }
+{
+    let members = write_members(alloc, e)?;
+    let text = Value::Object(members).to_string(alloc)?;
+    Ok(Text::of(text))
+}
+
+fn write_members(alloc: Global, e: &Envelope) -> Result<Map<String, Value>, AllocError>
+    ensures value { IfOk result (λ ms. members_view ms.entries ≡ envelope_members e.now) }
+    ensures held { OnOk result (IsRequestHeld e.now.request) }
+{
+    let content = write_content(alloc, &e.request)?;
+    let mut members = Map::new(alloc);
+    serde_json::put(&mut members, alloc, method_of(&e.request), content)?;
+    put_id(alloc, &mut members, &e.id)?;
+    Ok(members)
+}
+
+fn method_of(request: &Request) -> &'static str
+    ensures { result.now ≡ method_of request.now }
+{
+    match request {
+        Request::Commit { .. } => COMMIT,
+        Request::GetDocument { .. } => GET_DOCUMENT,
+        Request::BatchGetDocuments { .. } => BATCH_GET_DOCUMENTS,
+        Request::RunQuery { .. } => RUN_QUERY,
+    }
+}
+
+/// What stands under the method.
+fn write_content(alloc: Global, request: &Request) -> Result<Value, AllocError>
+    ensures value { IfOk result (λ v. view v ≡ request_json request.now) }
+    ensures held { OnOk result (IsRequestHeld request.now) }
+{
+    match request {
+        Request::Commit { database, writes } => write_commit(alloc, database, writes.as_slice()),
+        Request::GetDocument { name, mask } => write_get(alloc, name, mask),
+        Request::BatchGetDocuments {
+            database,
+            documents,
+            mask,
+        } => write_batch_get(alloc, database, documents.as_slice(), mask),
+        Request::RunQuery { database, query } => write_run_query(alloc, database, query),
+    }
+}
+
+/// Writes a `CommitRequest`. Writes that are none are left out.
+fn write_commit(alloc: Global, database: &Root, writes: &[Write]) -> Result<Value, AllocError>
+    ensures value { IfOk result (λ v. view v ≡ commit_json database.now writes.now) }
+    ensures held { OnOk result (AllByRecursion IsWriteHeld writes.now) }
+{
+    let mut members = Map::new(alloc);
+    serde_json::put(
+        &mut members,
+        alloc,
+        DATABASE,
+        database_value(alloc, database)?,
+    )?;
+    let written = write_writes(alloc, writes)?;
+    put_list(alloc, &mut members, WRITES, written)?;
+    Ok(Value::Object(members))
+}
+
+fn write_writes(alloc: Global, writes: &[Write]) -> Result<Vec<Value>, AllocError>
+    ensures value { IfOk result (λ l. items_view l.items ≡ writes_json writes.now) }
+    ensures held { OnOk result (AllByRecursion IsWriteHeld writes.now) }
+{
+    let mut items = Vec::with_capacity(alloc, writes.len())?;
+    for write in writes {
+        items.push(write_one(alloc, write)?)?;
+    }
+    Ok(items)
+}
+
+fn write_one(alloc: Global, write: &Write) -> Result<Value, AllocError>
+    ensures value { IfOk result (λ v. view v ≡ write_json write.now) }
+    ensures held { OnOk result (IsWriteHeld write.now) }
+{
+    write_write(alloc, write)
+}
+
+/// Writes a `GetDocumentRequest`.
+fn write_get(alloc: Global, name: &DocName, mask: &Option<Paths>) -> Result<Value, AllocError>
+    ensures value { IfOk result (λ v. view v ≡ get_json name.now mask.now) }
+    ensures held { OnOk result (IsMaskHeld mask.now) }
+{
+    let mut members = Map::new(alloc);
+    let name = print_document(alloc, name)?.into_string();
+    serde_json::put(&mut members, alloc, NAME, Value::String(name))?;
+    put_mask(alloc, &mut members, mask)?;
+    Ok(Value::Object(members))
+}
+
+/// Writes a `BatchGetDocumentsRequest`. Its documents have to be there, so they are an empty list where there are none.
+fn write_batch_get(
+    alloc: Global,
+    database: &Root,
+    documents: &[DocName],
+    mask: &Option<Paths>,
+) -> Result<Value, AllocError>
+    ensures value { IfOk result (λ v. view v ≡ batch_get_json database.now documents.now mask.now) }
+    ensures held { OnOk result (IsMaskHeld mask.now) }
+{
+    let mut members = Map::new(alloc);
+    serde_json::put(
+        &mut members,
+        alloc,
+        DATABASE,
+        database_value(alloc, database)?,
+    )?;
+    let names = write_names(alloc, documents)?;
+    serde_json::put(&mut members, alloc, DOCUMENTS, Value::Array(names))?;
+    put_mask(alloc, &mut members, mask)?;
+    Ok(Value::Object(members))
+}
+
+fn write_names(alloc: Global, names: &[DocName]) -> Result<Vec<Value>, AllocError>
+    ensures { IfOk result (λ l. items_view l.items ≡ names_json names.now) }
+{
+    let mut items = Vec::with_capacity(alloc, names.len())?;
+    for name in names {
+        let text = print_document(alloc, name)?.into_string();
+        items.push(Value::String(text))?;
+    }
+    Ok(items)
+}
+
+/// Puts in a mask, where there is one. One without paths is there too.
+fn put_mask(
+    alloc: Global,
+    members: &mut Map<String, Value>,
+    mask: &Option<Paths>,
+) -> Result<(), AllocError>
+    ensures value { OnOk result (members_view members.new.entries
+        ≡ with_mask_put mask.now (members_view members.old.entries)) }
+    ensures held { OnOk result (IsMaskHeld mask.now) }
+{
+    match mask {
+        Some(paths) => serde_json::put(members, alloc, MASK, mask_value(alloc, paths)?),
+        None => Ok(()),
+    }
+}
+
+fn mask_value(alloc: Global, paths: &Paths) -> Result<Value, AllocError>
+    ensures value { IfOk result (λ v. view v ≡ mask_json paths.now) }
+    ensures held { OnOk result (ArePathsHeld paths.now) }
+{
+    write_mask(alloc, paths)
+}
+
+/// Writes a `RunQueryRequest`.
+fn write_run_query(alloc: Global, database: &Root, query: &Query) -> Result<Value, AllocError>
+    ensures value { IfOk result (λ v. view v ≡ run_query_json database.now query.now) }
+    ensures held { OnOk result (IsQueryHeld query.now) }
+{
+    let mut members = Map::new(alloc);
+    let structured = query_value(alloc, query)?;
+    serde_json::put(&mut members, alloc, STRUCTURED_QUERY, structured)?;
+    let parent = parent_value(alloc, database, &query.scope)?;
+    serde_json::put(&mut members, alloc, PARENT, parent)?;
+    Ok(Value::Object(members))
+}
+
+fn query_value(alloc: Global, query: &Query) -> Result<Value, AllocError>
+    ensures value { IfOk result (λ v. view v ≡ query_json query.now) }
+    ensures held { OnOk result (IsQueryHeld query.now) }
+{
+    write_query(alloc, query)
+}
+
+/// The parent of a query's collections. It isn't part of the query's own JSON.
+fn parent_value(alloc: Global, database: &Root, scope: &Scope) -> Result<Value, AllocError>
+    ensures { IfOk result (λ v. view v ≡ parent_json database.now scope.now) }
+{
+    let parent = match scope {
+        Scope::Collection { parent, .. } => parent,
+        Scope::Group { parent, .. } => parent,
+    };
+    Ok(Value::String(print_parent(alloc, database, parent)?.into_string()))
+}
+
+fn database_value(alloc: Global, database: &Root) -> Result<Value, AllocError>
+    ensures { IfOk result (λ v. view v ≡ database_json database.now) }
+{
+    Ok(Value::String(print_database(alloc, database)?.into_string()))
+}
