@@ -1,52 +1,19 @@
 -- What the versions and the chains of a history show.
-use Rattle.std.proofs.Common.{◌≡◌, ℤ, ◌≤ℤ◌, Bool, true, false, cond, List, [], ◌∷◌, Option, Some, None, reverse, refl, sym, ap, ◌∙◌, arith}
-use Rattle.std.specs.Prelude.{int_le, is_none}
+use Rattle.std.proofs.Common.{◌≡◌, ℤ, ◌≤ℤ◌, Bool, true, false, cond, List, [], ◌∷◌, Some, None, reverse, refl, sym, ap, ◌∙◌, arith}
+use Rattle.std.specs.Prelude.{int_le}
 use Rattle.std.specs.FinMap.{get, get-empty, same_map}
 use Rattle.std.proofs.lemmas.Int.{ints}
 use Rattle.std.proofs.lemmas.List.{reverse-reverse}
 use Rattle.fs_path.specs.NameOrder.{name_cmp, name_cmp_total, name_same}
 use Rattle.fs_path.specs.declared.name.DocName.{DocName}
-use Rattle.fs_value.specs.declared.document.Document.{Document}
 use Rattle.fs_write.specs.After.{after_batch}
 use Rattle.fs_write.specs.Batch.{Docs, is_unchanged}
 use Rattle.fs_write.specs.declared.write.Write.{Write}
 use Rattle.fs_history.specs.History.{at, whole, IsRising}
-use Rattle.fs_history.specs.Versions.{with_change, versions, newest, shown, base, kept, chain}
+use Rattle.fs_history.specs.Versions.{with_change, versions, newest, shown, kept, chain}
 use Rattle.fs_history.specs.declared.batch.Batch.{Batch}
-use Rattle.fs_history.specs.declared.version.Version.{Version}
+use Rattle.fs_history.specs.KeptLaws.{shown_kept, newest_kept}
 use Rattle.fs_history.proofs.HistoryLaws.{ends_by, at_whole}
-
--- ---- what is kept from a floor shows the same from there on
-
-le_through : (a f t : ℤ) → int_le a f ≡ true → f ≤ℤ t → int_le a t ≡ true
-le_through a f t h within = grind (arith, ints)
-
-shown_base : (t : ℤ) (v : Version) (o : Option Document) → v.after ≡ o → int_le v.time t ≡ true → shown t (cond (is_none o) [] (v ∷ [])) ≡ o
-shown_base t v None is within = refl
-shown_base t v (Some d) is within = ap (λ c. cond c v.after None) within ∙ is
-
-shown_next : (f t : ℤ) (v : Version) (vs : List Version) (b : Bool) → int_le v.time f ≡ b → f ≤ℤ t → shown t (kept f vs) ≡ shown t vs
-    → shown t (cond b (base v) (v ∷ kept f vs)) ≡ shown t (v ∷ vs)
-shown_next f t v vs true is within more =
-    let here = le_through v.time f t is within in
-    shown_base t v v.after refl here ∙ sym (ap (λ c. cond c v.after (shown t vs)) here)
-shown_next f t v vs false is within more = ap (cond (int_le v.time t) v.after) more
-
-pub shown_kept : (f t : ℤ) (vs : List Version) → f ≤ℤ t → shown t (kept f vs) ≡ shown t vs
-shown_kept f t [] within = refl
-shown_kept f t (v ∷ vs) within = shown_next f t v vs (int_le v.time f) refl within (shown_kept f t vs within)
-
-newest_base : (v : Version) (o : Option Document) → v.after ≡ o → newest (cond (is_none o) [] (v ∷ [])) ≡ o
-newest_base v None is = refl
-newest_base v (Some d) is = is
-
-newest_next : (f : ℤ) (v : Version) (vs : List Version) (b : Bool) → newest (cond b (base v) (v ∷ kept f vs)) ≡ v.after
-newest_next f v vs true = newest_base v v.after refl
-newest_next f v vs false = refl
-
-newest_kept : (f : ℤ) (vs : List Version) → newest (kept f vs) ≡ newest vs
-newest_kept f [] = refl
-newest_kept f (v ∷ vs) = newest_next f v vs (int_le v.time f)
 
 -- ---- what the versions show
 

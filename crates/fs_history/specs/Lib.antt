@@ -2,6 +2,7 @@ pub mod Bytes
 pub mod History
 pub mod Journal
 pub mod Kept
+pub mod KeptLaws
 pub mod Laws
 pub mod Serial
 pub mod Touches

@@ -4,6 +4,7 @@ use Rattle.std.specs.Prelude.{int_le, is_none, is_some}
 use Rattle.std.specs.List.{All}
 use Rattle.std.proofs.lemmas.List.{take-append-drop, take_more, reverse-append, reverse-reverse, get_or-reverse, get_or-drop, length-reverse}
 use Rattle.fs_value.specs.declared.document.Document.{Document}
+use Rattle.fs_history.specs.KeptLaws.{shown_kept, newest_kept}
 use Rattle.fs_history.specs.Versions.{newest, shown, base, kept}
 use Rattle.fs_history.specs.declared.version.Version.{Version}
 use Rattle.fs_versions.specs.Chain.{shown_at, last_document, cut}
@@ -129,35 +130,8 @@ last_of chain d some =
 
 -- ---- cutting again, and showing what is kept
 
-shown_base : (t : ℤ) (v : Version) (o : Option Document) → v.after ≡ o → int_le v.time t ≡ true → shown t (cond (is_none o) [] (v ∷ [])) ≡ o
-shown_base t v None is within = refl
-shown_base t v (Some x) is within = ap (λ c. cond c v.after None) within ∙ is
-
-shown_next : (f t : ℤ) (v : Version) (vs : List Version) (b : Bool) → int_le v.time f ≡ b → f ≤ℤ t → shown t (kept f vs) ≡ shown t vs
-    → shown t (cond b (base v) (v ∷ kept f vs)) ≡ shown t (v ∷ vs)
-shown_next f t v vs true is within more =
-    let here = le_through v.time f t is within in
-    shown_base t v v.after refl here ∙ sym (ap (λ c. cond c v.after (shown t vs)) here)
-shown_next f t v vs false is within more = ap (cond (int_le v.time t) v.after) more
-
-shown_kept : (f t : ℤ) (vs : List Version) → f ≤ℤ t → shown t (kept f vs) ≡ shown t vs
-shown_kept f t [] within = refl
-shown_kept f t (v ∷ vs) within = shown_next f t v vs (int_le v.time f) refl within (shown_kept f t vs within)
-
 pub shown_cut : (f t : ℤ) (chain : List Version) → f ≤ℤ t → shown_at t (cut f chain) ≡ shown_at t chain
 shown_cut f t chain within = ap (shown t) (reverse-reverse (kept f (reverse chain))) ∙ shown_kept f t (reverse chain) within
-
-newest_base : (v : Version) (o : Option Document) → v.after ≡ o → newest (cond (is_none o) [] (v ∷ [])) ≡ o
-newest_base v None is = refl
-newest_base v (Some x) is = is
-
-newest_next : (f : ℤ) (v : Version) (vs : List Version) (b : Bool) → newest (cond b (base v) (v ∷ kept f vs)) ≡ v.after
-newest_next f v vs true = newest_base v v.after refl
-newest_next f v vs false = refl
-
-newest_kept : (f : ℤ) (vs : List Version) → newest (kept f vs) ≡ newest vs
-newest_kept f [] = refl
-newest_kept f (v ∷ vs) = newest_next f v vs (int_le v.time f)
 
 pub last_cut : (f : ℤ) (chain : List Version) → last_document (cut f chain) ≡ last_document chain
 last_cut f chain = ap newest (reverse-reverse (kept f (reverse chain))) ∙ newest_kept f (reverse chain)

@@ -15,11 +15,12 @@ use Rattle.fs_history.specs.Versions.{versions, base, kept, chain}
 use Rattle.fs_history.specs.declared.batch.Batch.{Batch}
 use Rattle.fs_history.specs.declared.version.Version.{Version}
 use Rattle.fs_versions.specs.Chain.{shown_at, last_document, cut}
-use Rattle.fs_versions.specs.Chains.{Chains, chain_of, Compacts}
+use Rattle.fs_versions.specs.Chains.{Chains, Compacts, all_cut, chain_of, with_chain}
 use Rattle.fs_versions.specs.Shows.{EndsAt, Shows}
+use Rattle.fs_versions.specs.Laws.{none_below}
 use Rattle.fs_versions.specs.Sound.{Tree, found, held, IsSound}
 use Rattle.fs_versions.proofs.ChainLaws.{kept_kept, shown_cut, last_cut}
-use Rattle.fs_versions.proofs.TreeLaws.{none_below}
+use Rattle.fs_versions.proofs.Views.{found-find}
 
 -- ---- a name's chain afterwards
 
@@ -27,10 +28,6 @@ use Rattle.fs_versions.proofs.TreeLaws.{none_below}
 pub cut_held : ℤ → Option (List Version) → Option (List Version)
 cut_held f None = None
 cut_held f (Some vs) = held (cut f vs)
-
-found-find : (es : Tree) (q : DocName) → found q es ≡ find name_cmp q es
-found-find [] q = refl
-found-find (e ∷ es) q = ap (cond (is_at (name_cmp q) e.0) (Some e.1)) (found-find es q)
 
 gone : (e : DocName × List Version) (es : Tree) (q : DocName) → is_at (name_cmp q) e.0 ≡ true → IsTrue (below_all name_cmp e.0 es) → found q es ≡ None
 gone e es q ties below =
@@ -64,6 +61,24 @@ module _ (f : ℤ) (q : DocName) where
         let more = found_kept es r.3 (subst (λ u. RetainsPairs T u es r.3) said.2 r.5) (second_so (below_all name_cmp e.0 es) _ rise) in
         ap (found q) r.6
         ∙ next_kept e es r.3 r.0 (is_at (name_cmp q) e.0) r.1 said.0 said.1 refl (λ ties. gone e es q ties (first_so _ (is_sorted name_cmp es) rise)) more
+
+-- and the entries as a whole
+next_cut : (name : DocName) (w : List Version) (rest : Tree) → cond (is_some (held w)) ((name, w) ∷ rest) rest ≡ with_chain name w rest
+next_cut name [] rest = refl
+next_cut name (v ∷ vs) rest = refl
+
+module _ (f : ℤ) {F : Type 0} (T : F → DocName → List Version → Bool → List Version → F → Type 0) (g : F)
+    (says : (k : DocName) (v : List Version) (b : Bool) (w : List Version) (g' : F) → T g k v b w g' → (b ≡ is_some (held w)) × (w ≡ cut f v) × (g' ≡ g)) where
+  pub cut_entries : (es kept : Tree) → RetainsPairs T g es kept → kept ≡ all_cut f es
+  cut_entries [] kept r = r
+  cut_entries (e ∷ es) kept r =
+      let said = says e.0 e.1 r.0 r.1 r.2 r.4 in
+      let more = cut_entries es r.3 (subst (λ u. RetainsPairs T u es r.3) said.2 r.5) in
+      r.6
+      ∙ ap (λ b. cond b ((e.0, r.1) ∷ r.3) r.3) said.0
+      ∙ next_cut e.0 r.1 r.3
+      ∙ ap (λ w. with_chain e.0 w r.3) said.1
+      ∙ ap (with_chain e.0 (cut f e.1)) more
 
 held_chain : (vs : List Version) → unwrap_or (held vs) [] ≡ vs
 held_chain [] = refl
@@ -101,8 +116,8 @@ module _ (P : Version → Type 0) where
       let short : k < length vs = omega (arith, length-reverse vs, within) in
       subst P (sym (get_or-reverse vs k d short)) (ps (length vs - 1 - k) d (omega arith))
 
-  all_cut : (f : ℤ) (vs : List Version) → All P vs → All P (cut f vs)
-  all_cut f vs ps = all_reverse (kept f (reverse vs)) (all_kept f (reverse vs) (all_reverse vs ps))
+  all_left : (f : ℤ) (vs : List Version) → All P vs → All P (cut f vs)
+  all_left f vs ps = all_reverse (kept f (reverse vs)) (all_kept f (reverse vs) (all_reverse vs ps))
 
 held_full : (vs chain : List Version) → held vs ≡ Some chain → 0 < length chain
 held_full [] chain is = absurd (cc)
@@ -117,7 +132,7 @@ pub sound_cut : (old new : Tree) (f last : ℤ) → IsSound old last → ((q : D
 sound_cut old new f last sound same = record {
   some = λ q chain is. cut_full f (found q old) chain (sym (same q) ∙ is);
   ends = λ q. subst (All (λ v. v.time ≤ℤ last)) (sym (ap (λ o. unwrap_or o []) (same q) ∙ chain_cut f (found q old)))
-      (all_cut (λ v. v.time ≤ℤ last) f (unwrap_or (found q old) []) (sound.ends q));
+      (all_left (λ v. v.time ≤ℤ last) f (unwrap_or (found q old) []) (sound.ends q));
 }
 
 -- ---- and show the same

@@ -1,5 +1,6 @@
 pub mod ChainLaws
 pub mod Compacting
+pub mod Installed
 pub mod Installing
 pub mod Listing
 pub mod Times

@@ -13,8 +13,8 @@ use Rattle.fs_write.specs.Batch.{Docs}
 use Rattle.fs_history.specs.declared.version.Version.{Version}
 use Rattle.fs_versions.specs.Chain.{shown_at}
 use Rattle.fs_versions.specs.Listed.{all_shown}
+use Rattle.fs_versions.specs.Laws.{none_below}
 use Rattle.fs_versions.specs.Sound.{Tree}
-use Rattle.fs_versions.proofs.TreeLaws.{none_below}
 
 -- each document that is shown, at its name
 with_name : DocName → Option Document → List (DocName × Document) → List (DocName × Document)

@@ -15,6 +15,7 @@ use Rattle.fs_value.specs.Rising.{less_is}
 use Rattle.fs_write.specs.Batch.{changes_by_name}
 use Rattle.fs_write.specs.declared.change.Change.{Change}
 use Rattle.fs_history.specs.declared.version.Version.{Version}
+use Rattle.fs_versions.specs.Laws.{none_below}
 use Rattle.fs_versions.specs.Sound.{Tree, found, chain_in, held, changed, without_last, HasNoEmpty, HasChanged, Puts}
 
 -- ---- names
@@ -45,13 +46,6 @@ unseen (x ∷ done) c rest rise =
     let greater : name_cmp c.name x.name ≡ Greater = name_cmp_total.antisymm c.name x.name ∙ ap ordering_reverse less in
     ap (λ r. cond (is_eq r) (Some x) (find name_cmp c.name (changes_by_name done))) greater
     ∙ unseen done c rest (second_so (below_all name_cmp x.name (changes_by_name (done ++ c ∷ rest))) _ rise)
-
-pub none_below : {X : Type 0} (k : DocName) (es : List (DocName × X)) → IsTrue (below_all name_cmp k es) → find name_cmp k es ≡ None
-none_below k [] below = refl
-none_below k (e ∷ es) below =
-    let less : name_cmp k e.0 ≡ Less = less_is _ (first_so _ (below_all name_cmp k es) below) in
-    ap (λ r. cond (is_eq r) (Some e.1) (find name_cmp k es)) less
-    ∙ none_below k es (second_so (is_lt (name_cmp k e.0)) _ below)
 
 both_so : (a b : Bool) → IsTrue a → IsTrue b → IsTrue (a && b)
 both_so true b p q = q

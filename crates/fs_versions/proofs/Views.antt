@@ -1,9 +1,10 @@
 -- The chains of a tree as contracts see them.
-use Rattle.std.proofs.Common.{◌≡◌, ◌<◌, List, [], ◌∷◌, length, Option, Some, None, refl, sym, ap, ◌∙◌, arith}
+use Rattle.std.proofs.Common.{◌≡◌, ◌<◌, List, [], ◌∷◌, length, cond, Option, Some, None, refl, sym, ap, ◌∙◌, arith}
 use Rattle.std.specs.Prelude.{unwrap_or, IsNone, IfSome}
 use Rattle.std.specs.Borrow.{Bor}
 use Rattle.std.specs.Option.{option_copied}
-use Rattle.std.specs.FinMap.{from_entries, get, get-empty, empty, same_map}
+use Rattle.std.specs.BTreeMap.{is_at}
+use Rattle.std.specs.FinMap.{FinMap, empty, entries, find, from_entries, get, get-empty, get-entries, same_map}
 use Rattle.fs_path.specs.NameOrder.{name_cmp, name_cmp_total, name_same}
 use Rattle.fs_path.specs.declared.name.DocName.{DocName}
 use Rattle.fs_value.specs.Tree.{get_tree}
@@ -18,6 +19,13 @@ found_get tree q = get_tree name_cmp_total tree q
 
 pub chain_get : (tree : Tree) (q : DocName) → chain_in q tree ≡ unwrap_or (get (from_entries {R = name_cmp} tree) q) []
 chain_get tree q = ap (λ o. unwrap_or o []) (found_get tree q)
+
+pub found-find : (es : Tree) (q : DocName) → found q es ≡ find name_cmp q es
+found-find [] q = refl
+found-find (e ∷ es) q = ap (cond (is_at (name_cmp q) e.0) (Some e.1)) (found-find es q)
+
+pub found_entries : (m : FinMap name_cmp (List Version)) (q : DocName) → found q (entries m) ≡ get m q
+found_entries m q = found-find (entries m) q ∙ sym (get-entries m q)
 
 pub same_view : (old new : Tree) → SameTree old new → from_entries {R = name_cmp} new ≡ from_entries {R = name_cmp} old
 same_view old new same =

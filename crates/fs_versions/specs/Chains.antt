@@ -1,8 +1,9 @@
 -- What contracts see of the versions of all documents: by name the chains, of which none is empty; the floor; and the last
 -- time at which a batch was installed, or the first floor where none was.
-use Rattle.std.specs.Prelude.{◌≡◌, ℤ, List, [], unwrap_or, refl}
+use Rattle.std.specs.Prelude.{◌≡◌, ◌≢◌, ℤ, ◌≤ℤ◌, List, [], ◌∷◌, Some, unwrap_or, refl}
 use Rattle.std.specs.Coded.{Coded, code_by, coded×, coded_ℤ, coded_list}
-use Rattle.std.specs.FinMap.{FinMap, code, find, get}
+use Rattle.std.specs.FinMap.{FinMap, code, entries, find, from_entries, get, insert}
+use Rattle.std.specs.List.{All}
 use Rattle.fs_path.specs.NameOrder.{name_cmp}
 use Rattle.fs_path.specs.contracts.name.DocName as name
 use Rattle.fs_path.specs.declared.name.DocName.{DocName}
@@ -30,7 +31,47 @@ chains_code =
 abbrev pub chain_of : Chains → DocName → List Version
 chain_of v name = unwrap_or (get v.by_name name) []
 
--- ---- what becomes of them
+-- no name stands there with a chain that is empty
+abbrev pub HasNoEmptyChain : Chains → Type 0
+HasNoEmptyChain v = (name : DocName) → get v.by_name name ≢ Some []
+
+-- no version is later than the last batch
+abbrev pub EndsByLast : Chains → Type 0
+EndsByLast v = (name : DocName) → All (λ w. w.time ≤ℤ v.last) (chain_of v name)
+
+-- ---- what becomes of them: after changes at a time
+
+-- each change puts the version that it leaves behind its name's chain
+abbrev pub with_changes : FinMap name_cmp (List Version) → List Change → ℤ → FinMap name_cmp (List Version)
+with_changes chains [] time = chains
+with_changes chains (c ∷ cs) time = with_changes (insert chains c.name (extended time (Some c) (unwrap_or (get chains c.name) []))) cs time
+
+abbrev pub installed : Chains → List Change → ℤ → Chains
+installed v changes time = record { by_name = with_changes v.by_name changes time; floor = v.floor; last = time }
+
+-- versions, that ended by a time, were as these are before changes at the last time were installed
+pub record IsBefore (old now : Chains) (changes : List Change) (time : ℤ) : Type 0 where
+  pub last : old.last ≡ time
+  pub some : HasNoEmptyChain old
+  pub ends : EndsByLast old
+  pub installed : now ≡ installed old changes now.last
+
+-- ---- from a floor on
+
+-- an entry, if its chain is not empty
+abbrev pub with_chain : DocName → List Version → List (DocName × List Version) → List (DocName × List Version)
+with_chain name [] es = es
+with_chain name (v ∷ vs) es = (name, v ∷ vs) ∷ es
+
+-- each name's chain from a floor on, and no name whose chain is empty then
+abbrev pub all_cut : ℤ → List (DocName × List Version) → List (DocName × List Version)
+all_cut floor [] = []
+all_cut floor (e ∷ es) = with_chain e.0 (cut floor e.1) (all_cut floor es)
+
+abbrev pub compacted : Chains → ℤ → Chains
+compacted v floor = record { by_name = from_entries (all_cut floor (entries v.by_name)); floor = floor; last = v.last }
+
+-- ---- the same, name by name
 
 -- after changes at a time
 pub record Installs (old new : Chains) (changes : List Change) (time : ℤ) : Type 0 where

@@ -79,7 +79,7 @@ fn take_back(chains: &mut BTreeMap<DocName, Chain>, name: &DocName)
 }
 
 // Takes back what these changes put in.
-fn take_all_back(chains: &mut BTreeMap<DocName, Chain>, changes: &[Change], time: Micros)
+pub(crate) fn take_all_back(chains: &mut BTreeMap<DocName, Chain>, changes: &[Change], time: Micros)
     requires rising { IsTrue (is_sorted name_cmp (changes_by_name changes.now)) }
     ensures { (before : Tree) → HasNoEmpty before → HasChanged before chains.old.entries changes.now time
         → SameTree before chains.new.entries }

@@ -1,8 +1,8 @@
 //! The versions of all documents.
 use crate::chain::Chain;
-use crate::install::install;
+use crate::install::{install, take_all_back};
 use fs_history::histories_are_lawful;
-use fs_path::DocName;
+use fs_path::{DocName, Scope, covers};
 use fs_time::Micros;
 use fs_value::{Document, Documents};
 use fs_write::Changes;
@@ -48,7 +48,7 @@ impl Model for Versions {
 }
 
 impl Versions {
-    ghost use Rattle.std.specs.Prelude.{◌≡◌, ◌↔◌, ◌<ℤ◌, ◌≤ℤ◌, List, ◌∷◌, [], IsTrue, IsNone, is_some, IfOk, IfSome, OnOk, OnErr};
+    ghost use Rattle.std.specs.Prelude.{◌≡◌, ◌↔◌, ◌<ℤ◌, ◌≤ℤ◌, List, ◌∷◌, [], IsTrue, IsNone, is_some, IfOk, IfSome, OnOk, OnErr, map};
     ghost use Rattle.std.specs.FinMap.{empty, get, values, is_sorted};
     ghost use Rattle.std.specs.Option.{option_copied};
     ghost use Rattle.fs_path.specs.NameOrder.{name_cmp};
@@ -56,8 +56,8 @@ impl Versions {
     ghost use Rattle.fs_history.specs.History.{at, whole};
     ghost use Rattle.fs_history.specs.declared.batch.Batch.{Batch};
     ghost use Rattle.fs_versions.specs.Chain.{shown_at, last_document, cut};
-    ghost use Rattle.fs_versions.specs.Chains.{chain_of, Installs, Compacts};
-    ghost use Rattle.fs_versions.specs.Listed.{documents_at};
+    ghost use Rattle.fs_versions.specs.Chains.{Chains, chain_of, HasNoEmptyChain, EndsByLast, installed, compacted, IsBefore, Installs, Compacts};
+    ghost use Rattle.fs_versions.specs.Listed.{documents_at, documents_in};
     ghost use Rattle.fs_versions.specs.Shows.{Shows};
     ghost use Rattle.fs_versions.specs.Sound.{held};
 
@@ -82,7 +82,9 @@ impl Versions {
 
     /// The time of the last batch that was installed, or the first floor where none was.
     pub fn last(&self) -> Micros
-        ensures { result ≡ self.now.last }
+        ensures value { result ≡ self.now.last }
+        ensures some { HasNoEmptyChain self.now }
+        ensures ends { EndsByLast self.now }
     {
         self.last
     }
@@ -100,6 +102,7 @@ impl Versions {
         requires above_floor { self.old.floor <ℤ time }
         requires later { self.old.last <ℤ time }
         requires rising { IsTrue (is_sorted name_cmp (changes_by_name changes.now)) }
+        ensures value { OnOk result (self.new ≡ installed self.old changes.now time) }
         ensures ok { OnOk result (Installs self.old self.new changes.now time) }
         ensures shows { OnOk result ((h : List Batch) (b : Batch) → Shows h self.old → b.time ≡ time
             → AreChanges (whole h) (whole (b ∷ h)) changes.now → Shows (b ∷ h) self.new) }
@@ -109,6 +112,18 @@ impl Versions {
         install(alloc, &mut self.chains, changes.as_slice(), time)?;
         self.last = time;
         Ok(())
+    }
+
+    /// Takes out what the last `install` put in, given its changes and the time that `last` was before it. It takes no
+    /// memory.
+    pub fn take_back(&mut self, changes: &Changes, last: Micros)
+        requires rising { IsTrue (is_sorted name_cmp (changes_by_name changes.now)) }
+        requires installed { (v : Chains) × IsBefore v self.old changes.now last }
+        ensures { (v : Chains) → v.last ≡ last → HasNoEmptyChain v
+            → self.old ≡ installed v changes.now self.old.last → self.new ≡ v }
+    {
+        take_all_back(&mut self.chains, changes.as_slice(), self.last);
+        self.last = last;
     }
 
     /// The document of a name at a time, which isn't before the floor.
@@ -150,6 +165,29 @@ impl Versions {
         Ok(documents)
     }
 
+    /// The documents in the scope of a query at a time, which isn't before the floor, in the order of their names. Only
+    /// pointers to them are given.
+    pub fn documents_in(
+        &self,
+        alloc: Global,
+        scope: &Scope,
+        time: Micros,
+    ) -> Result<Vec<&Document>, AllocError>
+        requires { self.now.floor ≤ℤ time }
+        ensures value { IfOk result (λ v. map (λ d. d.now) v.items ≡ documents_in scope.now self.now time) }
+        ensures shows { (h : List Batch) → Shows h self.now → documents_at self.now time ≡ values (at h time) }
+    {
+        let mut documents = Vec::new(alloc);
+        for (name, chain) in &self.chains {
+            if covers(scope, name)
+                && let Some(document) = chain.shown(time)
+            {
+                documents.push(document)?;
+            }
+        }
+        Ok(documents)
+    }
+
     /// The chain of a name, and `None` where it is empty.
     pub fn chain(&self, name: &DocName) -> Option<&Chain>
         ensures some { IfSome result (λ c. c.now ≡ chain_of self.now name.now) }
@@ -164,6 +202,7 @@ impl Versions {
     /// Versions that show a history show the same afterwards.
     pub fn compact(&mut self, floor: Micros)
         requires { self.old.floor ≤ℤ floor }
+        ensures value { self.new ≡ compacted self.old floor }
         ensures cut { Compacts self.old self.new floor }
         ensures shows { (h : List Batch) → Shows h self.old → Shows h self.new }
     {

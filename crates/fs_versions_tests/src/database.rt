@@ -1,5 +1,5 @@
 //! A database of documents `c/a`, `c/b` and `c/c` with one field `n`, whose batches are lines of a table.
-use fs_path::{DocName, Text};
+use fs_path::{DocName, Ids, Scope, Text};
 use fs_time::Micros;
 use fs_value::{Document, DocumentMap, Fields, SharedFields, Value};
 use fs_versions::{Chain, Versions};
@@ -24,10 +24,34 @@ pub fn name_of(alloc: Global, id: &str) -> Result<DocName, AllocError> {
     DocName::of_path(format!(in alloc; "demo/(default)/c/{id}")?).ok_or(AllocError)
 }
 
-// `a=1` sets c/a to {n: 1}, and `a=-` deletes it.
+/// The scope of `c/m`, a collection, or of `c/*m`, a group below a parent.
+pub fn scope_of(alloc: Global, text: &str) -> Result<Scope, AllocError> {
+    let (above, id) = text.rsplit_once("/").unwrap_or(("", text));
+    let mut parent = Ids::new(alloc);
+    if above != "" {
+        for one in above.split("/") {
+            parent.push(Text::from_str(alloc, one)?)?;
+        }
+    }
+    match id.strip_prefix("*") {
+        Some(id) => Ok(Scope::Group {
+            parent,
+            id: Text::from_str(alloc, id)?,
+        }),
+        None => Ok(Scope::Collection {
+            parent,
+            id: Text::from_str(alloc, id)?,
+        }),
+    }
+}
+
+// `a=1` sets c/a to {n: 1}, and `a=-` deletes it. A name may also be written with its database.
 fn act(alloc: Global, text: &str) -> Result<Act, AllocError> {
     let (id, value) = text.split_once("=").unwrap_or((text, "-"));
-    let name = name_of(alloc, id)?;
+    let name = match id.split_once("/") {
+        Some(_) => DocName::of_path(String::from_str(alloc, id)?).ok_or(AllocError)?,
+        None => name_of(alloc, id)?,
+    };
     if value == "-" {
         return Ok(Act::Delete { name });
     }
@@ -112,30 +136,31 @@ impl Database {
         Ok(text)
     }
 
-    /// Carries out a line of the batches. Where memory is wanting, nothing has changed, and the second time it goes well.
+    /// Carries out a line of the batches. The first time it is taken back, or memory is wanting, and nothing has changed.
     pub fn commit(&mut self, alloc: Global, line: &str) -> Result<bool, AllocError> {
         let (time, texts) = line.split_once(" | ").unwrap_or((line, ""));
         let time = moment(time)?;
         let all = writes(alloc, texts)?;
         let documents = self.now.documents(alloc)?;
-        if all.len() > 500 || time <= self.versions.floor() || time <= self.versions.last() {
+        let last = self.versions.last();
+        if all.len() > 500 || time <= self.versions.floor() || time <= last {
             return Ok(false);
         }
-        match apply_batch(alloc, &documents, &all, time) {
-            Ok((changes, _)) => {
-                let before = self.chains(alloc)?;
-                if let Err(_) = self.versions.install(alloc, &changes, time) {
-                    if self.chains(alloc)?.as_str() != before.as_str() {
-                        return Ok(false);
-                    }
-                    self.versions.install(alloc, &changes, time)?;
-                }
-                for change in changes.as_slice() {
-                    self.absorb(alloc, change)?;
-                }
-                Ok(true)
-            }
-            Err(_) => Ok(false),
+        let Ok((changes, _)) = apply_batch(alloc, &documents, &all, time) else {
+            return Ok(false);
+        };
+        let before = self.chains(alloc)?;
+        if self.versions.install(alloc, &changes, time).is_ok() {
+            self.versions.take_back(&changes, last);
         }
+        let is_back = self.chains(alloc)?.as_str() == before.as_str();
+        if !is_back || time <= self.versions.floor() || time <= self.versions.last() {
+            return Ok(false);
+        }
+        self.versions.install(alloc, &changes, time)?;
+        for change in changes.as_slice() {
+            self.absorb(alloc, change)?;
+        }
+        Ok(true)
     }
 }

@@ -50,3 +50,24 @@ pub const CHAINS: &str =
 14 | 14:4 15:5 | 12:5 15:- | 15:3
 15 | 15:5 |  | 15:3
 16 | 15:5 |  | 15:3"#;
+
+/// Batches as those above, of the names of two databases.
+pub const TWO_DATABASES: &str =
+    r#"2 | demo/(default)/c/a=1 demo/(default)/c/a/m/x=2 demo/(default)/c/b/m/y=3 demo/(default)/c-/a=4 demo/other/c/a=5 demo/other/c/a/m/x=6
+3 | demo/(default)/c/b=7 demo/(default)/m/z=8 demo/other/c/a=- demo/(default)/c/a/m/x/c/a=9"#;
+
+/// Each line: a time, a collection, or a group with `*` before its id, and `n` of each document that is in it then.
+pub const SCOPES: &str = r#"1 | c |
+2 | c | 1 5
+3 | c | 1 7
+3 | c- | 4
+2 | c/a/m | 2 6
+3 | c/b/m | 3
+3 | m | 8
+2 | *m | 2 3 6
+3 | *m | 2 3 8 6
+3 | c/a/*m | 2 6
+3 | *c | 1 9 7
+3 | c/b/*c |
+3 | c/a/m/x/c | 9
+3 | d |"#;

@@ -1,13 +1,13 @@
 //! What versions show at each time, and after each compaction.
-use crate::database::{Database, IDS, chain_text, moment, name_of, told};
-use crate::tables::{BATCHES, CHAINS, SHOWN};
+use crate::database::{Database, IDS, chain_text, moment, name_of, scope_of, told};
+use crate::tables::{BATCHES, CHAINS, SCOPES, SHOWN, TWO_DATABASES};
 use fs_versions::Versions;
 use std::alloc::{AllocError, Global};
 use std::test::Fail;
 
-fn database(alloc: Global) -> Result<Database, AllocError> {
+fn database(alloc: Global, batches: &str) -> Result<Database, AllocError> {
     let mut database = Database::new(alloc)?;
-    for line in BATCHES.split("\n") {
+    for line in batches.split("\n") {
         if !database.commit(alloc, line)? {
             return Err(AllocError);
         }
@@ -84,10 +84,44 @@ fn shows_all(alloc: Global, versions: &Versions) -> Result<bool, AllocError> {
     Ok(true)
 }
 
+// `n` of each document in a scope, as ` 1 5`.
+fn told_in(
+    alloc: Global,
+    versions: &Versions,
+    scope: &str,
+    time: &str,
+) -> Result<String, AllocError> {
+    let scope = scope_of(alloc, scope)?;
+    let at = moment(time)?;
+    let mut text = String::new(alloc);
+    if at >= versions.floor() {
+        let documents = versions.documents_in(alloc, &scope, at)?;
+        for document in documents.as_slice() {
+            let n = told(alloc, Some(*document))?;
+            text.push_str(" ")?;
+            text.push_str(n.as_str())?;
+        }
+    }
+    Ok(text)
+}
+
+#[test]
+fn documents_of_collections_and_groups(rt: HostRuntime) -> Result<(), Fail> {
+    let alloc = rt.alloc();
+    let database = database(alloc, TWO_DATABASES)?;
+    for line in SCOPES.split("\n") {
+        let (time, rest) = line.split_once(" | ").unwrap_or((line, ""));
+        let (scope, wanted) = rest.split_once(" |").unwrap_or((rest, ""));
+        let found = told_in(alloc, &database.versions, scope, time)?;
+        assert_eq!(rt; found.as_str(), wanted, "{line}");
+    }
+    Ok(())
+}
+
 #[test]
 fn documents_at_each_time(rt: HostRuntime) -> Result<(), Fail> {
     let alloc = rt.alloc();
-    let database = database(alloc)?;
+    let database = database(alloc, BATCHES)?;
     assert!(rt; shows_all(alloc, &database.versions)?);
     assert_eq!(rt; database.versions.floor().get(), 0);
     assert_eq!(rt; database.versions.last().get(), 15);
@@ -109,7 +143,7 @@ fn the_same_after_each_compaction(rt: HostRuntime) -> Result<(), Fail> {
     let alloc = rt.alloc();
     for line in CHAINS.split("\n") {
         let (floor, _) = line.split_once(" | ").unwrap_or((line, ""));
-        let mut database = database(alloc)?;
+        let mut database = database(alloc, BATCHES)?;
         let floor = moment(floor)?;
         if database.versions.floor() <= floor {
             database.versions.compact(floor);
@@ -123,7 +157,7 @@ fn the_same_after_each_compaction(rt: HostRuntime) -> Result<(), Fail> {
 #[test]
 fn compacted_again_and_again(rt: HostRuntime) -> Result<(), Fail> {
     let alloc = rt.alloc();
-    let mut database = database(alloc)?;
+    let mut database = database(alloc, BATCHES)?;
     for line in CHAINS.split("\n") {
         let (floor, _) = line.split_once(" | ").unwrap_or((line, ""));
         let floor = moment(floor)?;

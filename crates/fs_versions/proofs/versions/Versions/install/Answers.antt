@@ -4,10 +4,11 @@ use Rattle.std.specs.Prelude.{List, unwrap_or, []}
 use Rattle.fs_path.specs.NameOrder.{name_cmp}
 use Rattle.fs_history.specs.declared.version.Version.{Version}
 use Rattle.fs_versions.specs.Chain.{extended}
-use Rattle.fs_versions.specs.Chains.{Chains}
+use Rattle.fs_versions.specs.Chains.{Chains, installed}
 use Rattle.fs_write.specs.Batch.{changes_by_name}
 use Rattle.std.specs.FinMap.{find}
 use Rattle.fs_versions.specs.Sound.{found, HasChanged}
+use Rattle.fs_versions.proofs.Installed.{installed_view}
 use Rattle.fs_versions.proofs.Installing.{sound_same, ends_before, sound_more, chain_changed, shows_more, at_error}
 use Rattle.fs_versions.proofs.Views.{chain_get, same_view}
 use Rattle.fs_versions.proofs.versions.Versions.install.Goals as goal
@@ -32,6 +33,15 @@ invariant_of-self-2 c =
     sound_more c.self.inside.chains.entries c.install.new.chains.entries c.args.changes.now c.self.inside.last c.args.time c.self.invariant
     (subst (λ (t : ℤ). t <ℤ c.args.time) (sym (ap (λ (v : Chains). v.last) c.self.view_is)) c.requires.later)
     (subst (λ cs. HasChanged c.self.inside.chains.entries c.install.new.chains.entries cs c.args.time) c.as_slice.ensures c.in_ok-install.ensures.ok)
+
+pub returns-clause-value : goal.returns-clause-value
+returns-clause-value c =
+    let old = c.self.inside.chains.entries in
+    let new = c.install.new.chains.entries in
+    let has = subst (λ cs. HasChanged old new cs c.args.time) c.as_slice.ensures c.in_ok-install.ensures.ok in
+    ap (λ (m : FinMap name_cmp (List Version)). record { by_name = m; floor = c.self.inside.floor; last = c.args.time })
+    (installed_view old new c.args.changes.now c.args.time c.requires.rising has)
+    ∙ ap (λ v. installed v c.args.changes.now c.args.time) c.self.view_is
 
 pub returns-clause-ok : goal.returns-clause-ok
 returns-clause-ok c =
