@@ -1,0 +1,8 @@
+pub mod Absorbing
+pub mod Alike
+pub mod Cutting
+pub mod Fitting
+pub mod Holding
+pub mod Installing
+pub mod Listing
+pub mod Named

@@ -1,0 +1,14 @@
+-- A store as what has become of it, so that stores of the same events are the same wherever they stand.
+use Rattle.std.specs.Prelude.{ℤ, List, [], ◌∷◌}
+use Rattle.fs_store.specs.Stored.{Stored, started, absorbed, compacted}
+use Rattle.fs_store.specs.declared.release.Release.{Release}
+
+pub data Event : Type 0 where
+  absorbs : Release → Event
+  compacts : ℤ → Event
+
+-- the store that was started at a floor, after these events, the newest in front
+abbrev pub store_of : ℤ → List Event → Stored
+store_of floor [] = started floor
+store_of floor (absorbs release ∷ events) = absorbed (store_of floor events) release
+store_of floor (compacts to ∷ events) = compacted (store_of floor events) to

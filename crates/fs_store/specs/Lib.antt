@@ -1,0 +1,6 @@
+pub mod Stored
+pub mod Events
+pub mod Fits
+pub mod Brings
+pub mod Shows
+pub mod Held

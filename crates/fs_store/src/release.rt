@@ -1,0 +1,14 @@
+//! Releases.
+use fs_time::Micros;
+use fs_write::TimedChanges;
+
+/// What comes to be seen when the released time goes from one time to another: the changes of the commits in between.
+#[derive(Drop, Debug)]
+pub struct Release {
+    /// The released time before.
+    pub from: Micros,
+    /// The released time afterwards. No later commit will be at this time or before it.
+    pub to: Micros,
+    /// The commits behind `from`, up to and with `to`.
+    pub changes: TimedChanges,
+}

@@ -1,0 +1,166 @@
+//! The store.
+use crate::absorb::install_all;
+use crate::fits::{are_next, times_rise};
+use crate::release::Release;
+use fs_edge::Steps;
+use fs_path::DocName;
+use fs_query::{Query, answer_among};
+use fs_time::Micros;
+use fs_value::{Document, Documents};
+use fs_versions::{Chain, Versions};
+use std::alloc::{AllocError, Global};
+use std::marker::Model;
+use std::sync::ledger::Ledger;
+
+/// The documents of a database at each time from a floor up to the time that was released last. Releases bring commits,
+/// and a compaction raises the floor:
+///
+///     new(4)                                          no documents, and 4 is read
+///     absorb 4 to 8: c/a to {n: 1} at 5, gone at 7    c/a is {n: 1} at 5 and 6; 4 to 8 are read
+///     absorb 8 to 9: nothing                          4 to 9 are read
+///     compact(7)                                      7 to 9 are read
+///
+/// Contracts see it as `Stored`. Stores of the same releases and compactions are the same.
+#[derive(Drop, Debug)]
+pub struct Store {
+    versions: Versions,
+    // the end of the last release, or the first floor
+    absorbed: Micros,
+}
+
+impl Model for Store {
+    ghost use Rattle.fs_store.specs.Stored.{Stored, stored_code};
+
+    ghost Value = { Stored };
+
+    ghost coded = { stored_code };
+
+    ghost use Rattle.fs_store.specs.Held.{IsHeld};
+
+    ghost view = { λ s. record { chains = s.versions; absorbed = s.absorbed } };
+
+    ghost invariant = { λ s. IsHeld s.versions s.absorbed };
+}
+
+impl Store {
+    ghost use Rattle.std.specs.Prelude.{◌≡◌, ◌↔◌, ◌≤ℤ◌, List, [], IsTrue, IsNone, IfOk, IfSome, OnOk, OnErr};
+    ghost use Rattle.std.specs.FinMap.{get, values};
+    ghost use Rattle.std.specs.Option.{option_copied};
+    ghost use Rattle.fs_history.specs.History.{at};
+    ghost use Rattle.fs_history.specs.declared.batch.Batch.{Batch};
+    ghost use Rattle.fs_query.specs.Answer.{IsAnswer};
+    ghost use Rattle.fs_versions.specs.Chain.{shown_at};
+    ghost use Rattle.fs_versions.specs.Chains.{chain_of};
+    ghost use Rattle.fs_versions.specs.Listed.{documents_at};
+    ghost use Rattle.fs_store.specs.Brings.{Brings};
+    ghost use Rattle.fs_store.specs.Events.{store_of};
+    ghost use Rattle.fs_store.specs.Fits.{Fits};
+    ghost use Rattle.fs_store.specs.Shows.{Shows};
+    ghost use Rattle.fs_store.specs.Stored.{absorbed, compacted};
+
+    /// A store without documents, which is read from a floor on. The allocator serves what it absorbs.
+    pub fn new(alloc: Global, floor: Micros) -> Store
+        ensures value { result ≡ store_of floor [] }
+        ensures shows { Shows [] result }
+    {
+        Store {
+            versions: Versions::new(alloc, floor),
+            absorbed: floor,
+        }
+    }
+
+    /// The time from which on documents can be read.
+    pub fn floor(&self) -> Micros
+        ensures value { result ≡ self.now.chains.floor }
+        ensures within { self.now.chains.floor ≤ℤ self.now.absorbed }
+    {
+        // Whose field is looked at, what always holds of it is known.
+        let _ = &self.absorbed;
+        self.versions.floor()
+    }
+
+    /// The time up to which documents can be read: the end of the last release, or the first floor.
+    pub fn absorbed(&self) -> Micros
+        ensures value { result ≡ self.now.absorbed }
+        ensures within { self.now.chains.floor ≤ℤ self.now.absorbed }
+    {
+        self.absorbed
+    }
+
+    /// The document of a name at a time that can be read.
+    pub fn get(&self, name: &DocName, time: Micros) -> Option<&Document>
+        requires from { self.now.chains.floor ≤ℤ time }
+        requires to { time ≤ℤ self.now.absorbed }
+        ensures value { option_copied result ≡ shown_at time (chain_of self.now.chains name.now) }
+        ensures shows { (h : List Batch) → Shows h self.now → option_copied result ≡ get (at h time) name.now }
+    {
+        self.versions.at(name, time)
+    }
+
+    /// The answer to a query at a time that can be read. It looks at the documents in the query's scope, and copies only
+    /// those that it answers, which share their fields with those here.
+    pub fn run<L: Ledger>(
+        &self,
+        alloc: Global,
+        q: &Query,
+        time: Micros,
+        steps: &mut Steps<L>,
+    ) -> Result<Documents, AllocError>
+        requires from { self.now.chains.floor ≤ℤ time }
+        requires to { time ≤ℤ self.now.absorbed }
+        ensures answer { IfOk result (λ ds. IsAnswer q.now (documents_at self.now.chains time) ds) }
+        ensures shows { IfOk result (λ ds. (h : List Batch) → Shows h self.now → IsAnswer q.now (values (at h time)) ds) }
+        ensures steps { steps.new ≡ steps.old }
+    {
+        let documents = self.versions.documents_in(alloc, &q.scope, time)?;
+        answer_among(alloc, q, documents.as_slice())
+    }
+
+    /// The chain of a name, and `None` where it is empty.
+    pub fn chain(&self, name: &DocName) -> Option<&Chain>
+        ensures some { IfSome result (λ c. c.now ≡ chain_of self.now.chains name.now) }
+        ensures none { IsNone result ↔ (chain_of self.now.chains name.now ≡ []) }
+    {
+        self.versions.chain(name)
+    }
+
+    /// Whether a release is the next one: it begins where the last one ended, its times rise, and each of its changes goes
+    /// on from the newest document of its name. It takes no memory.
+    pub fn fits(&self, release: &Release) -> bool
+        ensures { IsTrue result ↔ Fits self.now release.now }
+    {
+        let commits = release.changes.as_slice();
+        release.from == self.absorbed
+            && times_rise(release.from, release.to, commits)
+            && are_next(&self.versions, commits)
+    }
+
+    /// Takes in a release that fits. The documents share their fields with those of the changes. Where memory runs out,
+    /// nothing is changed.
+    ///
+    /// A store that shows a history shows it with the commits of the release afterwards.
+    pub fn absorb(&mut self, alloc: Global, release: &Release) -> Result<(), AllocError>
+        requires { Fits self.old release.now }
+        ensures ok { OnOk result (self.new ≡ absorbed self.old release.now) }
+        ensures shows { OnOk result ((h : List Batch) (k : List Batch) → Shows h self.old → Brings h release.now.changes k
+            → Shows k self.new) }
+        ensures err { OnErr result (self.new ≡ self.old) }
+    {
+        install_all(alloc, &mut self.versions, release.changes.as_slice())?;
+        self.absorbed = release.to;
+        Ok(())
+    }
+
+    /// Raises the floor, up to the end of the last release at most, and drops what no time from there on shows. It takes no
+    /// memory.
+    ///
+    /// A store that shows a history shows the same afterwards.
+    pub fn compact(&mut self, floor: Micros)
+        requires from { self.old.chains.floor ≤ℤ floor }
+        requires to { floor ≤ℤ self.old.absorbed }
+        ensures value { self.new ≡ compacted self.old floor }
+        ensures shows { (h : List Batch) → Shows h self.old → Shows h self.new }
+    {
+        self.versions.compact(floor);
+    }
+}
