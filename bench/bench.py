@@ -272,6 +272,14 @@ def long_mask(rand):
         {"update": {"name": DOCUMENTS + "/c/a"}, "updateMask": {"fieldPaths": paths}}]}}
 
 
+def many_appends(rand):
+    """A commit of very many transforms of one array, each of which appends one element."""
+    transforms = [{"fieldPath": "a", "appendMissingElements": {"values": [{"integerValue": str(rand.randrange(100000))}]}}
+                  for _ in range(120000)]
+    return {"commit": {"database": ROOT, "writes": [
+        {"update": {"name": DOCUMENTS + "/c/a"}, "updateTransforms": transforms}]}}
+
+
 def measure_line(name, request):
     script = script_of([request])
     seconds, peak, written = best_of(script, 3)
@@ -290,7 +298,7 @@ def main():
     measure_requests(seed)
     measure_memory("one integer", 5 * lines, seed, one_field)
     measure_memory("ten fields", 5 * lines, seed, ten_fields)
-    for name, request in (("documents", large_documents), ("small values", small_values), ("mask", long_mask)):
+    for name, request in (("documents", large_documents), ("small values", small_values), ("mask", long_mask), ("appends", many_appends)):
         measure_line(name, request(random.Random(seed)))
 
 

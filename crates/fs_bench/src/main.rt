@@ -1,5 +1,10 @@
-//! Times what names and documents cost: `fs_bench measure` prints nanoseconds. Without that word it does nothing.
+//! Times what the libraries cost: `measure` prints nanoseconds of names and documents, `versions=1000` those of a million
+//! versions of so many documents, and `store=1000` what a query costs beside so many documents of another collection. Without
+//! a word it does nothing.
 #![tactic(auto)]
+
+mod store;
+mod versions;
 
 use fs_path::{Bytes, DocName, Text};
 use fs_time::Micros;
@@ -15,6 +20,12 @@ fn main(rt: HostRuntime) -> io::Result<()> {
     for word in env::args(&rt)? {
         if word.as_str() == "measure" {
             measure(&rt)?;
+        }
+        if let Some(count) = word.as_str().strip_prefix("versions=") {
+            versions::measure(&rt, count.parse::<u64>().unwrap_or(0))?;
+        }
+        if let Some(count) = word.as_str().strip_prefix("store=") {
+            store::measure(&rt, count.parse::<u32>().unwrap_or(0))?;
         }
     }
     Ok(())

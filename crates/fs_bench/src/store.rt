@@ -1,0 +1,131 @@
+//! Times queries of the store: over a collection, beside so many documents of another one.
+ghost use Rattle.std.specs.Prelude.{◌≡◌, ◌<◌};
+
+use fs_edge::Steps;
+use fs_path::{DocName, Ids, Scope, Text};
+use fs_query::{Filter, Orders, Query};
+use fs_status::Id;
+use fs_store::{Release, Store};
+use fs_time::Micros;
+use fs_value::{Document, Fields, SharedFields, Value};
+use fs_write::{Change, Changes, TimedChange, TimedChanges};
+use std::alloc::{AllocError, Global};
+use std::io;
+use std::marker::Brand;
+use std::sync::ledger::{Blank, Ledger};
+use std::time::Instant;
+
+/// The documents of the collection that is asked.
+const ASKED: u32 = 10_000;
+
+const ROUNDS: u32 = 20;
+
+/// Prints what a query over the collection costs beside so many other documents.
+pub fn measure(rt: &HostRuntime, others: u32) -> io::Result<()> {
+    let alloc = rt.alloc();
+    let mut store = Store::new(alloc, moment(0));
+    let absorbed = fill(alloc, &mut store, others)?;
+    let start = Instant::now(rt)?;
+    let mut answered = 0usize;
+    for _ in 0..ROUNDS {
+        answered = answered.saturating_add(ask(alloc, &store)?);
+    }
+    let asking = start.elapsed(rt)?.as_micros() / ROUNDS as u128;
+    println!(rt;
+        "{others} others ({absorbed}): a query over {ASKED} documents that answers 10: {asking} us ({answered})"
+    )
+}
+
+fn moment(n: i64) -> Micros {
+    match Micros::new(n.clamp(0, 1_000_000_000)) {
+        Some(time) => time,
+        None => unreachable!(),
+    }
+}
+
+// Whether the documents were taken in: those of the collection, and the others.
+fn fill(alloc: Global, store: &mut Store, others: u32) -> Result<bool, AllocError> {
+    Ok(
+        take_in(alloc, store, created(alloc, "asked", ASKED, 1)?)?
+            && take_in(alloc, store, created(alloc, "other", others, 2)?)?,
+    )
+}
+
+fn take_in(alloc: Global, store: &mut Store, commit: TimedChange) -> Result<bool, AllocError> {
+    let to = commit.time;
+    let mut changes = TimedChanges::new(alloc);
+    changes.push(commit)?;
+    let release = Release {
+        from: store.absorbed(),
+        to,
+        changes,
+    };
+    if !store.fits(&release) {
+        return Ok(false);
+    }
+    store.absorb(alloc, &release)?;
+    Ok(true)
+}
+
+// A commit that creates so many documents of a collection.
+fn created(
+    alloc: Global,
+    collection: &str,
+    count: u32,
+    time: i64,
+) -> Result<TimedChange, AllocError> {
+    let mut changes = Changes::new(alloc);
+    for i in 0..count {
+        let path = format!(in alloc; "demo/(default)/{collection}/d{i:07}")?;
+        let name = DocName::of_path(path).ok_or(AllocError)?;
+        let mut fields = Fields::new(alloc);
+        fields.put(Text::from_str(alloc, "n")?, Value::Integer(i as i64))?;
+        let after = Document {
+            name: name.copy(alloc)?,
+            fields: SharedFields::of(alloc, fields)?,
+            created: moment(time),
+            updated: moment(time),
+        };
+        changes.push(Change {
+            name,
+            before: None,
+            after: Some(after),
+        })?;
+    }
+    Ok(TimedChange {
+        time: moment(time),
+        id: Id::new(time.unsigned_abs()),
+        changes,
+    })
+}
+
+fn ask(alloc: Global, store: &Store) -> Result<usize, AllocError> {
+    answered::<Brand>(alloc, store, Blank::new(1))
+}
+
+// How many documents the query answers. Its steps are counted by nobody.
+fn answered<L: Ledger>(alloc: Global, store: &Store, blank: Blank) -> Result<usize, AllocError>
+    requires name { blank.name ≡ L.name }
+    requires parts { blank.parts ≡ L.parts }
+    requires some { 0 < blank.parts }
+{
+    let mut steps: Steps<L> = Steps::new(blank);
+    let time = moment(2);
+    if time < store.floor() || store.absorbed() < time {
+        return Ok(0);
+    }
+    let query = Query {
+        scope: Scope::Collection {
+            parent: Ids::new(alloc),
+            id: Text::from_str(alloc, "asked")?,
+        },
+        filter: Filter::All,
+        orders: Orders::new(alloc),
+        start: None,
+        end: None,
+        offset: 0,
+        limit: Some(10),
+        select: None,
+    };
+    Ok(store.run(alloc, &query, time, &mut steps)?.len())
+}
