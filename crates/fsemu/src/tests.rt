@@ -261,6 +261,42 @@ fn a_commit_has_up_to_five_hundred_writes(rt: HostRuntime) -> Result<(), Fail> {
     expect(&rt, alloc, script.as_str(), want.as_str())
 }
 
+/// A list of what is made of each number from 0 on, as often as `rounds` says.
+fn listed(
+    alloc: Global,
+    rounds: usize,
+    count: usize,
+    front: &str,
+    back: &str,
+) -> Result<String, AllocError> {
+    let mut text = String::new(alloc);
+    for i in 0..rounds {
+        for k in 0..count {
+            let comma = if i == 0 && k == 0 { "" } else { "," };
+            text.push_str(format!(in alloc; "{comma}{front}~/c/d{k}{back}")?.as_str())?;
+        }
+    }
+    Ok(text)
+}
+
+#[test]
+fn a_thousand_names_with_repeats_are_answered_once_each(rt: HostRuntime) -> Result<(), Fail> {
+    let alloc = rt.alloc();
+    let names = listed(alloc, 2, 500, "\"", "\"")?;
+    let answers = listed(
+        alloc,
+        1,
+        500,
+        "{\"missing\":\"",
+        "\",\"readTime\":\"2024-01-01T00:00:00Z\"}",
+    )?;
+    let script = format!(in alloc;
+        "{{\"session\":\"s\",\"batchGetDocuments\":{{\"database\":\"@\",\"documents\":[{names}]}}}}"
+    )?;
+    let want = format!(in alloc; "{{\"result\":[{answers}],\"session\":\"s\"}}\n")?;
+    expect(&rt, alloc, script.as_str(), want.as_str())
+}
+
 #[test]
 fn a_document_has_up_to_one_mebibyte(rt: HostRuntime) -> Result<(), Fail> {
     let alloc = rt.alloc();
