@@ -113,13 +113,15 @@ impl DocName {
     }
 
     pub fn project(&self) -> &str
-        ensures { result.now ≡ self.now.project }
+        ensures value { result.now ≡ self.now.project }
+        ensures whole { has_slash result.now ≡ false }
     {
         self.head().project
     }
 
     pub fn database(&self) -> &str
-        ensures { result.now ≡ self.now.database }
+        ensures value { result.now ≡ self.now.database }
+        ensures whole { has_slash result.now ≡ false }
     {
         self.head().database
     }
