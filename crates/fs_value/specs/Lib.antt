@@ -14,3 +14,4 @@ pub mod FieldPlace
 pub mod FieldPaths
 pub mod Rising
 pub mod Tree
+pub mod Search
