@@ -28,6 +28,10 @@ abbrev pub update_time_text : ℕ → Option ℤ → List ℕ
 update_time_text write (Some time) = codes "write " ++ decimal write ++ (codes ": update time is " ++ time_text time)
 update_time_text write None = codes "write " ++ decimal write ++ codes ": update time is none"
 
+-- a time that was asked for, and the bound on whose wrong side it is
+abbrev pub read_time_text : ℤ → List ℕ → ℤ → List ℕ
+read_time_text time side bound = codes "read time " ++ time_text time ++ (codes " is " ++ (side ++ (codes " " ++ time_text bound)))
+
 abbrev pub message_text : Reason → List ℕ
 message_text (reasons.Rule rule place) = rule_text rule ++ (codes " at " ++ place)
 message_text (reasons.Missing write) = codes "write " ++ decimal write ++ codes ": document missing"
@@ -36,6 +40,8 @@ message_text (reasons.OtherTime write time) = update_time_text write time
 message_text (reasons.DeepAfter write) = codes "write " ++ decimal write ++ codes ": E6"
 message_text (reasons.LargeAfter write bytes) = codes "write " ++ decimal write ++ (codes ": document has " ++ decimal bytes ++ codes " bytes")
 message_text (reasons.NoDocument time) = codes "no document at " ++ time_text time
+message_text (reasons.TooOld time floor) = read_time_text time (codes "before") floor
+message_text (reasons.TooNew time released) = read_time_text time (codes "after") released
 message_text (reasons.AtLimit name number) = codes "limit " ++ name ++ (codes " " ++ decimal number)
 message_text (reasons.Method name) = codes "method " ++ name
 message_text (reasons.Line line) = line_text line

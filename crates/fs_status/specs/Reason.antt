@@ -3,7 +3,7 @@ use Rattle.std.specs.Prelude.{ℕ, Option, Some, None}
 use Rattle.fs_status.specs.declared.code.Code.{Code}
 use Rattle.fs_status.specs.declared.code.Code.TheVariants.{InvalidArgument, FailedPrecondition, NotFound, AlreadyExists, ResourceExhausted, Unimplemented, OutOfMemory}
 use Rattle.fs_status.specs.declared.reason.Reason.{Reason}
-use Rattle.fs_status.specs.declared.reason.Reason.TheVariants.{Rule, Missing, Exists, OtherTime, DeepAfter, LargeAfter, NoDocument, AtLimit, Method, Line, Memory}
+use Rattle.fs_status.specs.declared.reason.Reason.TheVariants.{Rule, Missing, Exists, OtherTime, DeepAfter, LargeAfter, NoDocument, TooOld, TooNew, AtLimit, Method, Line, Memory}
 
 abbrev pub code_of : Reason → Code
 code_of (Rule rule place) = InvalidArgument
@@ -13,6 +13,8 @@ code_of (OtherTime write time) = FailedPrecondition
 code_of (DeepAfter write) = InvalidArgument
 code_of (LargeAfter write bytes) = InvalidArgument
 code_of (NoDocument time) = NotFound
+code_of (TooOld time floor) = FailedPrecondition
+code_of (TooNew time released) = InvalidArgument
 code_of (AtLimit name number) = ResourceExhausted
 code_of (Method name) = Unimplemented
 code_of (Line line) = InvalidArgument

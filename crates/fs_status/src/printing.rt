@@ -1,6 +1,6 @@
 //! The messages of refusals.
 ghost use Rattle.std.specs.Prelude.{◌≡◌, IfOk, string_bytes};
-ghost use Rattle.fs_status.specs.Message.{message_text, line_text, rule_text, update_time_text};
+ghost use Rattle.fs_status.specs.Message.{message_text, line_text, read_time_text, rule_text, update_time_text};
 
 use crate::reason::{LineFault, Reason};
 use crate::refusal::Refusal;
@@ -36,6 +36,8 @@ fn reason_text(alloc: Global, reason: &Reason) -> Result<String, AllocError>
             let time = time.as_str();
             format!(in alloc; "no document at {time}")
         }
+        Reason::TooOld(time, floor) => read_time_text(alloc, *time, "before", *floor),
+        Reason::TooNew(time, released) => read_time_text(alloc, *time, "after", *released),
         Reason::AtLimit(name, number) => {
             let name = name.as_str();
             format!(in alloc; "limit {name} {number}")
@@ -61,6 +63,21 @@ fn update_time_text(alloc: Global, write: u32, time: Option<Micros>) -> Result<S
         }
         None => format!(in alloc; "write {write}: update time is none"),
     }
+}
+
+// A time that was asked for, and the bound on whose wrong side it is.
+fn read_time_text(
+    alloc: Global,
+    time: Micros,
+    side: &str,
+    bound: Micros,
+) -> Result<String, AllocError>
+    ensures { IfOk result (λ s. string_bytes s ≡ read_time_text time side.now bound) }
+{
+    let time = print(alloc, time)?;
+    let bound = print(alloc, bound)?;
+    let (time, bound) = (time.as_str(), bound.as_str());
+    format!(in alloc; "read time {time} is {side} {bound}")
 }
 
 // A rule by its letter and its number, and the number that it carries.

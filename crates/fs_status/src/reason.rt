@@ -24,6 +24,10 @@ pub enum Reason {
     LargeAfter(u32, u128),
     /// No document has the name at the time of the read.
     NoDocument(Micros),
+    /// The time that was asked for, and the earliest time that can still be read.
+    TooOld(Micros, Micros),
+    /// The time that was asked for, and the latest time that can be read by now.
+    TooNew(Micros, Micros),
     /// A limit by its name, with the number that it allows.
     AtLimit(Text, u64),
     /// A method or a member that isn't served, by its name.
@@ -56,6 +60,8 @@ impl Reason {
             Reason::DeepAfter(_) => Code::InvalidArgument,
             Reason::LargeAfter(_, _) => Code::InvalidArgument,
             Reason::NoDocument(_) => Code::NotFound,
+            Reason::TooOld(_, _) => Code::FailedPrecondition,
+            Reason::TooNew(_, _) => Code::InvalidArgument,
             Reason::AtLimit(_, _) => Code::ResourceExhausted,
             Reason::Method(_) => Code::Unimplemented,
             Reason::Line(_) => Code::InvalidArgument,
@@ -88,6 +94,8 @@ impl Reason {
             Reason::DeepAfter(write) => Reason::DeepAfter(*write),
             Reason::LargeAfter(write, bytes) => Reason::LargeAfter(*write, *bytes),
             Reason::NoDocument(time) => Reason::NoDocument(*time),
+            Reason::TooOld(time, floor) => Reason::TooOld(*time, *floor),
+            Reason::TooNew(time, released) => Reason::TooNew(*time, *released),
             Reason::AtLimit(name, number) => Reason::AtLimit(name.copy(alloc)?, *number),
             Reason::Method(name) => Reason::Method(name.copy(alloc)?),
             Reason::Line(line) => Reason::Line(*line),

@@ -83,11 +83,22 @@ fn each_reason_is_told(rt: HostRuntime) -> Result<(), Fail> {
         expect(&rt, alloc, reason, Code::InvalidArgument, None, want)?;
     }
     let t1 = Micros::new(1_704_067_200_000_001).ok_or("a moment")?;
+    let t2 = Micros::new(1_704_067_200_000_002).ok_or("a moment")?;
     let others = [
         (
             Reason::NoDocument(t1),
             Code::NotFound,
             "no document at 2024-01-01T00:00:00.000001Z",
+        ),
+        (
+            Reason::TooOld(t1, t2),
+            Code::FailedPrecondition,
+            "read time 2024-01-01T00:00:00.000001Z is before 2024-01-01T00:00:00.000002Z",
+        ),
+        (
+            Reason::TooNew(t2, t1),
+            Code::InvalidArgument,
+            "read time 2024-01-01T00:00:00.000002Z is after 2024-01-01T00:00:00.000001Z",
         ),
         (
             Reason::Method(Text::from_str(alloc, "listDocuments")?),
