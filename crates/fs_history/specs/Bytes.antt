@@ -29,8 +29,12 @@ shown_size (read.Name name None) = 0
 shown_size (read.Name name (Some d)) = document_size d
 shown_size (read.Query query shown) = sum_by document_size shown
 
+-- what a batch of these writes counts, whose transaction had made these reads
+abbrev pub commit_size : List Write → List Read → ℕ
+commit_size writes reads = batch_extra + sum_by sent_size writes + sum_by shown_size reads
+
 abbrev pub batch_size : Batch → ℕ
-batch_size b = batch_extra + sum_by sent_size b.writes + sum_by shown_size b.reads
+batch_size b = commit_size b.writes b.reads
 
 abbrev pub history_size : List Batch → ℕ
 history_size h = sum_by batch_size h

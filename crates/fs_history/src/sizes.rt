@@ -1,7 +1,7 @@
 //! What batches count in the limit of the journal.
 ghost use Rattle.std.specs.Prelude.{◌≡◌, ◌-◌, ◌^◌, min, sum_by};
 ghost use Rattle.fs_value.specs.Size.{document_size};
-ghost use Rattle.fs_history.specs.Bytes.{sent_size as sent_size_of, shown_size as shown_size_of, batch_size as batch_size_of};
+ghost use Rattle.fs_history.specs.Bytes.{sent_size as sent_size_of, shown_size as shown_size_of, commit_size as commit_size_of, batch_size as batch_size_of};
 
 use crate::batch::Batch;
 use crate::read::{Read, Reads};
@@ -64,11 +64,19 @@ fn all_shown(reads: &Reads) -> u128
     size
 }
 
-/// What a batch counts, in bytes. A number that no `u128` holds is told as the greatest.
+/// What a batch of these writes counts, whose transaction had made these reads, in bytes. A number that no `u128` holds is
+/// told as the greatest.
+pub fn commit_size(writes: &Writes, reads: &Reads) -> u128
+    ensures { result ≡ min (commit_size_of writes.now reads.now) (2 ^ 128 - 1) }
+{
+    BATCH_EXTRA
+        .saturating_add(all_sent(writes))
+        .saturating_add(all_shown(reads))
+}
+
+/// What a batch counts.
 pub fn batch_size(batch: &Batch) -> u128
     ensures { result ≡ min (batch_size_of batch.now) (2 ^ 128 - 1) }
 {
-    BATCH_EXTRA
-        .saturating_add(all_sent(&batch.writes))
-        .saturating_add(all_shown(&batch.reads))
+    commit_size(&batch.writes, &batch.reads)
 }
