@@ -1,3 +1,4 @@
+pub mod Between
 pub mod Chain
 pub mod Chains
 pub mod Laws

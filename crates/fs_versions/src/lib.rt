@@ -3,6 +3,7 @@
 
 mod chain;
 mod install;
+mod listed;
 mod versions;
 
 pub use chain::Chain;

@@ -1,8 +1,9 @@
 //! The versions of all documents.
 use crate::chain::Chain;
 use crate::install::{install, take_all_back};
+use crate::listed::documents_in;
 use fs_history::histories_are_lawful;
-use fs_path::{DocName, Scope, covers};
+use fs_path::{DocName, Scope};
 use fs_time::Micros;
 use fs_value::{Document, Documents};
 use fs_write::Changes;
@@ -21,8 +22,9 @@ use std::marker::Model;
 ///     after `compact(9)`                         c/a: {n: 3} at 9
 ///                                                no c/b
 ///
-/// A chain is one block of memory, and each look-up is a search for the name and a binary search in its chain. A compaction
-/// goes over all names.
+/// A chain is one block of memory, and each look-up is a search for the name and a binary search in its chain. The documents
+/// of a collection are one range of the names; those of its subcollections lie in it and are passed over. A compaction, and
+/// a search for a group of collections, goes over all names.
 #[derive(Drop, Debug)]
 pub struct Versions {
     // none is empty
@@ -167,6 +169,9 @@ impl Versions {
 
     /// The documents in the scope of a query at a time, which isn't before the floor, in the order of their names. Only
     /// pointers to them are given.
+    ///
+    /// A collection is one range of the names, in which those of its subcollections lie and are passed over. All names are
+    /// gone over for a group of collections, and where the names are of more than one database.
     pub fn documents_in(
         &self,
         alloc: Global,
@@ -177,15 +182,7 @@ impl Versions {
         ensures value { IfOk result (λ v. map (λ d. d.now) v.items ≡ documents_in scope.now self.now time) }
         ensures shows { (h : List Batch) → Shows h self.now → documents_at self.now time ≡ values (at h time) }
     {
-        let mut documents = Vec::new(alloc);
-        for (name, chain) in &self.chains {
-            if covers(scope, name)
-                && let Some(document) = chain.shown(time)
-            {
-                documents.push(document)?;
-            }
-        }
-        Ok(documents)
+        documents_in(alloc, &self.chains, scope, time)
     }
 
     /// The chain of a name, and `None` where it is empty.

@@ -71,3 +71,23 @@ pub const SCOPES: &str = r#"1 | c |
 3 | c/b/*c |
 3 | c/a/m/x/c | 9
 3 | d |"#;
+
+/// Batches of the names of one database: some ids begin others, and documents have collections below them.
+pub const ONE_DATABASE: &str =
+    "2 | demo/(default)/b/z=1 demo/(default)/c/a=2 demo/(default)/c/a/m/x=3 demo/(default)/c/b/c/a=4
+3 | demo/(default)/c/b=5 demo/(default)/c\0/a=6 demo/(default)/c-/a=7 demo/(default)/c2/a=8 demo/(default)/d/a=9";
+
+/// As `SCOPES`.
+pub const COLLECTIONS: &str = "2 | c | 2
+3 | c | 2 5
+3 | c\0 | 6
+3 | c- | 7
+3 | c2 | 8
+3 | b | 1
+3 | d | 9
+3 | c/a/m | 3
+3 | c/b/c | 4
+3 | c/a/c |
+3 | *c | 2 5 4
+3 | a |
+3 | e |";

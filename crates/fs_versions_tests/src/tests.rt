@@ -1,6 +1,6 @@
 //! What versions show at each time, and after each compaction.
 use crate::database::{Database, IDS, chain_text, moment, name_of, scope_of, told};
-use crate::tables::{BATCHES, CHAINS, SCOPES, SHOWN, TWO_DATABASES};
+use crate::tables::{BATCHES, CHAINS, COLLECTIONS, ONE_DATABASE, SCOPES, SHOWN, TWO_DATABASES};
 use fs_versions::Versions;
 use std::alloc::{AllocError, Global};
 use std::test::Fail;
@@ -105,16 +105,25 @@ fn told_in(
     Ok(text)
 }
 
-#[test]
-fn documents_of_collections_and_groups(rt: HostRuntime) -> Result<(), Fail> {
-    let alloc = rt.alloc();
-    let database = database(alloc, TWO_DATABASES)?;
-    for line in SCOPES.split("\n") {
+// The first line of a table of scopes whose documents aren't those of the line, and nothing where there is none.
+fn first_unlike<'a>(alloc: Global, batches: &str, scopes: &'a str) -> Result<&'a str, AllocError> {
+    let database = database(alloc, batches)?;
+    for line in scopes.split("\n") {
         let (time, rest) = line.split_once(" | ").unwrap_or((line, ""));
         let (scope, wanted) = rest.split_once(" |").unwrap_or((rest, ""));
         let found = told_in(alloc, &database.versions, scope, time)?;
-        assert_eq!(rt; found.as_str(), wanted, "{line}");
+        if found.as_str() != wanted {
+            return Ok(line);
+        }
     }
+    Ok("")
+}
+
+#[test]
+fn documents_of_collections_and_groups(rt: HostRuntime) -> Result<(), Fail> {
+    let alloc = rt.alloc();
+    assert_eq!(rt; first_unlike(alloc, ONE_DATABASE, COLLECTIONS)?, "");
+    assert_eq!(rt; first_unlike(alloc, TWO_DATABASES, SCOPES)?, "");
     Ok(())
 }
 

@@ -2,7 +2,7 @@ use Rattle.std.proofs.Common.{◌≡◌, ◌++◌, map}
 use Rattle.std.specs.List.{filter}
 use Rattle.fs_path.specs.Scope.{covers}
 use Rattle.fs_versions.specs.Listed.{all_shown}
-use Rattle.fs_versions.proofs.versions.Versions.documents_in.Given as goal
+use Rattle.fs_versions.proofs.listed.shown_in.Given as goal
 
 -- the documents so far, and then those of the chains that are left, are the whole
 abbrev pub invariant-loop-name : goal.invariant-loop-name
