@@ -1,10 +1,10 @@
 -- A test of a release, commit by commit and change by change: what is left decides.
-use Rattle.std.proofs.Common.{◌≡◌, ℕ, suc, ◌+◌, ◌<◌, ◌≤◌, ℤ, ◌≤ℤ◌, ◌<ℤ◌, ◌-◌, Bool, true, false, cond, Some, List, [], ◌∷◌, ◌++◌, length, take, drop, get_or, refl, sym, ap, ◌∙◌, subst, arith, add-one, drop-cons}
+use Rattle.std.proofs.Common.{◌≡◌, ℕ, suc, ◌+◌, ◌<◌, ◌≤◌, ℤ, ◌≤ℤ◌, ◌<ℤ◌, ◌-◌, Bool, true, false, List, [], ◌∷◌, ◌++◌, length, take, drop, get_or, refl, sym, ap, ◌∙◌, subst, arith, add-one, drop-cons}
 use Rattle.std.specs.Prelude.{IsTrue, ◌&&◌, ◌↔◌}
 use Rattle.std.specs.Cmp.{first_so, second_so}
 use Rattle.std.specs.FinMap.{find, is_sorted}
 use Rattle.std.specs.FinMap.Entries.{below_all}
-use Rattle.std.specs.Ordering.{eq_by_cmp, is_lt}
+use Rattle.std.specs.Ordering.{is_lt}
 use Rattle.std.specs.declared.cmp.Ordering.TheVariants.{Less}
 use Rattle.std.proofs.lemmas.Int.{ints}
 use Rattle.std.proofs.lemmas.List.{drop_all}
@@ -140,12 +140,3 @@ module _ (all : List Change) (i : ℕ) (a b : Change) (some : 1 ≤ i) (within :
 
   pub rise_stop : (name_cmp a.name b.name ≡ Less → ⊥) → (Rise all ↔ Rise (drop (i - 1) all)) → IsTrue false ↔ Rise all
   rise_stop none so = is_no (λ r. not_rise a b (drop (i + 1) all) none (subst Rise both_left (so.0 r)))
-
--- the change of a name, where the changes that are left decide
-pub find_next : (all : List Change) (i : ℕ) (x : Change) (q : DocName) (t : Bool) → i < length all → x ≡ get_or all i x → eq_by_cmp name_cmp q x.name ≡ t
-    → find name_cmp q (changes_by_name all) ≡ find name_cmp q (changes_by_name (drop i all))
-    → find name_cmp q (changes_by_name all) ≡ cond t (Some x) (find name_cmp q (changes_by_name (drop (i + 1) all)))
-find_next all i x q t within is ties so =
-    so
-    ∙ ap (λ cs. find name_cmp q (changes_by_name cs)) (rest_is all i x within is)
-    ∙ ap (λ b. cond b (Some x) (find name_cmp q (changes_by_name (drop (i + 1) all)))) ties

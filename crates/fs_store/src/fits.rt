@@ -32,16 +32,15 @@ pub(crate) fn times_rise(from: Micros, to: Micros, commits: &[TimedChange]) -> b
     last <= to
 }
 
-// The change of a name.
+// The change of a name, sought among those whose names rise.
 fn change_of<'a>(changes: &'a [Change], name: &DocName) -> Option<&'a Change>
+    requires { IsTrue (is_sorted name_cmp (changes_by_name changes.now)) }
     ensures { option_copied result ≡ find name_cmp name.now (changes_by_name changes.now) }
 {
-    for change in changes {
-        if *name == change.name {
-            return Some(change);
-        }
+    match changes.binary_search_by(|change| change.name.cmp(name)) {
+        Ok(i) => Some(&changes[i]),
+        Err(_) => None,
     }
-    None
 }
 
 // The newest document of a name after these commits, which are not in the versions.

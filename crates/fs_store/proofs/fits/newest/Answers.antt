@@ -14,6 +14,15 @@ use Rattle.fs_store.proofs.Fitting.{newest_more}
 use Rattle.fs_store.proofs.Installing.{Rise}
 use Rattle.fs_store.proofs.fits.newest.Goals as goal
 
+pub change_of-requires : goal.change_of-requires
+change_of-requires c =
+    let commits = c.args.commits.now in
+    let place = length commits - 1 - c.loop-i.i in
+    let within : place < length commits = omega arith in
+    let rising : NamesRise commits = c.requires in
+    let rise = subst (λ (y : TimedChange). Rise y.changes) (sym c.index-commits-count.is) (rising place c.index-commits-count.result within) in
+    subst Rise (sym c.as_slice.ensures) rise
+
 pub returns-in-Some : goal.returns-in-Some
 returns-in-Some c =
     let v = c.args.versions.now in
