@@ -1,5 +1,5 @@
 -- What is written of the read of several documents is read as the same.
-use Rattle.std.proofs.Common.{◌≡◌, ℕ, ◌+◌, false, List, [], ◌∷◌, ◌++◌, Option, Some, None, Ok, codes, refl, ap, ◌∙◌}
+use Rattle.std.proofs.Common.{◌≡◌, ℕ, ℤ, ◌+◌, false, List, [], ◌∷◌, ◌++◌, Option, Some, None, Ok, IfSome, codes, refl, ap, ◌∙◌}
 use Rattle.std.specs.List.{list_any, AllByRecursion, IsDistinct}
 use Rattle.std.proofs.lemmas.List.Folds.{list_any-append}
 use Rattle.std.proofs.lemmas.Map.Keys.{IsDistinct-head, IsDistinct-tail}
@@ -15,6 +15,7 @@ use Rattle.serde_json.specs.Data.{Members, no_members, member, object, string, p
 use Rattle.fs_json.specs.Answer.{◌>>=◌}
 use Rattle.fs_json.specs.Paths.{document_name_at as name_at, path_at}
 use Rattle.fs_json.specs.Walk.{each_at}
+use Rattle.fs_valjson.specs.Valid.{IsTimeHeld}
 use Rattle.fs_rpc.specs.Envelope.{envelope_at, session_request_at}
 use Rattle.fs_rpc.specs.Id.{with_id_put}
 use Rattle.fs_rpc.specs.RequestJson.{batch_get_json, name_json, names_json}
@@ -61,13 +62,17 @@ names_again root ns place valid distinct =
 
 -- ---- the read
 
-pub batch_get_again : (root : Root) (ns : List DocName) (mask : Option (List FieldPath)) (place : List ℕ) → IsDatabase root → AllByRecursion (IsDocumentOf root) ns → IsDistinct name_eq ns
-    → IsMaskHeld mask → batch_get_at root (batch_get_json root ns mask) place ≡ Ok (BatchGetDocuments root ns mask)
+pub batch_get_again : (root : Root) (ns : List DocName) (mask : Option (List FieldPath)) (time : Option ℤ) (place : List ℕ) → IsDatabase root → AllByRecursion (IsDocumentOf root) ns
+    → IsDistinct name_eq ns → IsMaskHeld mask → IfSome time IsTimeHeld → batch_get_at root (batch_get_json root ns mask time) place ≡ Ok (BatchGetDocuments root ns mask time)
 unfolding batch_get_at
-batch_get_again root ns None place named valid distinct held =
+batch_get_again root ns None None place named valid distinct held told =
     rw (database_again root named, names_again root ns (member_place place (codes "documents")) valid distinct) refl
-batch_get_again root ns (Some paths) place named valid distinct held =
+batch_get_again root ns None (Some time) place named valid distinct held told =
+    rw (database_again root named, names_again root ns (member_place place (codes "documents")) valid distinct, told (member_place place (codes "readTime"))) refl
+batch_get_again root ns (Some paths) None place named valid distinct held told =
     rw (database_again root named, names_again root ns (member_place place (codes "documents")) valid distinct, held.again (member_place place (codes "mask"))) refl
+batch_get_again root ns (Some paths) (Some time) place named valid distinct held told =
+    rw (database_again root named, names_again root ns (member_place place (codes "documents")) valid distinct, held.again (member_place place (codes "mask")), told (member_place place (codes "readTime"))) refl
 
 -- ---- with its id
 

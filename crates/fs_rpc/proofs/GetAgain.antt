@@ -1,5 +1,5 @@
 -- What is written of the read of one document is read as the same.
-use Rattle.std.proofs.Common.{◌≡◌, ℕ, List, Option, Some, None, Ok, codes, refl}
+use Rattle.std.proofs.Common.{◌≡◌, ℕ, ℤ, List, Option, Some, None, Ok, IfSome, codes, refl}
 use Rattle.fs_path.specs.Document.{document_text, IsDocumentOf}
 use Rattle.fs_path.specs.DocumentLaws.{document_only}
 use Rattle.fs_path.specs.Place.{member_place}
@@ -7,6 +7,7 @@ use Rattle.fs_path.specs.declared.field.FieldPath.{FieldPath}
 use Rattle.fs_path.specs.declared.name.DocName.{DocName}
 use Rattle.fs_path.specs.declared.name.Root.{Root}
 use Rattle.serde_json.specs.Data.{Members, no_members, member, object, string, put}
+use Rattle.fs_valjson.specs.Valid.{IsTimeHeld}
 use Rattle.fs_rpc.specs.Envelope.{envelope_at, session_request_at}
 use Rattle.fs_rpc.specs.Id.{with_id_put}
 use Rattle.fs_rpc.specs.RequestJson.{get_json}
@@ -15,11 +16,16 @@ use Rattle.fs_rpc.specs.Requests.{get_at}
 use Rattle.fs_rpc.specs.declared.request.Request.{Request}
 use Rattle.fs_rpc.specs.declared.request.Request.TheVariants.{GetDocument}
 
-pub get_again : (root : Root) (name : DocName) (mask : Option (List FieldPath)) (place : List ℕ) → IsDocumentOf root name → IsMaskHeld mask
-    → get_at root (get_json name mask) place ≡ Ok (GetDocument name mask)
+pub get_again : (root : Root) (name : DocName) (mask : Option (List FieldPath)) (time : Option ℤ) (place : List ℕ) → IsDocumentOf root name → IsMaskHeld mask → IfSome time IsTimeHeld
+    → get_at root (get_json name mask time) place ≡ Ok (GetDocument name mask time)
 unfolding get_at
-get_again root name None place valid held = rw (document_only root (document_text name) name valid refl) refl
-get_again root name (Some paths) place valid held = rw (document_only root (document_text name) name valid refl, held.again (member_place place (codes "mask"))) refl
+get_again root name None None place valid held told = rw (document_only root (document_text name) name valid refl) refl
+get_again root name None (Some time) place valid held told =
+    rw (document_only root (document_text name) name valid refl, told (member_place place (codes "readTime"))) refl
+get_again root name (Some paths) None place valid held told =
+    rw (document_only root (document_text name) name valid refl, held.again (member_place place (codes "mask"))) refl
+get_again root name (Some paths) (Some time) place valid held told =
+    rw (document_only root (document_text name) name valid refl, held.again (member_place place (codes "mask")), told (member_place place (codes "readTime"))) refl
 
 -- ---- with its id
 

@@ -18,13 +18,13 @@ use Rattle.fs_rpc.proofs.RunQueryAgain.{run_query_again, run_query_read, run_que
 content_again : (root : Root) (r : Request) → IsRequestHeld r → IsRequestOf root r → request_at root (method_of r) (request_json r) ≡ Ok r
 content_again root (Commit database writes) held valid =
     subst (λ d. request_at root (codes "commit") (request_json (Commit d writes)) ≡ Ok (Commit d writes)) (sym valid.same) (commit_again root writes (codes "commit") valid.named held valid.allowed)
-content_again root (GetDocument name mask) held valid = get_again root name mask (codes "getDocument") valid held
-content_again root (BatchGetDocuments database documents mask) held valid =
-    subst (λ d. request_at root (codes "batchGetDocuments") (request_json (BatchGetDocuments d documents mask)) ≡ Ok (BatchGetDocuments d documents mask)) (sym valid.same)
-    (batch_get_again root documents mask (codes "batchGetDocuments") valid.named valid.each valid.once held)
-content_again root (RunQuery database query) held valid =
-    subst (λ d. request_at root (codes "runQuery") (request_json (RunQuery d query)) ≡ Ok (RunQuery d query)) (sym valid.same)
-    (run_query_again root query (codes "runQuery") valid.parent (λ place. held.again place valid.valid))
+content_again root (GetDocument name mask time) held valid = get_again root name mask time (codes "getDocument") valid held.0 held.1
+content_again root (BatchGetDocuments database documents mask time) held valid =
+    subst (λ d. request_at root (codes "batchGetDocuments") (request_json (BatchGetDocuments d documents mask time)) ≡ Ok (BatchGetDocuments d documents mask time)) (sym valid.same)
+    (batch_get_again root documents mask time (codes "batchGetDocuments") valid.named valid.each valid.once held.0 held.1)
+content_again root (RunQuery database query time) held valid =
+    subst (λ d. request_at root (codes "runQuery") (request_json (RunQuery d query time)) ≡ Ok (RunQuery d query time)) (sym valid.same)
+    (run_query_again root query time (codes "runQuery") valid.parent (λ place. held.0.again place valid.valid) held.1)
 
 -- a request with this id
 abbrev with_id : Option (List ℕ) → Request → Envelope
@@ -32,16 +32,16 @@ with_id id r = record { id = id; request = r }
 
 read_again : (root : Root) (id : Option (List ℕ)) (r : Request) → request_at root (method_of r) (request_json r) ≡ Ok r → envelope_at root (envelope_json (with_id id r)) ≡ Ok (with_id id r)
 read_again root id (Commit database writes) h = commit_read root id _ (Commit database writes) h
-read_again root id (GetDocument name mask) h = get_read root id _ (GetDocument name mask) h
-read_again root id (BatchGetDocuments database documents mask) h = batch_get_read root id _ (BatchGetDocuments database documents mask) h
-read_again root id (RunQuery database query) h = run_query_read root id _ (RunQuery database query) h
+read_again root id (GetDocument name mask time) h = get_read root id _ (GetDocument name mask time) h
+read_again root id (BatchGetDocuments database documents mask time) h = batch_get_read root id _ (BatchGetDocuments database documents mask time) h
+read_again root id (RunQuery database query time) h = run_query_read root id _ (RunQuery database query time) h
 
 read_again_on : (root : Root) (session : List ℕ) (id : Option (List ℕ)) (r : Request) → request_at root (method_of r) (request_json r) ≡ Ok r
     → session_request_at root (envelope_json_on session (with_id id r)) ≡ Ok (record { session = session; id = id; request = Ok r })
 read_again_on root session id (Commit database writes) h = commit_read_on root session id _ (Commit database writes) h
-read_again_on root session id (GetDocument name mask) h = get_read_on root session id _ (GetDocument name mask) h
-read_again_on root session id (BatchGetDocuments database documents mask) h = batch_get_read_on root session id _ (BatchGetDocuments database documents mask) h
-read_again_on root session id (RunQuery database query) h = run_query_read_on root session id _ (RunQuery database query) h
+read_again_on root session id (GetDocument name mask time) h = get_read_on root session id _ (GetDocument name mask time) h
+read_again_on root session id (BatchGetDocuments database documents mask time) h = batch_get_read_on root session id _ (BatchGetDocuments database documents mask time) h
+read_again_on root session id (RunQuery database query time) h = run_query_read_on root session id _ (RunQuery database query time) h
 
 pub envelope_again : (root : Root) (e : Envelope) → IsRequestHeld e.request → IsRequestOf root e.request → envelope_at root (envelope_json e) ≡ Ok e
 envelope_again root e held valid = read_again root e.id e.request (content_again root e.request held valid)

@@ -1,5 +1,5 @@
 -- What is written of a request has no float, so its text is told byte for byte.
-use Rattle.std.proofs.Common.{◌≡◌, ℕ, false, List, [], ◌∷◌, Option, Some, None, codes, refl}
+use Rattle.std.proofs.Common.{◌≡◌, ℕ, ℤ, false, List, [], ◌∷◌, Option, Some, None, codes, refl}
 use Rattle.std.proofs.lemmas.Bool.{or_parts}
 use Rattle.std.specs.declared.cmp.Ordering.{Ordering}
 use Rattle.std.specs.declared.cmp.Ordering.TheVariants.{Less, Equal, Greater}
@@ -12,7 +12,7 @@ use Rattle.fs_path.specs.declared.field.FieldPath.{FieldPath}
 use Rattle.fs_path.specs.declared.name.DocName.{DocName}
 use Rattle.fs_write.specs.declared.write.Write.{Write}
 use Rattle.fs_rpc.specs.Id.{with_id_put}
-use Rattle.fs_rpc.specs.RequestJson.{envelope_json, envelope_json_on, envelope_members, method_of, names_json, request_json, with_mask, writes_json, writes_member}
+use Rattle.fs_rpc.specs.RequestJson.{envelope_json, envelope_json_on, envelope_members, method_of, names_json, request_json, with_mask, with_read_time, writes_json, writes_member}
 use Rattle.fs_rpc.specs.RequestSteps.{IsMaskHeld, IsRequestHeld, IsWriteHeld}
 use Rattle.fs_rpc.specs.declared.request.Envelope.{Envelope}
 use Rattle.fs_rpc.specs.declared.request.Request.{Request}
@@ -36,11 +36,16 @@ mask_float : (mask : Option (List FieldPath)) (rest : Members) → IsMaskHeld ma
 mask_float None rest held h = h
 mask_float (Some paths) rest held h = rw (held.float, h) refl
 
+time_float : (time : Option ℤ) (rest : Members) → members_have_float rest ≡ false → members_have_float (with_read_time time rest) ≡ false
+time_float None rest h = h
+time_float (Some time) rest h = h
+
 content_float : (r : Request) → IsRequestHeld r → has_float (request_json r) ≡ false
 content_float (Commit database writes) held = commit_float writes held
-content_float (GetDocument name mask) held = mask_float mask _ held refl
-content_float (BatchGetDocuments database documents mask) held = rw (names_float documents, mask_float mask no_members held refl) refl
-content_float (RunQuery database query) held = rw held.float refl
+content_float (GetDocument name mask time) held = mask_float mask _ held.0 (time_float time no_members refl)
+content_float (BatchGetDocuments database documents mask time) held =
+    rw (names_float documents, mask_float mask (with_read_time time no_members) held.0 (time_float time no_members refl)) refl
+content_float (RunQuery database query time) held = time_float time _ (rw held.0.float refl)
 
 -- ---- members that are put in
 

@@ -1,5 +1,5 @@
 -- What is written of the run of a query is read as the same.
-use Rattle.std.proofs.Common.{◌≡◌, ℕ, true, List, Option, Some, None, Result, Ok, Err, codes, refl, ◌∙◌}
+use Rattle.std.proofs.Common.{◌≡◌, ℕ, ℤ, true, List, Option, Some, None, Result, Ok, Err, IfSome, codes, refl, ap, ◌∙◌}
 use Rattle.fs_path.specs.Document.{document_text, under, IsParentOf}
 use Rattle.fs_path.specs.Place.{member_place}
 use Rattle.fs_path.specs.declared.name.Root.{Root}
@@ -11,14 +11,15 @@ use Rattle.fs_query.specs.Asked.{Asked}
 use Rattle.fs_queryjson.specs.From.{parent_of as scope_parent}
 use Rattle.fs_queryjson.specs.Query.{permitted_at, query_at, walked_at}
 use Rattle.fs_queryjson.specs.Written.{query_json}
+use Rattle.fs_valjson.specs.Valid.{IsTimeHeld}
 use Rattle.fs_rpc.specs.Envelope.{envelope_at, session_request_at}
 use Rattle.fs_rpc.specs.Id.{with_id_put}
-use Rattle.fs_rpc.specs.RequestJson.{run_query_json}
+use Rattle.fs_rpc.specs.RequestJson.{run_query_json, with_read_time}
 use Rattle.fs_rpc.specs.Requests.{run_query_at, structured_at, when_at}
 use Rattle.fs_rpc.specs.declared.request.Request.{Request}
 use Rattle.fs_rpc.specs.declared.request.Request.TheVariants.{RunQuery}
 use Rattle.fs_rpc.proofs.Parents.{parent_again}
-use Rattle.fs_rpc.proofs.Structured.{structured_gives}
+use Rattle.fs_rpc.proofs.Structured.{structured_gives, with_time}
 
 -- ---- the query
 
@@ -27,38 +28,43 @@ unfolding query_json
 query_given key q = refl
 
 -- what is read as a query by itself is read so below its parent
-permitted_again : (parent : List (List ℕ)) (d s : Data) (place : List ℕ) (q : Asked) (walked : Result Asked Bad) → required_at (codes "structuredQuery") d place ≡ Ok s → when_at d place ≡ Ok tt
-    → walked_at parent s (member_place place (codes "structuredQuery")) ≡ walked → (walked >>= λ w. permitted_at w (member_place place (codes "structuredQuery"))) ≡ Ok q
-    → structured_at parent d place ≡ Ok q
-permitted_again parent d s place q (Ok w) there now is h = structured_gives parent d s place w there is now ∙ h
-permitted_again parent d s place q (Err bad) there now is h = absurd (cc)
+permitted_again : (parent : List (List ℕ)) (d s : Data) (place : List ℕ) (q : Asked) (time : Option ℤ) (walked : Result Asked Bad) → required_at (codes "structuredQuery") d place ≡ Ok s
+    → when_at d place ≡ Ok time → walked_at parent s (member_place place (codes "structuredQuery")) ≡ walked → (walked >>= λ w. permitted_at w (member_place place (codes "structuredQuery"))) ≡ Ok q
+    → structured_at parent d place ≡ Ok (q, time)
+permitted_again parent d s place q time (Ok w) there when is h = structured_gives parent d s place w time there is when ∙ ap (with_time time) h
+permitted_again parent d s place q time (Err bad) there when is h = absurd (cc)
 
 -- the members of a request whose query is this
-abbrev asked_by : List ℕ → Data → Data
-asked_by parent s = object (member (codes "parent") (string parent) (member (codes "structuredQuery") s no_members))
+abbrev asked_by : List ℕ → Option ℤ → Data → Data
+asked_by parent time s = object (member (codes "parent") (string parent) (with_read_time time (member (codes "structuredQuery") s no_members)))
 
-query_there : (parent : List ℕ) (s : Data) (place : List ℕ) → is_given (codes "structuredQuery") s ≡ true → required_at (codes "structuredQuery") (asked_by parent s) place ≡ Ok s
-query_there parent s place given = rw given refl
+query_there : (parent : List ℕ) (time : Option ℤ) (s : Data) (place : List ℕ) → is_given (codes "structuredQuery") s ≡ true
+    → required_at (codes "structuredQuery") (asked_by parent time s) place ≡ Ok s
+query_there parent None s place given = rw given refl
+query_there parent (Some time) s place given = rw given refl
 
-read_now : (parent : List ℕ) (s : Data) (place : List ℕ) → is_given (codes "structuredQuery") s ≡ true → when_at (asked_by parent s) place ≡ Ok tt
-read_now parent s place given = rw given refl
+when_again : (parent : List ℕ) (time : Option ℤ) (s : Data) (place : List ℕ) → is_given (codes "structuredQuery") s ≡ true → IfSome time IsTimeHeld → when_at (asked_by parent time s) place ≡ Ok time
+when_again parent None s place given told = rw given refl
+when_again parent (Some time) s place given told = rw (given, told (member_place place (codes "readTime"))) refl
 
 -- ---- the run
 
-query_run : (root : Root) (ids : List (List ℕ)) (s : Data) (q : Asked) (place : List ℕ) → is_given (codes "structuredQuery") s ≡ true → IsParentOf root ids
-    → structured_at ids (asked_by (document_text (under root ids)) s) place ≡ Ok q → run_query_at root (asked_by (document_text (under root ids)) s) place ≡ Ok (RunQuery root q)
+query_run : (root : Root) (ids : List (List ℕ)) (s : Data) (q : Asked) (time : Option ℤ) (place : List ℕ) → is_given (codes "structuredQuery") s ≡ true → IsParentOf root ids
+    → structured_at ids (asked_by (document_text (under root ids)) time s) place ≡ Ok (q, time)
+    → run_query_at root (asked_by (document_text (under root ids)) time s) place ≡ Ok (RunQuery root q time)
 unfolding run_query_at
-query_run root ids s q place given is h = rw (given, parent_again root ids is, h) refl
+query_run root ids s q None place given is h = rw (given, parent_again root ids is, h) refl
+query_run root ids s q (Some time) place given is h = rw (given, parent_again root ids is, h) refl
 
-pub run_query_again : (root : Root) (q : Asked) (place : List ℕ) → IsParentOf root (scope_parent q.scope)
-    → ((p : List ℕ) → query_at (scope_parent q.scope) (query_json q) p ≡ Ok q) → run_query_at root (run_query_json root q) place ≡ Ok (RunQuery root q)
-run_query_again root q place is again =
+pub run_query_again : (root : Root) (q : Asked) (time : Option ℤ) (place : List ℕ) → IsParentOf root (scope_parent q.scope)
+    → ((p : List ℕ) → query_at (scope_parent q.scope) (query_json q) p ≡ Ok q) → IfSome time IsTimeHeld → run_query_at root (run_query_json root q time) place ≡ Ok (RunQuery root q time)
+run_query_again root q time place is again told =
     let ids = scope_parent q.scope in
     let parent = document_text (under root ids) in
     let given = query_given (codes "structuredQuery") q in
-    query_run root ids (query_json q) q place given is
-    (permitted_again ids (asked_by parent (query_json q)) (query_json q) place q (walked_at ids (query_json q) (member_place place (codes "structuredQuery")))
-    (query_there parent (query_json q) place given) (read_now parent (query_json q) place given) refl (again (member_place place (codes "structuredQuery"))))
+    query_run root ids (query_json q) q time place given is
+    (permitted_again ids (asked_by parent time (query_json q)) (query_json q) place q time (walked_at ids (query_json q) (member_place place (codes "structuredQuery")))
+    (query_there parent time (query_json q) place given) (when_again parent time (query_json q) place given told) refl (again (member_place place (codes "structuredQuery"))))
 
 -- ---- with its id
 

@@ -1,8 +1,8 @@
 -- How a query is read below a parent, once its walk found no fault.
-use Rattle.std.proofs.Common.{◌≡◌, ℕ, List, Result, Ok, Err, codes, refl}
+use Rattle.std.proofs.Common.{◌≡◌, ℕ, ℤ, List, Option, Result, Ok, Err, codes, refl}
 use Rattle.serde_json.specs.Data.{Data}
 use Rattle.fs_path.specs.Place.{member_place}
-use Rattle.fs_json.specs.Answer.{Gives}
+use Rattle.fs_json.specs.Answer.{Gives, ◌>>=◌}
 use Rattle.fs_json.specs.Members.{required_at}
 use Rattle.fs_json.specs.declared.bad.Bad.{Bad}
 use Rattle.fs_json.specs.declared.bad.Bad.TheVariants.{At, Method, Memory}
@@ -16,12 +16,16 @@ pub structured_fails : (parent : List (List ℕ)) (d s : Data) (place : List ℕ
 unfolding structured_at
 structured_fails parent d s place q bad there walked fails = rw (there, walked, fails) refl
 
+-- a query that is asked at this time
+abbrev pub with_time : Option ℤ → Result Asked Bad → Result (Asked × Option ℤ) Bad
+with_time time query = query >>= λ q. Ok (q, time)
+
 -- and none
-pub structured_gives : (parent : List (List ℕ)) (d s : Data) (place : List ℕ) (q : Asked) → required_at (codes "structuredQuery") d place ≡ Ok s
-    → walked_at parent s (member_place place (codes "structuredQuery")) ≡ Ok q → when_at d place ≡ Ok tt
-    → structured_at parent d place ≡ permitted_at q (member_place place (codes "structuredQuery"))
+pub structured_gives : (parent : List (List ℕ)) (d s : Data) (place : List ℕ) (q : Asked) (time : Option ℤ) → required_at (codes "structuredQuery") d place ≡ Ok s
+    → walked_at parent s (member_place place (codes "structuredQuery")) ≡ Ok q → when_at d place ≡ Ok time
+    → structured_at parent d place ≡ with_time time (permitted_at q (member_place place (codes "structuredQuery")))
 unfolding structured_at
-structured_gives parent d s place q there walked now = rw (there, walked, now) refl
+structured_gives parent d s place q time there walked when = rw (there, walked, when) refl
 
 -- a fault that is passed on
 pub passed_on : {X Y V W : Type 0} (f : X → Y) (g : V → W) (bad : Bad) (one : Result Y Bad) (other : Result W Bad) → Gives f (Err bad) one

@@ -9,9 +9,8 @@ use Rattle.serde_json.specs.Data as json
 use Rattle.fs_path.specs.Place.{member_place}
 use Rattle.fs_path.specs.declared.name.Root.{Root}
 use Rattle.fs_json.specs.Answer.{◌>>=◌}
-use Rattle.fs_json.specs.Members.{member_at, required_at, only_at, one_of_at}
+use Rattle.fs_json.specs.Members.{member_at, only_at, one_of_at}
 use Rattle.fs_json.specs.Paths.{document_name_at}
-use Rattle.fs_json.specs.Time.{time_at}
 use Rattle.fs_json.specs.declared.bad.Bad.{Bad}
 use Rattle.fs_valjson.specs.Document.{document_at}
 use Rattle.fs_valjson.specs.Reading.{list_at}
@@ -19,19 +18,11 @@ use Rattle.fs_value.specs.Data.{Data}
 use Rattle.fs_value.specs.declared.document.Document.{Document}
 use Rattle.fs_write.specs.declared.write_result.WriteResult.{WriteResult}
 use Rattle.fs_json.specs.Walk.{all_at}
+use Rattle.fs_rpc.specs.Times.{optional_time_at, required_time_at}
 use Rattle.fs_rpc.specs.declared.message.BatchAnswer.{BatchAnswer}
 use Rattle.fs_rpc.specs.declared.message.BatchAnswer.TheVariants.{Found, Missing}
 
--- a time that has to be there
-abbrev pub required_time_at : List ℕ → json.Data → List ℕ → Result ℤ Bad
-required_time_at name d place = required_at name d place >>= λ x. time_at x (member_place place name)
-
 -- ---- results of writes
-
--- when the document was last updated, which a delete hasn't
-abbrev pub updated_in : json.Data → List ℕ → Result (Option ℤ) Bad
-updated_in d place = member_at (codes "updateTime") d place >>= λ found.
-    option_map_or (λ x. time_at x (member_place place (codes "updateTime")) >>= λ time. Ok (Some time)) found (Ok None)
 
 -- an absent list has no values
 abbrev pub transforms_in : json.Data → List ℕ → Result (List Data) Bad
@@ -42,11 +33,11 @@ transforms_in d place = member_at (codes "transformResults") d place >>= λ foun
 abbrev pub write_result_members : List (List ℕ)
 write_result_members = codes "updateTime" ∷ codes "transformResults" ∷ []
 
--- what a write is answered
+-- what a write is answered; a delete has no time at which the document was last updated
 unfoldable pub write_result_at : json.Data → List ℕ → Result WriteResult Bad
 write_result_at d place = do
   _ ← only_at write_result_members d place
-  updated ← updated_in d place
+  updated ← optional_time_at (codes "updateTime") d place
   transforms ← transforms_in d place
   Ok (record { updated = updated; transforms = transforms })
 

@@ -5,9 +5,11 @@
 --
 --     a commit of a delete            {"commit":{"database":"projects/p/databases/d","writes":[{"delete":".."}]},"id":"1"}
 --     a read, without an id           {"getDocument":{"name":"projects/p/databases/d/documents/c/a"}}
+--     a read of none as of 2024       {"batchGetDocuments":{"database":"projects/p/databases/d","documents":[],
+--                                      "readTime":"2024-01-01T00:00:00Z"}}
 --     the collection c of the root    {"id":"2","runQuery":{"parent":"projects/p/databases/d/documents",
 --                                      "structuredQuery":{"from":[{"collectionId":"c"}]}}}
-use Rattle.std.specs.Prelude.{ℕ, List, [], ◌∷◌, Option, Some, None, map, codes}
+use Rattle.std.specs.Prelude.{ℕ, ℤ, List, [], ◌∷◌, Option, Some, None, map, codes}
 use Rattle.fs_path.specs.Database.{database_text}
 use Rattle.fs_path.specs.Document.{document_text, under}
 use Rattle.fs_path.specs.declared.field.FieldPath.{FieldPath}
@@ -16,6 +18,7 @@ use Rattle.fs_path.specs.declared.name.Root.{Root}
 use Rattle.fs_path.specs.declared.scope.Scope.{Scope}
 use Rattle.serde_json.specs.Data.{Data, string, array, object, Items, Members, no_members, member, put}
 use Rattle.serde_json.specs.View.{items_of}
+use Rattle.fs_json.specs.Time.{time_json}
 use Rattle.fs_query.specs.Asked.{Asked}
 use Rattle.fs_queryjson.specs.From.{parent_of}
 use Rattle.fs_queryjson.specs.Written.{query_json}
@@ -51,6 +54,11 @@ abbrev pub with_mask : Option (List FieldPath) → Members → Members
 with_mask None rest = rest
 with_mask (Some paths) rest = member (codes "mask") (mask_json paths) rest
 
+-- the time of a read, where there is one, in front of what follows
+abbrev pub with_read_time : Option ℤ → Members → Members
+with_read_time None rest = rest
+with_read_time (Some time) rest = member (codes "readTime") (time_json time) rest
+
 -- what the collections of a query stand below: the root's documents, or one of them
 abbrev pub parent_json : Root → Scope → Data
 parent_json database scope = string (document_text (under database (parent_of scope)))
@@ -60,29 +68,29 @@ parent_json database scope = string (document_text (under database (parent_of sc
 abbrev pub commit_json : Root → List Write → Data
 commit_json database writes = object (member (codes "database") (database_json database) (writes_member writes))
 
-abbrev pub get_json : DocName → Option (List FieldPath) → Data
-get_json name mask = object (with_mask mask (member (codes "name") (name_json name) no_members))
+abbrev pub get_json : DocName → Option (List FieldPath) → Option ℤ → Data
+get_json name mask time = object (with_mask mask (member (codes "name") (name_json name) (with_read_time time no_members)))
 
-abbrev pub batch_get_json : Root → List DocName → Option (List FieldPath) → Data
-batch_get_json database documents mask =
-    object (member (codes "database") (database_json database) (member (codes "documents") (array (names_json documents)) (with_mask mask no_members)))
+abbrev pub batch_get_json : Root → List DocName → Option (List FieldPath) → Option ℤ → Data
+batch_get_json database documents mask time =
+    object (member (codes "database") (database_json database) (member (codes "documents") (array (names_json documents)) (with_mask mask (with_read_time time no_members))))
 
-abbrev pub run_query_json : Root → Asked → Data
-run_query_json database query =
-    object (member (codes "parent") (parent_json database query.scope) (member (codes "structuredQuery") (query_json query) no_members))
+abbrev pub run_query_json : Root → Asked → Option ℤ → Data
+run_query_json database query time =
+    object (member (codes "parent") (parent_json database query.scope) (with_read_time time (member (codes "structuredQuery") (query_json query) no_members)))
 
 -- what stands under the method
 abbrev pub request_json : Request → Data
 request_json (Commit database writes) = commit_json database writes
-request_json (GetDocument name mask) = get_json name mask
-request_json (BatchGetDocuments database documents mask) = batch_get_json database documents mask
-request_json (RunQuery database query) = run_query_json database query
+request_json (GetDocument name mask time) = get_json name mask time
+request_json (BatchGetDocuments database documents mask time) = batch_get_json database documents mask time
+request_json (RunQuery database query time) = run_query_json database query time
 
 abbrev pub method_of : Request → List ℕ
 method_of (Commit database writes) = codes "commit"
-method_of (GetDocument name mask) = codes "getDocument"
-method_of (BatchGetDocuments database documents mask) = codes "batchGetDocuments"
-method_of (RunQuery database query) = codes "runQuery"
+method_of (GetDocument name mask time) = codes "getDocument"
+method_of (BatchGetDocuments database documents mask time) = codes "batchGetDocuments"
+method_of (RunQuery database query time) = codes "runQuery"
 
 -- ---- requests with their ids
 

@@ -1,16 +1,18 @@
--- What only private clauses cite: a mask as the members of a request are put in one after another, and that the parts of a
--- request, as they are written, have no float and are read back.
-use Rattle.std.specs.Prelude.{◌≡◌, ℕ, false, List, Option, Some, None, Ok, codes}
+-- What only private clauses cite: a mask and the time of a read as the members of a request are put in one after another, and
+-- that the parts of a request, as they are written, have no float and are read back.
+use Rattle.std.specs.Prelude.{◌≡◌, ℕ, ℤ, false, List, Option, Some, None, Ok, IfSome, codes}
 use Rattle.std.specs.List.{AllByRecursion}
 use Rattle.fs_path.specs.declared.field.FieldPath.{FieldPath}
 use Rattle.fs_path.specs.declared.name.Root.{Root}
 use Rattle.serde_json.specs.Data.{Members, put}
 use Rattle.serde_json.specs.Written.{has_float}
+use Rattle.fs_json.specs.Time.{time_json}
 use Rattle.fs_query.specs.Asked.{Asked}
 use Rattle.fs_queryjson.specs.From.{parent_of}
 use Rattle.fs_queryjson.specs.Query.{query_at}
 use Rattle.fs_queryjson.specs.Valid.{IsValid}
 use Rattle.fs_queryjson.specs.Written.{query_json}
+use Rattle.fs_valjson.specs.Valid.{IsTimeHeld}
 use Rattle.fs_write.specs.declared.write.Write.{Write}
 use Rattle.fs_writejson.specs.Mask.{mask_at, mask_json}
 use Rattle.fs_writejson.specs.Rules.{write_at}
@@ -23,6 +25,11 @@ use Rattle.fs_rpc.specs.declared.request.Request.TheVariants.{Commit, GetDocumen
 abbrev pub with_mask_put : Option (List FieldPath) → Members → Members
 with_mask_put None others = others
 with_mask_put (Some paths) others = put (codes "mask") (mask_json paths) others
+
+-- the time of a read, where there is one
+abbrev pub with_read_time_put : Option ℤ → Members → Members
+with_read_time_put None others = others
+with_read_time_put (Some time) others = put (codes "readTime") (time_json time) others
 
 -- ---- what is read back
 
@@ -48,6 +55,6 @@ pub record IsQueryHeld (q : Asked) : Type 0 where
 -- the parts of a request
 abbrev pub IsRequestHeld : Request → Type 0
 IsRequestHeld (Commit database writes) = AllByRecursion IsWriteHeld writes
-IsRequestHeld (GetDocument name mask) = IsMaskHeld mask
-IsRequestHeld (BatchGetDocuments database documents mask) = IsMaskHeld mask
-IsRequestHeld (RunQuery database query) = IsQueryHeld query
+IsRequestHeld (GetDocument name mask time) = IsMaskHeld mask × IfSome time IsTimeHeld
+IsRequestHeld (BatchGetDocuments database documents mask time) = IsMaskHeld mask × IfSome time IsTimeHeld
+IsRequestHeld (RunQuery database query time) = IsQueryHeld query × IfSome time IsTimeHeld

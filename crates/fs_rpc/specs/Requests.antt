@@ -1,6 +1,6 @@
 -- The requests that are built, as proto3 JSON: what each reads as, or the first place in the walk where it is at fault.
 -- (v1 reference: `CommitRequest`, `GetDocumentRequest`, `BatchGetDocumentsRequest`, `RunQueryRequest`.)
-use Rattle.std.specs.Prelude.{ℕ, List, [], ◌∷◌, ◌++◌, Option, Some, None, Result, Ok, Err, codes, if◌then◌else◌, ⊤}
+use Rattle.std.specs.Prelude.{ℕ, ℤ, List, [], ◌∷◌, ◌++◌, Option, Some, None, Result, Ok, Err, codes, if◌then◌else◌, ⊤}
 use Rattle.std.specs.List.{list_any}
 use Rattle.std.specs.Option.{option_map_or}
 use Rattle.std.specs.Str.{bytes_eq}
@@ -26,6 +26,7 @@ use Rattle.fs_writejson.specs.Mask.{mask_at}
 use Rattle.fs_writejson.specs.Rules.{judged_at}
 use Rattle.fs_json.specs.Walk.{each_at}
 use Rattle.fs_writejson.specs.declared.draft.Draft.{Draft}
+use Rattle.fs_rpc.specs.Times.{optional_time_at}
 use Rattle.fs_rpc.specs.declared.request.Request.{Request}
 use Rattle.fs_rpc.specs.declared.request.Request.TheVariants.{Commit, GetDocument, BatchGetDocuments, RunQuery}
 
@@ -46,12 +47,13 @@ abbrev pub mask_in : Data → List ℕ → Result (Option (List FieldPath)) Bad
 mask_in d place = member_at (codes "mask") d place >>= λ found.
     option_map_or (λ x. mask_at x (member_place place (codes "mask")) >>= λ paths. Ok (Some paths)) found (Ok None)
 
--- when a read is made, of which at most one way is given; neither is built
+-- when documents are read, of which at most one way is given
 abbrev pub when_members : List (List ℕ)
 when_members = codes "transaction" ∷ codes "readTime" ∷ []
 
-abbrev pub when_at : Data → List ℕ → Result ⊤ Bad
-when_at d place = at_most_one_at when_members d place >>= λ _. unbuilt_at when_members d place
+-- the time at which they are read, or none: as they are now; a transaction isn't built
+abbrev pub when_at : Data → List ℕ → Result (Option ℤ) Bad
+when_at d place = at_most_one_at when_members d place >>= λ _. unbuilt_at (codes "transaction" ∷ []) d place >>= λ _. optional_time_at (codes "readTime") d place
 
 -- what has collections: the root's documents, or one of them, by its ids
 abbrev pub parent_at : Root → Data → List ℕ → Result (List (List ℕ)) Bad
@@ -95,8 +97,8 @@ get_at root d place = do
   text ← required_at (codes "name") d place
   name ← name_at root text (member_place place (codes "name"))
   mask ← mask_in d place
-  _ ← when_at d place
-  Ok (GetDocument name mask)
+  time ← when_at d place
+  Ok (GetDocument name mask time)
 
 abbrev pub batch_get_members : List (List ℕ)
 batch_get_members = codes "database" ∷ codes "documents" ∷ codes "mask" ∷ when_members
@@ -108,27 +110,28 @@ batch_get_at root d place = do
   list ← required_at (codes "documents") d place
   names ← names_at root list (member_place place (codes "documents"))
   mask ← mask_in d place
-  _ ← when_at d place
-  Ok (BatchGetDocuments root names mask)
+  time ← when_at d place
+  Ok (BatchGetDocuments root names mask time)
 
 abbrev pub run_query_members : List (List ℕ)
 run_query_members = codes "parent" ∷ codes "structuredQuery" ∷ when_members
 
--- a query below a parent; its rules are tested after the walk of the whole request
-unfoldable pub structured_at : List (List ℕ) → Data → List ℕ → Result Asked Bad
+-- a query below a parent, and when it is asked; its rules are tested after the walk of the whole request
+unfoldable pub structured_at : List (List ℕ) → Data → List ℕ → Result (Asked × Option ℤ) Bad
 structured_at parent d place = do
   structured ← required_at (codes "structuredQuery") d place
   walked ← walked_at parent structured (member_place place (codes "structuredQuery"))
-  _ ← when_at d place
-  permitted_at walked (member_place place (codes "structuredQuery"))
+  time ← when_at d place
+  query ← permitted_at walked (member_place place (codes "structuredQuery"))
+  Ok (query, time)
 
 unfoldable pub run_query_at : Root → Data → List ℕ → Result Request Bad
 run_query_at root d place = do
   _ ← only_at run_query_members d place
   text ← required_at (codes "parent") d place
   parent ← parent_at root text (member_place place (codes "parent"))
-  query ← structured_at parent d place
-  Ok (RunQuery root query)
+  asked ← structured_at parent d place
+  Ok (RunQuery root asked.0 asked.1)
 
 -- what a method asks for
 abbrev pub request_at : Root → List ℕ → Data → Result Request Bad

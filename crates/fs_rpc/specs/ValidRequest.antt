@@ -34,9 +34,9 @@ pub record IsQueryOf (root : Root) (database : Root) (query : Asked) : Type 0 wh
   pub parent : IsParentOf root (parent_of query.scope)
   pub valid : IsValid query
 
--- a request of the root's documents; any mask may be given
+-- a request of the root's documents; any mask and any time of a read may be given
 abbrev pub IsRequestOf : Root → Request → Type 0
 IsRequestOf root (Commit database writes) = IsCommitOf root database writes
-IsRequestOf root (GetDocument name mask) = IsDocumentOf root name
-IsRequestOf root (BatchGetDocuments database documents mask) = IsBatchOf root database documents
-IsRequestOf root (RunQuery database query) = IsQueryOf root database query
+IsRequestOf root (GetDocument name mask time) = IsDocumentOf root name
+IsRequestOf root (BatchGetDocuments database documents mask time) = IsBatchOf root database documents
+IsRequestOf root (RunQuery database query time) = IsQueryOf root database query

@@ -14,7 +14,7 @@ use crate::names::{
     BATCH_ANSWER_MEMBERS, DOCUMENT, FOUND, FOUND_OR_MISSING, MISSING, QUERY_ANSWER_MEMBERS,
     READ_TIME,
 };
-use crate::results::required_time;
+use crate::times::required_time;
 use fs_json::{Bad, document_name, member, one_of, only};
 use fs_path::{Root, Way};
 use fs_time::Micros;

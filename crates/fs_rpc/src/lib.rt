@@ -15,6 +15,7 @@ mod read;
 mod request;
 mod request_write;
 mod results;
+mod times;
 
 pub use envelope::{SessionRequest, read_envelope, read_id, read_request, read_session_request};
 pub use message::{Answers, BatchAnswer, Message};

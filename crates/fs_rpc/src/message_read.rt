@@ -16,7 +16,8 @@ use crate::names::{
     CODE, COMMIT_RESULT_MEMBERS, COMMIT_TIME, ERROR_MEMBERS, FOUND, MESSAGE, MESSAGE_MEMBERS,
     MISSING, OUTCOMES, RESULT, STATUS,
 };
-use crate::results::{read_results, required_time};
+use crate::results::read_results;
+use crate::times::required_time;
 use fs_json::{Bad, one_of, only, required, text};
 use fs_path::{Root, Rule, Text, Way};
 use fs_status::Code;

@@ -6,7 +6,6 @@ ghost use Rattle.serde_json.specs.Read.{max_depth};
 ghost use Rattle.serde_json.specs.View.{items_of, items_view, members_view, view as json};
 ghost use Rattle.serde_json.specs.Written.{compact_text, has_float};
 ghost use Rattle.fs_path.specs.declared.name.Root.{Root};
-ghost use Rattle.fs_json.specs.Time.{time_json};
 ghost use Rattle.fs_valjson.specs.Valid.{IsTimeHeld};
 ghost use Rattle.fs_writejson.specs.Results.{result_json, IsResultHeld};
 ghost use Rattle.fs_rpc.specs.MessageJson.{batch_answer_json, commit_json, error_json, error_members, message_json, message_json_on, message_members, query_answer_json, query_answers_json, result_members};
@@ -20,7 +19,7 @@ use crate::message::{BatchAnswer, Message};
 use crate::names::{
     COMMIT_TIME, DOCUMENT, ERROR, FOUND, MISSING, READ_TIME, RESULT, SESSION, WRITE_RESULTS,
 };
-use fs_json::write_time;
+use crate::times::moment;
 use fs_path::{Text, print_document};
 use fs_status::Code;
 use fs_time::Micros;
@@ -238,11 +237,4 @@ fn with_read_time(
     serde_json::put(&mut members, alloc, name, content)?;
     serde_json::put(&mut members, alloc, READ_TIME, moment(alloc, time)?)?;
     Ok(Value::Object(members))
-}
-
-fn moment(alloc: Global, time: Micros) -> Result<Value, AllocError>
-    ensures value { IfOk result (λ j. json j ≡ time_json time) }
-    ensures held { OnOk result (IsTimeHeld time) }
-{
-    write_time(alloc, time)
 }

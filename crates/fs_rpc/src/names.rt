@@ -47,10 +47,10 @@ pub const BATCH_GET_MEMBERS: [&str; 5] = [DATABASE, DOCUMENTS, MASK, TRANSACTION
 
 pub const RUN_QUERY_MEMBERS: [&str; 4] = [PARENT, STRUCTURED_QUERY, TRANSACTION, READ_TIME];
 
-/// The member of a commit that isn't built.
-pub const UNBUILT_COMMIT_MEMBERS: [&str; 1] = [TRANSACTION];
+/// The member of commits and reads that isn't built.
+pub const UNBUILT_MEMBERS: [&str; 1] = [TRANSACTION];
 
-/// When a read is made, of which at most one way is given. Neither is built.
+/// When documents are read, of which at most one way is given.
 pub const WHEN_MEMBERS: [&str; 2] = [TRANSACTION, READ_TIME];
 
 pub const DATABASE: &str = "database";

@@ -1,5 +1,6 @@
 //! Reading what stands under the method of a request.
-ghost use Rattle.std.specs.Prelude.{◌≡◌};
+ghost use Rattle.std.specs.Prelude.{◌≡◌, ℤ, Option};
+ghost use Rattle.fs_query.specs.Asked.{Asked};
 ghost use Rattle.fs_path.specs.Way.{place_of};
 ghost use Rattle.serde_json.specs.View.{view};
 ghost use Rattle.fs_json.specs.Answer.{Gives};
@@ -8,16 +9,18 @@ ghost use Rattle.fs_rpc.specs.Requests.{batch_get_at, commit_at, database_at, dr
 use crate::distinct::read_names;
 use crate::names::{
     BATCH_GET_DOCUMENTS, BATCH_GET_MEMBERS, COMMIT, COMMIT_MEMBERS, DATABASE, DOCUMENTS,
-    GET_DOCUMENT, GET_MEMBERS, MASK, NAME, PARENT, RUN_QUERY, RUN_QUERY_MEMBERS, STRUCTURED_QUERY,
-    UNBUILT_COMMIT_MEMBERS, WHEN_MEMBERS, WRITES,
+    GET_DOCUMENT, GET_MEMBERS, MASK, NAME, PARENT, READ_TIME, RUN_QUERY, RUN_QUERY_MEMBERS,
+    STRUCTURED_QUERY, UNBUILT_MEMBERS, WHEN_MEMBERS, WRITES,
 };
 use crate::request::Request;
+use crate::times::optional_time;
 use fs_json::{
     Bad, at_most_one_of, document_name, member, only, refuse_unbuilt, required, unless_refused,
 };
 use fs_path::{Ids, Paths, Root, Rule, Text, Way, check_database, parse_parent};
 use fs_query::Query;
 use fs_queryjson::{judge_query, walk_query};
+use fs_time::Micros;
 use fs_writejson::{Drafts, judge, read_drafts, read_mask};
 use serde_json::Value;
 use std::alloc::Global;
@@ -44,7 +47,7 @@ fn read_commit(alloc: Global, root: &Root, v: &Value, place: &Way<'_>) -> Result
     only(alloc, v, &COMMIT_MEMBERS, place)?;
     read_database(alloc, root, v, place)?;
     let drafts = read_drafts_of(alloc, root, v, place)?;
-    refuse_unbuilt(alloc, v, &UNBUILT_COMMIT_MEMBERS, place)?;
+    refuse_unbuilt(alloc, v, &UNBUILT_MEMBERS, place)?;
     let writes = judge(alloc, drafts, &place.member(WRITES))?;
     Ok(Request::Commit {
         database: root.copy(alloc)?,
@@ -61,8 +64,12 @@ fn read_get(alloc: Global, root: &Root, v: &Value, place: &Way<'_>) -> Result<Re
     let name = required(alloc, v, NAME, place)?;
     let name = document_name(alloc, root, name, &place.member(NAME))?;
     let mask = read_mask_of(alloc, v, place)?;
-    read_when(alloc, v, place)?;
-    Ok(Request::GetDocument { name, mask })
+    let read_time = read_when(alloc, v, place)?;
+    Ok(Request::GetDocument {
+        name,
+        mask,
+        read_time,
+    })
 }
 
 /// Reads a `BatchGetDocumentsRequest`. A name that stands twice is asked for once.
@@ -75,11 +82,12 @@ fn read_batch_get(alloc: Global, root: &Root, v: &Value, place: &Way<'_>) -> Res
     let names = required(alloc, v, DOCUMENTS, place)?;
     let documents = read_names(alloc, root, names, &place.member(DOCUMENTS))?;
     let mask = read_mask_of(alloc, v, place)?;
-    read_when(alloc, v, place)?;
+    let read_time = read_when(alloc, v, place)?;
     Ok(Request::BatchGetDocuments {
         database: root.copy(alloc)?,
         documents,
         mask,
+        read_time,
     })
 }
 
@@ -91,22 +99,30 @@ fn read_run_query(alloc: Global, root: &Root, v: &Value, place: &Way<'_>) -> Res
     only(alloc, v, &RUN_QUERY_MEMBERS, place)?;
     let parent = required(alloc, v, PARENT, place)?;
     let parent = read_parent(alloc, root, parent, &place.member(PARENT))?;
-    let query = read_structured(alloc, &parent, v, place)?;
+    let (query, read_time) = read_structured(alloc, &parent, v, place)?;
     Ok(Request::RunQuery {
         database: root.copy(alloc)?,
         query,
+        read_time,
     })
 }
 
-// The query, whose rules are tested after the walk of the whole request.
+// The query, whose rules are tested after the walk of the whole request, and when it is asked.
 #[tactic(auto, unfolding(crate::specs::Requests::structured_at))]
-fn read_structured(alloc: Global, parent: &Ids, v: &Value, place: &Way<'_>) -> Result<Query, Bad>
-    ensures { Gives (λ q. q) result (structured_at parent.now (view v.now) (place_of place.now)) }
+fn read_structured(
+    alloc: Global,
+    parent: &Ids,
+    v: &Value,
+    place: &Way<'_>,
+) -> Result<(Query, Option<Micros>), Bad>
+    ensures { Gives {Y = Asked × Option ℤ} (λ asked. asked) result
+        (structured_at parent.now (view v.now) (place_of place.now)) }
 {
     let structured = required(alloc, v, STRUCTURED_QUERY, place)?;
     let walked = walk_query(alloc, parent, structured, &place.member(STRUCTURED_QUERY))?;
-    read_when(alloc, v, place)?;
-    judge_query(alloc, walked, &place.member(STRUCTURED_QUERY))
+    let read_time = read_when(alloc, v, place)?;
+    let query = judge_query(alloc, walked, &place.member(STRUCTURED_QUERY))?;
+    Ok((query, read_time))
 }
 
 // The database has to be the root's.
@@ -149,10 +165,11 @@ fn read_mask_of(alloc: Global, v: &Value, place: &Way<'_>) -> Result<Option<Path
     }
 }
 
-// When a read is made can't be told yet.
-fn read_when(alloc: Global, v: &Value, place: &Way<'_>) -> Result<(), Bad>
-    ensures { Gives (λ u. u) result (when_at (view v.now) (place_of place.now)) }
+// The time at which documents are read, if it is given. A transaction can't be given yet.
+fn read_when(alloc: Global, v: &Value, place: &Way<'_>) -> Result<Option<Micros>, Bad>
+    ensures { Gives {Y = Option ℤ} (λ t. t) result (when_at (view v.now) (place_of place.now)) }
 {
     at_most_one_of(alloc, v, &WHEN_MEMBERS, place)?;
-    refuse_unbuilt(alloc, v, &WHEN_MEMBERS, place)
+    refuse_unbuilt(alloc, v, &UNBUILT_MEMBERS, place)?;
+    optional_time(alloc, v, READ_TIME, place)
 }

@@ -1,6 +1,7 @@
 //! Requests.
 use fs_path::{DocName, Names, Paths, Root, Text};
 use fs_query::Query;
+use fs_time::Micros;
 use fs_write::Writes;
 
 /// What a request asks for: one variant for each method of `google.firestore.v1.Firestore` that is built.
@@ -11,23 +12,27 @@ pub enum Request {
         database: Root,
         writes: Writes,
     },
-    /// `getDocument`: one document, or of its fields those that the mask names. (`GetDocumentRequest`.)
+    /// `getDocument`: one document, or of its fields those that the mask names, as it was at the read time, or as it is now
+    /// where there is none. (`GetDocumentRequest`.)
     GetDocument {
         name: DocName,
         mask: Option<Paths>,
+        read_time: Option<Micros>,
     },
-    /// `batchGetDocuments`: several documents, each asked for once, in the order in which they were named first.
-    /// (`BatchGetDocumentsRequest`.)
+    /// `batchGetDocuments`: several documents, each asked for once, in the order in which they were named first, all as of
+    /// one time, as above. (`BatchGetDocumentsRequest`.)
     BatchGetDocuments {
         database: Root,
         documents: Names,
         mask: Option<Paths>,
+        read_time: Option<Micros>,
     },
-    /// `runQuery`: the documents that a query answers. The parent of its collection stands in the query's scope.
-    /// (`RunQueryRequest`.)
+    /// `runQuery`: the documents that a query answers, as of one time, as above. The parent of its collection stands in the
+    /// query's scope. (`RunQueryRequest`.)
     RunQuery {
         database: Root,
         query: Query,
+        read_time: Option<Micros>,
     },
 }
 

@@ -1,5 +1,5 @@
 //! Writes requests.
-ghost use Rattle.std.specs.Prelude.{◌≡◌, ◌≤◌, false, Some, Ok, IfOk, OnOk};
+ghost use Rattle.std.specs.Prelude.{◌≡◌, ◌≤◌, false, Some, Ok, IfOk, IfSome, OnOk};
 ghost use Rattle.std.specs.List.{AllByRecursion};
 ghost use Rattle.fs_path.specs.declared.name.Root.{Root};
 ghost use Rattle.serde_json.specs.Data.{depth};
@@ -7,25 +7,28 @@ ghost use Rattle.serde_json.specs.Read.{max_depth};
 ghost use Rattle.serde_json.specs.View.{items_view, members_view, view};
 ghost use Rattle.serde_json.specs.Written.{compact_text, has_float};
 ghost use Rattle.fs_queryjson.specs.Written.{query_json};
+ghost use Rattle.fs_valjson.specs.Valid.{IsTimeHeld};
 ghost use Rattle.fs_writejson.specs.Mask.{mask_json};
 ghost use Rattle.fs_writejson.specs.Written.{write_json};
 ghost use Rattle.fs_rpc.specs.Envelope.{envelope_at, request_of, session_request_at};
 ghost use Rattle.fs_rpc.specs.RequestJson.{batch_get_json, commit_json, database_json, envelope_json, envelope_json_on, envelope_members, get_json, method_of, names_json, parent_json, request_json, run_query_json, writes_json};
-ghost use Rattle.fs_rpc.specs.RequestSteps.{ArePathsHeld, IsMaskHeld, IsQueryHeld, IsRequestHeld, IsWriteHeld, with_mask_put};
+ghost use Rattle.fs_rpc.specs.RequestSteps.{ArePathsHeld, IsMaskHeld, IsQueryHeld, IsRequestHeld, IsWriteHeld, with_mask_put, with_read_time_put};
 ghost use Rattle.fs_rpc.specs.ValidRequest.{IsRequestOf};
 
 use crate::id::put_id;
 use crate::list::put_list;
 use crate::names::{
-    BATCH_GET_DOCUMENTS, COMMIT, DATABASE, DOCUMENTS, GET_DOCUMENT, MASK, NAME, PARENT, RUN_QUERY,
-    SESSION, STRUCTURED_QUERY, WRITES,
+    BATCH_GET_DOCUMENTS, COMMIT, DATABASE, DOCUMENTS, GET_DOCUMENT, MASK, NAME, PARENT, READ_TIME,
+    RUN_QUERY, SESSION, STRUCTURED_QUERY, WRITES,
 };
 use crate::print::{print_database, print_parent};
 use crate::request::{Envelope, Request};
+use crate::times::moment;
 use fs_json::write_text;
 use fs_path::{DocName, Paths, Root, Scope, Text, print_document};
 use fs_query::Query;
 use fs_queryjson::write_query;
+use fs_time::Micros;
 use fs_write::Write;
 use fs_writejson::{write_mask, write_write};
 use serde_json::{Map, Value};
@@ -102,13 +105,22 @@ fn write_content(alloc: Global, request: &Request) -> Result<Value, AllocError>
 {
     match request {
         Request::Commit { database, writes } => write_commit(alloc, database, writes.as_slice()),
-        Request::GetDocument { name, mask } => write_get(alloc, name, mask),
+        Request::GetDocument {
+            name,
+            mask,
+            read_time,
+        } => write_get(alloc, name, mask, *read_time),
         Request::BatchGetDocuments {
             database,
             documents,
             mask,
-        } => write_batch_get(alloc, database, documents.as_slice(), mask),
-        Request::RunQuery { database, query } => write_run_query(alloc, database, query),
+            read_time,
+        } => write_batch_get(alloc, database, documents.as_slice(), mask, *read_time),
+        Request::RunQuery {
+            database,
+            query,
+            read_time,
+        } => write_run_query(alloc, database, query, *read_time),
     }
 }
 
@@ -148,14 +160,20 @@ fn write_one(alloc: Global, write: &Write) -> Result<Value, AllocError>
 }
 
 /// Writes a `GetDocumentRequest`.
-fn write_get(alloc: Global, name: &DocName, mask: &Option<Paths>) -> Result<Value, AllocError>
-    ensures value { IfOk result (λ v. view v ≡ get_json name.now mask.now) }
-    ensures held { OnOk result (IsMaskHeld mask.now) }
+fn write_get(
+    alloc: Global,
+    name: &DocName,
+    mask: &Option<Paths>,
+    read_time: Option<Micros>,
+) -> Result<Value, AllocError>
+    ensures value { IfOk result (λ v. view v ≡ get_json name.now mask.now read_time) }
+    ensures held { OnOk result (IsMaskHeld mask.now × IfSome read_time IsTimeHeld) }
 {
     let mut members = Map::new(alloc);
     let name = print_document(alloc, name)?.into_string();
     serde_json::put(&mut members, alloc, NAME, Value::String(name))?;
     put_mask(alloc, &mut members, mask)?;
+    put_read_time(alloc, &mut members, read_time)?;
     Ok(Value::Object(members))
 }
 
@@ -165,9 +183,10 @@ fn write_batch_get(
     database: &Root,
     documents: &[DocName],
     mask: &Option<Paths>,
+    read_time: Option<Micros>,
 ) -> Result<Value, AllocError>
-    ensures value { IfOk result (λ v. view v ≡ batch_get_json database.now documents.now mask.now) }
-    ensures held { OnOk result (IsMaskHeld mask.now) }
+    ensures value { IfOk result (λ v. view v ≡ batch_get_json database.now documents.now mask.now read_time) }
+    ensures held { OnOk result (IsMaskHeld mask.now × IfSome read_time IsTimeHeld) }
 {
     let mut members = Map::new(alloc);
     serde_json::put(
@@ -179,6 +198,7 @@ fn write_batch_get(
     let names = write_names(alloc, documents)?;
     serde_json::put(&mut members, alloc, DOCUMENTS, Value::Array(names))?;
     put_mask(alloc, &mut members, mask)?;
+    put_read_time(alloc, &mut members, read_time)?;
     Ok(Value::Object(members))
 }
 
@@ -216,16 +236,38 @@ fn mask_value(alloc: Global, paths: &Paths) -> Result<Value, AllocError>
     write_mask(alloc, paths)
 }
 
+/// Puts in the time of a read, where there is one.
+fn put_read_time(
+    alloc: Global,
+    members: &mut Map<String, Value>,
+    read_time: Option<Micros>,
+) -> Result<(), AllocError>
+    ensures value { OnOk result (members_view members.new.entries
+        ≡ with_read_time_put read_time (members_view members.old.entries)) }
+    ensures held { OnOk result (IfSome read_time IsTimeHeld) }
+{
+    match read_time {
+        Some(time) => serde_json::put(members, alloc, READ_TIME, moment(alloc, time)?),
+        None => Ok(()),
+    }
+}
+
 /// Writes a `RunQueryRequest`.
-fn write_run_query(alloc: Global, database: &Root, query: &Query) -> Result<Value, AllocError>
-    ensures value { IfOk result (λ v. view v ≡ run_query_json database.now query.now) }
-    ensures held { OnOk result (IsQueryHeld query.now) }
+fn write_run_query(
+    alloc: Global,
+    database: &Root,
+    query: &Query,
+    read_time: Option<Micros>,
+) -> Result<Value, AllocError>
+    ensures value { IfOk result (λ v. view v ≡ run_query_json database.now query.now read_time) }
+    ensures held { OnOk result (IsQueryHeld query.now × IfSome read_time IsTimeHeld) }
 {
     let mut members = Map::new(alloc);
     let structured = query_value(alloc, query)?;
     serde_json::put(&mut members, alloc, STRUCTURED_QUERY, structured)?;
     let parent = parent_value(alloc, database, &query.scope)?;
     serde_json::put(&mut members, alloc, PARENT, parent)?;
+    put_read_time(alloc, &mut members, read_time)?;
     Ok(Value::Object(members))
 }
 

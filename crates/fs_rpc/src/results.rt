@@ -1,33 +1,19 @@
 //! Reads the results of a commit's writes.
-ghost use Rattle.std.specs.Prelude.{ℤ, Option};
 ghost use Rattle.fs_path.specs.Way.{place_of};
 ghost use Rattle.serde_json.specs.View.{items_view, view as json};
 ghost use Rattle.fs_json.specs.Answer.{Gives};
 ghost use Rattle.fs_json.specs.Walk.{all_at, each_at};
-ghost use Rattle.fs_rpc.specs.ReadResults.{required_time_at, results_in, transforms_in, updated_in, write_result_at};
+ghost use Rattle.fs_rpc.specs.ReadResults.{results_in, transforms_in, write_result_at};
 
 use crate::names::{TRANSFORM_RESULTS, UPDATE_TIME, WRITE_RESULT_MEMBERS, WRITE_RESULTS};
-use fs_json::{Bad, list, member, only, required, time};
+use crate::times::optional_time;
+use fs_json::{Bad, list, member, only};
 use fs_path::Way;
-use fs_time::Micros;
 use fs_valjson::read_list;
 use fs_value::Values;
 use fs_write::{WriteResult, WriteResults};
 use serde_json::Value;
 use std::alloc::Global;
-
-/// A time that has to be there.
-pub(crate) fn required_time(
-    alloc: Global,
-    v: &Value,
-    name: &str,
-    place: &Way<'_>,
-) -> Result<Micros, Bad>
-    ensures { Gives (λ t. t) result (required_time_at name.now (json v.now) (place_of place.now)) }
-{
-    let moment = required(alloc, v, name, place)?;
-    time(alloc, moment, &place.member(name))
-}
 
 /// Reads the results of a commit's writes, of which there are none where the list is absent. (v1 reference,
 /// `CommitResponse`.)
@@ -63,21 +49,12 @@ fn read_result(alloc: Global, v: &Value, place: &Way<'_>) -> Result<WriteResult,
     ensures { Gives (λ r. r) result (write_result_at (json v.now) (place_of place.now)) }
 {
     only(alloc, v, &WRITE_RESULT_MEMBERS, place)?;
-    let updated = updated_in(alloc, v, place)?;
+    let updated = optional_time(alloc, v, UPDATE_TIME, place)?;
     let transforms = transforms_in(alloc, v, place)?;
     Ok(WriteResult {
         updated,
         transforms,
     })
-}
-
-fn updated_in(alloc: Global, v: &Value, place: &Way<'_>) -> Result<Option<Micros>, Bad>
-    ensures { Gives {Y = Option ℤ} (λ t. t) result (updated_in (json v.now) (place_of place.now)) }
-{
-    match member(alloc, v, UPDATE_TIME, place)? {
-        Some(moment) => Ok(Some(time(alloc, moment, &place.member(UPDATE_TIME))?)),
-        None => Ok(None),
-    }
 }
 
 fn transforms_in(alloc: Global, v: &Value, place: &Way<'_>) -> Result<Values, Bad>

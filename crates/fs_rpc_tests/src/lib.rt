@@ -2,6 +2,8 @@
 #![tactic(auto)]
 
 #[cfg(test)]
+mod given;
+#[cfg(test)]
 mod lines;
 #[cfg(test)]
 mod message_tables;
@@ -11,3 +13,5 @@ mod messages;
 mod request_tables;
 #[cfg(test)]
 mod requests;
+#[cfg(test)]
+mod tests;

@@ -103,3 +103,16 @@ pub(crate) const ON_A_SESSION: &str =
 {"id":"1","result":[{"readTime":"0s"}]} => {"id":"1","result":[{"readTime":"0s"}],"session":"s"}
 {"result":[{"missing":"~/c/z","readTime":"1us"},{"found":{"createTime":"1us","name":"~/c/a","updateTime":"1us"},"readTime":"1us"}]} => {"result":[{"missing":"~/c/z","readTime":"1us"},{"found":{"createTime":"1us","name":"~/c/a","updateTime":"1us"},"readTime":"1us"}],"session":"s"}
 {"error":{"code":404,"message":"no document at 1us","status":"NOT_FOUND"},"id":"2"} => {"error":{"code":404,"message":"no document at 1us","status":"NOT_FOUND"},"id":"2","session":"s"}"#;
+
+/// A refusal by name, with the id 7.
+pub(crate) const REFUSALS: &str =
+    r#"no document => {"error":{"code":404,"message":"no document at 0s","status":"NOT_FOUND"},"id":"7"}
+exists => {"error":{"code":409,"message":"write 3: document exists","status":"ALREADY_EXISTS"},"id":"7"}"#;
+
+/// An error by its message.
+pub(crate) const ERROR: &str =
+    r#"conflict with 3 => {"code":409,"message":"conflict with 3","status":"ABORTED"}"#;
+
+/// The names that are asked for, and what is told of them where no document is there.
+pub(crate) const ANSWERS: &str =
+    r#"~/c/b ~/c/a => {"result":[{"missing":"~/c/b","readTime":"0s"},{"missing":"~/c/a","readTime":"0s"}]}"#;

@@ -1,54 +1,64 @@
-use crate::lines::{demo, parts, shown, spelled_out};
-use crate::request_tables::{ON_A_SESSION, REQUESTS};
+//! What is made of requests.
 use fs_json::Bad;
-use fs_path::Text;
-use fs_rpc::{read_request, read_session_request, request_json, request_json_on, write_request};
-use std::alloc::Global;
-use std::test::Fail;
+use fs_path::{Root, Text};
+use fs_rpc::{
+    Envelope, read_request, read_session_request, request_json, request_json_on, write_request,
+};
+use serde_json::Value;
+use std::alloc::{AllocError, Global};
 
-// What is written of the request that is read, by both writers.
-fn written_again(alloc: Global, json: &str) -> Result<String, Bad> {
-    let envelope = read_request(alloc, &demo(alloc)?, json)?;
-    let text = write_request(alloc, &envelope)?.into_string();
-    let whole = request_json(alloc, &envelope)?.to_string(alloc)?;
-    if text.as_str() != whole.as_str() {
-        return Ok(String::from_str(alloc, "two texts")?);
-    }
-    Ok(text)
+pub(crate) fn demo(alloc: Global) -> Result<Root, AllocError> {
+    Ok(Root {
+        project: Text::from_str(alloc, "demo")?,
+        database: Text::from_str(alloc, "(default)")?,
+    })
 }
 
-// What is written on a session, if that is read as a request on it.
-fn written_on(alloc: Global, json: &str) -> Result<String, Bad> {
-    let envelope = read_request(alloc, &demo(alloc)?, json)?;
+fn read(alloc: Global, json: &str) -> Result<Envelope, Bad> {
+    let root = demo(alloc)?;
+    read_request(alloc, &root, json)
+}
+
+// What both writers write of a request.
+fn written(alloc: Global, envelope: &Envelope) -> Result<String, AllocError> {
+    let text = write_request(alloc, envelope)?;
+    let whole = request_json(alloc, envelope)?.to_string(alloc)?;
+    if text.as_str() == whole.as_str() {
+        Ok(whole)
+    } else {
+        String::from_str(alloc, "two texts")
+    }
+}
+
+pub(crate) fn request_again(alloc: Global, json: &str) -> Result<String, Bad> {
+    let envelope = read(alloc, json)?;
+    Ok(written(alloc, &envelope)?)
+}
+
+// What is written of the request that a line of a script is read as.
+fn line_again(alloc: Global, line: &Value) -> Result<Value, Bad> {
+    let root = demo(alloc)?;
+    let asked = read_session_request(alloc, &root, line)?;
+    let envelope = Envelope {
+        id: asked.id,
+        request: asked.request?,
+    };
+    Ok(request_json_on(alloc, &asked.session, &envelope)?)
+}
+
+fn line(alloc: Global, json: &str) -> Result<Value, Bad> {
+    let envelope = read(alloc, json)?;
     let session = Text::from_str(alloc, "s")?;
-    let line = request_json_on(alloc, &session, &envelope)?;
-    let again = read_session_request(alloc, &demo(alloc)?, &line)?;
-    if again.session != session || again.id != envelope.id || again.request.is_err() {
-        return Ok(String::from_str(alloc, "another request")?);
-    }
-    Ok(line.to_string(alloc)?)
+    Ok(request_json_on(alloc, &session, &envelope)?)
 }
 
-#[test]
-fn requests_are_read_and_written(rt: HostRuntime) -> Result<(), Fail> {
-    let alloc = rt.alloc();
-    for line in REQUESTS.lines() {
-        let line = spelled_out(alloc, line)?;
-        let (json, want) = parts(line.as_str()).ok_or("a line without an answer")?;
-        let again = shown(alloc, written_again(alloc, json))?;
-        assert!(rt; again.as_str() == want, "{line} gives {again}");
+pub(crate) fn request_on(alloc: Global, json: &str) -> Result<String, Bad> {
+    let line = line(alloc, json)?;
+    let again = line_again(alloc, &line)?.to_string(alloc)?;
+    let line = line.to_string(alloc)?;
+    if line.as_str() == again.as_str() {
+        Ok(again)
+    } else {
+        Ok(String::from_str(alloc, "another line")?)
     }
-    Ok(())
-}
-
-#[test]
-fn a_line_of_a_script_has_its_session(rt: HostRuntime) -> Result<(), Fail> {
-    let alloc = rt.alloc();
-    for line in ON_A_SESSION.lines() {
-        let line = spelled_out(alloc, line)?;
-        let (json, want) = parts(line.as_str()).ok_or("a line without an answer")?;
-        let written = shown(alloc, written_on(alloc, json))?;
-        assert!(rt; written.as_str() == want, "{line} gives {written}");
-    }
-    Ok(())
 }

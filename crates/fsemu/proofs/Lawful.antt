@@ -41,9 +41,9 @@ over_changes_nothing s writes false e = absurd (cc)
 
 request_changes_nothing : (s : State) (r : Result Request Bad) → commits r ≡ false → after_reading s r ≡ s
 request_changes_nothing s (Ok (Commit database writes)) e = over_changes_nothing s writes (is_over writes) e
-request_changes_nothing s (Ok (GetDocument name mask)) e = refl
-request_changes_nothing s (Ok (BatchGetDocuments database names mask)) e = refl
-request_changes_nothing s (Ok (RunQuery database query)) e = refl
+request_changes_nothing s (Ok (GetDocument name mask time)) e = refl
+request_changes_nothing s (Ok (BatchGetDocuments database names mask time)) e = refl
+request_changes_nothing s (Ok (RunQuery database query time)) e = refl
 request_changes_nothing s (Err bad) e = refl
 
 reading_changes_nothing : (s : State) (l : Line) → is_commit l ≡ false → after_read s l ≡ s
@@ -64,9 +64,9 @@ over_rises s writes false e = refl
 
 request_rises : (s : State) (r : Result Request Bad) → commits r ≡ true → (after_reading s r).last ≡ (s.last +ℤ pos 1)
 request_rises s (Ok (Commit database writes)) e = over_rises s writes (is_over writes) e
-request_rises s (Ok (GetDocument name mask)) e = absurd (cc)
-request_rises s (Ok (BatchGetDocuments database names mask)) e = absurd (cc)
-request_rises s (Ok (RunQuery database query)) e = absurd (cc)
+request_rises s (Ok (GetDocument name mask time)) e = absurd (cc)
+request_rises s (Ok (BatchGetDocuments database names mask time)) e = absurd (cc)
+request_rises s (Ok (RunQuery database query time)) e = absurd (cc)
 request_rises s (Err bad) e = absurd (cc)
 
 reading_rises : (s : State) (l : Line) → is_commit l ≡ true → (after_read s l).last ≡ (s.last +ℤ pos 1)
@@ -96,9 +96,9 @@ module _ (unwritten : Unwritten) where
 
   request_keeps : (s : State) (r : Result Request Bad) (n : DocName) → is_written n (writes_of r) ≡ false → get (after_reading s r).documents n ≡ get s.documents n
   request_keeps s (Ok (Commit database writes)) n e = over_keeps s writes n (is_over writes) e
-  request_keeps s (Ok (GetDocument name mask)) n e = refl
-  request_keeps s (Ok (BatchGetDocuments database names mask)) n e = refl
-  request_keeps s (Ok (RunQuery database query)) n e = refl
+  request_keeps s (Ok (GetDocument name mask time)) n e = refl
+  request_keeps s (Ok (BatchGetDocuments database names mask time)) n e = refl
+  request_keeps s (Ok (RunQuery database query time)) n e = refl
   request_keeps s (Err bad) n e = refl
 
   reading_keeps : (s : State) (l : Line) (n : DocName) → is_written n (asked_writes l) ≡ false → get (after_read s l).documents n ≡ get s.documents n
@@ -175,5 +175,5 @@ one_line s n b bytes =
 
 -- ---- what a read answers
 
-pub shows_what_stands : (s : State) (id : Option (List ℕ)) (name : DocName) (d : Document) → get s.documents name ≡ Some d → reply s id (Ok (GetDocument name None)) ≡ message.GetDocument id d
+pub shows_what_stands : (s : State) (id : Option (List ℕ)) (name : DocName) (d : Document) → get s.documents name ≡ Some d → reply s id (Ok (GetDocument name None None)) ≡ message.GetDocument id d
 shows_what_stands s id name d there = ap (found_answer s id None) there

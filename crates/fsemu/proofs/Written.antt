@@ -81,9 +81,9 @@ over_rises s writes false = (omega (arith, ints), omega (arith, ints))
 
 request_rises : (s : State) (r : Result Request Bad) → (s.last ≤ℤ (after_reading s r).last) × ((after_reading s r).last ≤ℤ (s.last +ℤ pos 1))
 request_rises s (Ok (Commit database writes)) = over_rises s writes (is_over writes)
-request_rises s (Ok (GetDocument name mask)) = (omega (arith, ints), omega (arith, ints))
-request_rises s (Ok (BatchGetDocuments database names mask)) = (omega (arith, ints), omega (arith, ints))
-request_rises s (Ok (RunQuery database query)) = (omega (arith, ints), omega (arith, ints))
+request_rises s (Ok (GetDocument name mask time)) = (omega (arith, ints), omega (arith, ints))
+request_rises s (Ok (BatchGetDocuments database names mask time)) = (omega (arith, ints), omega (arith, ints))
+request_rises s (Ok (RunQuery database query time)) = (omega (arith, ints), omega (arith, ints))
 request_rises s (Err bad) = (omega (arith, ints), omega (arith, ints))
 
 reading_rises : (s : State) (l : Line) → (s.last ≤ℤ (after_read s l).last) × ((after_read s l).last ≤ℤ (s.last +ℤ pos 1))

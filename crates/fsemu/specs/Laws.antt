@@ -16,9 +16,9 @@ use Rattle.fsemu.specs.declared.state.State.{State}
 -- whether a line asks for a commit, and not for one of too many writes
 abbrev pub commits : Result Request Bad → Bool
 commits (Ok (Commit database writes)) = not (is_over writes)
-commits (Ok (GetDocument name mask)) = false
-commits (Ok (BatchGetDocuments database names mask)) = false
-commits (Ok (RunQuery database query)) = false
+commits (Ok (GetDocument name mask time)) = false
+commits (Ok (BatchGetDocuments database names mask time)) = false
+commits (Ok (RunQuery database query time)) = false
 commits (Err bad) = false
 
 abbrev pub is_commit : Line → Bool
@@ -30,9 +30,9 @@ is_commit (line.Asked asked) = commits asked.request
 -- the writes that a line asks for
 abbrev pub writes_of : Result Request Bad → List Write
 writes_of (Ok (Commit database writes)) = writes
-writes_of (Ok (GetDocument name mask)) = []
-writes_of (Ok (BatchGetDocuments database names mask)) = []
-writes_of (Ok (RunQuery database query)) = []
+writes_of (Ok (GetDocument name mask time)) = []
+writes_of (Ok (BatchGetDocuments database names mask time)) = []
+writes_of (Ok (RunQuery database query time)) = []
 writes_of (Err bad) = []
 
 abbrev pub asked_writes : Line → List Write

@@ -1,5 +1,5 @@
 -- Where a script starts, and what a line does.
-use Rattle.std.specs.Prelude.{◌≡◌, ℕ, ℤ, pos, ◌+ℤ◌, List, [], Option, Bool, Result, Ok, Err, length, nat_lt, if◌then◌else◌, codes}
+use Rattle.std.specs.Prelude.{◌≡◌, ℕ, ℤ, pos, ◌+ℤ◌, List, [], Option, Some, None, Bool, Result, Ok, Err, length, nat_lt, if◌then◌else◌, codes}
 use Rattle.std.specs.FinMap.{empty}
 use Rattle.serde_json.specs.Data.{Data}
 use Rattle.fs_json.specs.declared.bad.Bad.{Bad}
@@ -11,6 +11,7 @@ use Rattle.fs_rpc.specs.declared.request.Request.TheVariants.{Commit, GetDocumen
 use Rattle.fs_time.specs.Moment.{IsMoment}
 use Rattle.fs_status.specs.declared.code.Code.TheVariants.{Unimplemented}
 use Rattle.fs_status.specs.Refusal.{at_limit, refusal_of}
+use Rattle.fs_status.specs.declared.reason.Reason.TheVariants as reasons
 use Rattle.fs_status.specs.declared.refusal.Refusal.{Refusal}
 use Rattle.fs_write.specs.After.{after_batch}
 use Rattle.fs_write.specs.Batch.{Docs, batch}
@@ -72,15 +73,22 @@ after_writes s writes = if is_over writes then s else after_commit s writes
 
 abbrev pub after_request : State → Request → State
 after_request s (Commit database writes) = after_writes s writes
-after_request s (GetDocument name mask) = s
-after_request s (BatchGetDocuments database names mask) = s
-after_request s (RunQuery database query) = s
+after_request s (GetDocument name mask time) = s
+after_request s (BatchGetDocuments database names mask time) = s
+after_request s (RunQuery database query time) = s
+
+-- reads as of a time aren't built
+abbrev pub refused_past : Option (List ℕ) → Message
+refused_past id = refused id (refusal_of (reasons.Method (codes "readTime")))
 
 abbrev pub answer : State → Option (List ℕ) → Request → Message
 answer s id (Commit database writes) = commit_answer s id writes
-answer s id (GetDocument name mask) = get_answer s id name mask
-answer s id (BatchGetDocuments database names mask) = message.BatchGetDocuments id (batch_answers s mask names)
-answer s id (RunQuery database query) = message.RunQuery id (query_answer s query) s.last
+answer s id (GetDocument name mask None) = get_answer s id name mask
+answer s id (GetDocument name mask (Some time)) = refused_past id
+answer s id (BatchGetDocuments database names mask None) = message.BatchGetDocuments id (batch_answers s mask names)
+answer s id (BatchGetDocuments database names mask (Some time)) = refused_past id
+answer s id (RunQuery database query None) = message.RunQuery id (query_answer s query) s.last
+answer s id (RunQuery database query (Some time)) = refused_past id
 
 -- a request that isn't read changes nothing, and is refused
 abbrev pub after_reading : State → Result Request Bad → State

@@ -35,7 +35,7 @@ pub fn scripts_are_lawful()
     // A read without a mask is answered with the document that stands. (That messages are read back is a clause of those that
     // write them.)
     ensures shown { (s : State) (id : Option (List ℕ)) (name : DocName) (d : Document) → get s.documents name ≡ Some d
-        → reply s id (Ok (GetDocument name None)) ≡ message.GetDocument id d }
+        → reply s id (Ok (GetDocument name None None)) ≡ message.GetDocument id d }
     // The last line may end in a newline or not.
     ensures newline { (script : List ℕ) → transcript (script ++ 10 ∷ []) ≡ transcript script }
 {

@@ -4,7 +4,7 @@ ghost use Rattle.serde_json.specs.View.{view};
 ghost use Rattle.serde_json.specs.Written.{has_float};
 ghost use Rattle.fs_rpc.specs.MessageJson.{message_json_on};
 ghost use Rattle.fsemu.specs.Line.{reason_of};
-ghost use Rattle.fsemu.specs.Step.{CanCommit, next_time, committed, commit_answer, answer, after_writes, after_request, after_reading, reply, after_read, output_of, after_line, line_output};
+ghost use Rattle.fsemu.specs.Step.{CanCommit, next_time, committed, commit_answer, answer, after_writes, after_request, after_reading, refused_past, reply, after_read, output_of, after_line, line_output};
 
 use crate::commit::commit;
 use crate::limits::MOST_WRITES;
@@ -77,16 +77,25 @@ fn carry_out_request(
 {
     match request {
         Request::Commit { writes, .. } => carry_out_commit(alloc, state, id, &writes),
-        Request::GetDocument { name, mask } => read_document(alloc, state, id, &name, &mask),
+        Request::GetDocument {
+            name,
+            mask,
+            read_time: None,
+        } => read_document(alloc, state, id, &name, &mask),
         Request::BatchGetDocuments {
             documents,
             mask,
+            read_time: None,
             ..
         } => {
             let answers = read_batch(alloc, state, &documents, &mask)?;
             Ok(Message::BatchGetDocuments { id, answers })
         }
-        Request::RunQuery { query, .. } => {
+        Request::RunQuery {
+            query,
+            read_time: None,
+            ..
+        } => {
             let documents = read_query(alloc, state, &query)?;
             let time = state.last;
             Ok(Message::RunQuery {
@@ -95,7 +104,27 @@ fn carry_out_request(
                 time,
             })
         }
+        Request::GetDocument {
+            read_time: Some(_),
+            ..
+        } => refused_past(alloc, id),
+        Request::BatchGetDocuments {
+            read_time: Some(_),
+            ..
+        } => refused_past(alloc, id),
+        Request::RunQuery {
+            read_time: Some(_),
+            ..
+        } => refused_past(alloc, id),
     }
+}
+
+// Reads as of a time aren't built.
+fn refused_past(alloc: Global, id: Option<Text>) -> Result<Message, AllocError>
+    ensures { IfOk result (λ m. m ≡ refused_past id) }
+{
+    let refusal = Refusal::of(Reason::Method(Text::from_str(alloc, "readTime")?));
+    Message::refused(alloc, id, &refusal)
 }
 
 // Why a request that isn't read is refused.

@@ -111,7 +111,7 @@ null -> G at commit.writes[0].update.fields.n
 
 /// Requests that are well formed and not built, and their refusals.
 pub const UNBUILT: &str =
-    r#""runQuery":{"parent":"~","structuredQuery":{},"readTime":"x"} -> method readTime
+    r#""runQuery":{"parent":"~","structuredQuery":{"from":[{"collectionId":"c"}]},"readTime":"2024-01-01T00:00:00Z"} -> method readTime
 "runQuery":{"parent":"~","structuredQuery":{},"transaction":1} -> method transaction
 "batchGetDocuments":{"database":"@","documents":["~/c/a"],"transaction":"x"} -> method transaction
 "beginTransaction":{} -> method beginTransaction
@@ -122,7 +122,8 @@ pub const UNBUILT: &str =
 "createDocument":{} -> method createDocument
 "batchWrite":{} -> method batchWrite
 "getDocument":{"name":"~/c/a","transaction":""} -> method transaction
-"getDocument":{"name":"~/c/a","read_time":1} -> method readTime
+"getDocument":{"name":"~/c/a","read_time":"2024-01-01T00:00:00Z"} -> method readTime
+"batchGetDocuments":{"database":"@","documents":["~/c/a"],"readTime":"2024-01-01T00:00:00Z"} -> method readTime
 "commit":{"database":"@","transaction":1} -> method transaction
 "commit":{"database":"@","writes":[{"transform":{}}]} -> method transform
 "commit":{"database":"@","writes":[{"verify":"~/c/a"}]} -> method verify

@@ -3,7 +3,7 @@ use Rattle.serde_json.specs.View.{view}
 use Rattle.serde_json.specs.declared.value.Value.{Value}
 use Rattle.fs_json.specs.Time.{time_at, time_json}
 use Rattle.fs_valjson.specs.Valid.{IsTimeHeld}
-use Rattle.fs_rpc.proofs.message_write.moment.Goals as goal
+use Rattle.fs_rpc.proofs.times.moment.Goals as goal
 
 -- what is written of a time is its text, so that is read back
 held : {E : Type 0} (r : Result Value E) (time : ℤ) → IfOk r (λ v. view v ≡ time_json time) → IfOk r (λ v. (place : List ℕ) → time_at (view v) place ≡ Ok time) → OnOk r (IsTimeHeld time)
