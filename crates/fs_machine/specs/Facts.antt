@@ -1,0 +1,19 @@
+-- What stands at every moment.
+use Rattle.std.specs.Prelude.{ℤ}
+use Rattle.fs_machine.specs.FloorIsReleased.{FloorIsReleased}
+use Rattle.fs_machine.specs.HistoryRises.{HistoryRises}
+use Rattle.fs_machine.specs.IdsAreDrawn.{IdsAreDrawn}
+use Rattle.fs_machine.specs.Past.{Past}
+use Rattle.fs_machine.specs.State.{Machine}
+use Rattle.fs_machine.specs.UnreleasedRise.{UnreleasedRise}
+
+-- of what was committed
+pub record PastFacts (p : Past) : Type 0 where
+  pub history : HistoryRises p
+  pub unreleased : UnreleasedRise p
+  pub floor : FloorIsReleased p
+
+-- of a server
+pub record Facts (m : Machine) : Type 0 where
+  pub past : PastFacts m.past
+  pub ids : IdsAreDrawn m.past m.ids

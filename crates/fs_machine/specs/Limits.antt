@@ -1,0 +1,28 @@
+-- The numbers that requests may not pass. (This project's own.)
+use Rattle.std.specs.Prelude.{ℕ, ◌≤◌}
+use Rattle.fs_machine.specs.declared.limits.Limits.{Limits}
+
+abbrev pub greatest : Limits
+greatest = record {
+  writes = 500;
+  outbox = 1000;
+  sessions = 64;
+  batches = 1000000;
+  journal = 134217728;
+  ids = 18446744073709551615;
+  time = 253402300799999999;
+}
+
+-- no session has a number so high
+abbrev pub session_numbers : ℕ
+session_numbers = 4294967296
+
+-- limits that a server may have
+pub record AreAllowed (limits : Limits) : Type 0 where
+  pub writes : limits.writes ≤ greatest.writes
+  pub outbox : limits.outbox ≤ greatest.outbox
+  pub sessions : limits.sessions ≤ greatest.sessions
+  pub batches : limits.batches ≤ greatest.batches
+  pub journal : limits.journal ≤ greatest.journal
+  pub ids : limits.ids ≤ greatest.ids
+  pub time : limits.time ≤ greatest.time

@@ -1,0 +1,11 @@
+-- A session's messages are taken: they are its messages, and it has none left.
+use Rattle.std.specs.Prelude.{ℕ, List}
+use Rattle.fs_rpc.specs.declared.message.Message.{Message}
+use Rattle.fs_machine.specs.Sessions.{outbox_in, emptied}
+use Rattle.fs_machine.specs.State.{Machine}
+
+abbrev pub outbox_of : Machine → ℕ → List Message
+outbox_of m session = outbox_in session m.sessions.list
+
+abbrev pub taken : Machine → ℕ → Machine
+taken m session = record m { sessions = record m.sessions { list = emptied session m.sessions.list } }

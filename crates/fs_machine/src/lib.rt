@@ -1,0 +1,19 @@
+//! What a Firestore server is at each moment, and what each of its events does, as definitions: with the types that they
+//! speak of, and the laws of what they promise.
+#![tactic(auto)]
+
+mod answer;
+mod config;
+mod laws;
+mod limits;
+mod messages;
+mod session;
+mod unreleased;
+
+pub use answer::{Answer, Outcome, Settled};
+pub use config::Config;
+pub use laws::machines_are_lawful;
+pub use limits::Limits;
+pub use messages::Messages;
+pub use session::Session;
+pub use unreleased::Unreleased;

@@ -1,0 +1,55 @@
+//! Limits.
+
+/// The numbers that requests may not pass, by the names that refusals tell. A server may be given smaller ones, as tests do,
+/// but no greater.
+#[derive(Clone, Copy, Debug, PartialEq, Eq)]
+pub struct Limits {
+    /// Writes of a commit.
+    pub writes: u64,
+    /// Messages in a session's outbox: with so many, its requests are refused.
+    pub outbox: u64,
+    /// Sessions that are open at a time.
+    pub sessions: u64,
+    /// Batches in the history, and commits that aren't in it yet.
+    pub batches: u64,
+    /// What these count together, in bytes.
+    pub journal: u64,
+    /// The last number that a commit may get.
+    pub ids: u64,
+    /// The last commit time, in microseconds since 1970.
+    pub time: u64,
+}
+
+impl Limits {
+    ghost use Rattle.std.specs.Prelude.{◌≡◌, ◌↔◌, IsTrue};
+    ghost use Rattle.fs_machine.specs.Limits.{greatest, AreAllowed};
+
+    /// The limits of the program.
+    pub fn greatest() -> Limits
+        ensures { result ≡ greatest }
+    {
+        Limits {
+            writes: 500,
+            outbox: 1_000,
+            sessions: 64,
+            batches: 1_000_000,
+            journal: 134_217_728,
+            ids: u64::MAX,
+            time: 253_402_300_799_999_999,
+        }
+    }
+
+    /// Whether none is above that of the program, so that a server may have them.
+    pub fn are_allowed(&self) -> bool
+        ensures { IsTrue result ↔ AreAllowed self.now }
+    {
+        let greatest = Limits::greatest();
+        self.writes <= greatest.writes
+            && self.outbox <= greatest.outbox
+            && self.sessions <= greatest.sessions
+            && self.batches <= greatest.batches
+            && self.journal <= greatest.journal
+            && self.ids <= greatest.ids
+            && self.time <= greatest.time
+    }
+}
