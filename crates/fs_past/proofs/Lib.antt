@@ -1,0 +1,4 @@
+mod Fitting
+mod Keeping
+mod Moving
+mod Naming
