@@ -1,0 +1,16 @@
+-- Only private clauses cite this: where a session stands, and its messages with the last one taken back.
+use Rattle.std.specs.Prelude.{ℕ, ◌+◌, ◌-◌, List, [], ◌∷◌, Option, Some, None, option_map, length, take, ◌==◌, if◌then◌else◌}
+use Rattle.fs_rpc.specs.declared.message.Message.{Message}
+use Rattle.fs_machine.specs.Sessions.{with_outbox}
+use Rattle.fs_machine.specs.declared.session.Session.{Session}
+
+-- the place of the first session with a number
+abbrev pub place_in : ℕ → List Session → Option ℕ
+place_in number [] = None
+place_in number (s ∷ ss) = if s.number == number then Some 0 else option_map (λ place. place + 1) (place_in number ss)
+
+abbrev pub without_last : List Message → List Message
+without_last ms = take (length ms - 1) ms
+
+abbrev pub taken_back : ℕ → List Session → List Session
+taken_back number ss = with_outbox number without_last ss

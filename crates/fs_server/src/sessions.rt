@@ -1,0 +1,155 @@
+//! Sessions.
+ghost use Rattle.std.specs.Prelude.{◌≡◌, ◌<◌, IfSome, length};
+ghost use Rattle.fs_server.specs.Place.{place_in};
+
+use fs_machine::{Messages, Session};
+use fs_rpc::Message;
+use std::alloc::{AllocError, Global};
+use std::marker::Model;
+use std::mem;
+
+/// The sessions that are open, in the order of opening. There are few: a session is looked for from the first on.
+///
+///     open, open         0 and 1 are open
+///     leave 0, open      1 and 2
+#[derive(Drop, Debug)]
+pub struct Sessions {
+    list: Vec<Session>,
+    // how many were opened so far
+    given: u64,
+}
+
+impl Model for Sessions {
+    ghost use Rattle.fs_machine.specs.Sessions.{Sessions as Held};
+
+    ghost Value = { Held };
+
+    ghost use Rattle.fs_machine.specs.Sessions.{sessions_code};
+
+    ghost coded = { sessions_code };
+
+    ghost view = { λ s. record { list = s.list.items; given = s.given } };
+}
+
+impl Sessions {
+    ghost use Rattle.std.specs.Prelude.{◌≡◌, ◌≢◌, ◌<◌, IfOk, OnOk, OnErr, length};
+    ghost use Rattle.fs_machine.specs.Limits.{session_numbers};
+    ghost use Rattle.fs_machine.specs.Open.{with_session};
+    ghost use Rattle.fs_machine.specs.Sessions.{no_sessions, outbox_in, told, emptied, without};
+    ghost use Rattle.fs_server.specs.Place.{taken_back};
+
+    /// None is open, and none was.
+    pub fn new(alloc: Global) -> Sessions
+        ensures { result ≡ no_sessions }
+    {
+        Sessions {
+            list: Vec::new(alloc),
+            given: 0,
+        }
+    }
+
+    /// How many are open.
+    pub fn len(&self) -> usize
+        ensures { result ≡ length self.now.list }
+    {
+        self.list.len()
+    }
+
+    /// How many were opened so far: the number of the next.
+    pub fn given(&self) -> u64
+        ensures { result ≡ self.now.given }
+    {
+        self.given
+    }
+
+    /// Opens one more, and tells its number.
+    pub fn add(&mut self, alloc: Global) -> Result<u32, AllocError>
+        requires { self.old.given < session_numbers }
+        ensures ok { OnOk result (self.new ≡ with_session self.old) }
+        ensures number { IfOk result (λ n. n ≡ self.old.given) }
+        ensures err { OnErr result (self.new ≡ self.old) }
+    {
+        let number = self.given as u32;
+        self.list.push(Session {
+            number,
+            outbox: Messages::new(alloc),
+        })?;
+        self.given += 1;
+        Ok(number)
+    }
+
+    /// Closes one, if it is open. It takes no memory.
+    pub fn remove(&mut self, number: u32)
+        ensures list { self.new.list ≡ without number self.old.list }
+        ensures given { self.new.given ≡ self.old.given }
+    {
+        match place_of(&self.list, number) {
+            Some(place) => {
+                let _ = self.list.remove(place);
+            }
+            None => {}
+        }
+    }
+
+    /// How many messages a session has still to be sent; none, where it isn't open.
+    pub fn outbox_len(&self, number: u32) -> usize
+        ensures { result ≡ length (outbox_in number self.now.list) }
+    {
+        match place_of(&self.list, number) {
+            Some(place) => self.list[place].outbox.len(),
+            None => 0,
+        }
+    }
+
+    /// A message more for a session, if it is open.
+    pub fn tell(&mut self, number: u32, message: Message) -> Result<(), AllocError>
+        ensures ok { OnOk result (self.new.list ≡ told number message self.old.list) }
+        ensures given { self.new.given ≡ self.old.given }
+        ensures err { OnErr result (self.new ≡ self.old) }
+    {
+        match place_of(&self.list, number) {
+            Some(place) => self.list[place].outbox.push(message),
+            None => Ok(()),
+        }
+    }
+
+    /// Takes a session's last message back, so that a message that was told is as if it hadn't been. It takes no memory.
+    pub fn take_back(&mut self, number: u32)
+        ensures list { self.new.list ≡ taken_back number self.old.list }
+        ensures given { self.new.given ≡ self.old.given }
+    {
+        match place_of(&self.list, number) {
+            Some(place) => self.list[place].outbox.take_back(),
+            None => {}
+        }
+    }
+
+    /// A session's messages, of which it has none left. It takes no memory.
+    pub fn take(&mut self, alloc: Global, number: u32) -> Messages
+        ensures messages { result ≡ outbox_in number self.old.list }
+        ensures list { self.new.list ≡ emptied number self.old.list }
+        ensures given { self.new.given ≡ self.old.given }
+    {
+        match place_of(&self.list, number) {
+            Some(place) => mem::replace(&mut self.list[place].outbox, Messages::new(alloc)),
+            None => Messages::new(alloc),
+        }
+    }
+}
+
+// Where the session of a number stands.
+fn place_of(list: &[Session], number: u32) -> Option<usize>
+    ensures place { result ≡ place_in number list.now }
+    ensures within { IfSome result (λ place. place < length list.now) }
+{
+    match list {
+        [] => None,
+        [session, rest @ ..] => {
+            if session.number == number {
+                return Some(0);
+            }
+            let place = place_of(rest, number)?;
+            Some(place + 1)
+        }
+    }
+}
