@@ -61,13 +61,13 @@ impl Chain {
         &self.versions[i]
     }
 
-    // The chain of one version.
-    pub(crate) fn of(alloc: Global, version: Version) -> Result<Chain, AllocError>
-        ensures { IfOk result (λ c. c ≡ version ∷ []) }
+    // The chain of no version, which nobody sees.
+    pub(crate) fn new(alloc: Global) -> Chain
+        ensures { result ≡ [] }
     {
-        let mut versions = Vec::new(alloc);
-        versions.push(version)?;
-        Ok(Chain { versions })
+        Chain {
+            versions: Vec::new(alloc),
+        }
     }
 
     // Adds a version that is later than all that are there.

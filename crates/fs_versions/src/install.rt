@@ -1,10 +1,10 @@
 //! How the changes of a batch come into the chains: all of them, or none.
-ghost use Rattle.std.specs.Prelude.{◌≡◌, ◌∷◌, ◌++◌, [], IsTrue, IfOk, OnOk, OnErr, Some, take};
+ghost use Rattle.std.specs.Prelude.{◌≡◌, ◌≢◌, ◌∷◌, ◌++◌, [], IsTrue, IfOk, OnOk, OnErr, Some, take};
 ghost use Rattle.std.specs.FinMap.{find, is_sorted};
 ghost use Rattle.fs_path.specs.NameOrder.{name_cmp};
 ghost use Rattle.fs_write.specs.Batch.{changes_by_name};
 ghost use Rattle.fs_versions.specs.Rising.{AreBefore};
-ghost use Rattle.fs_versions.specs.Sound.{Tree, chain_in, held, without_last, HasNoEmpty, HasChanged, EndsBefore, Puts, SameTree};
+ghost use Rattle.fs_versions.specs.Sound.{Tree, chain_in, found, held, without_last, HasNoEmpty, HasChanged, EndsBefore, Puts, SameTree};
 
 use crate::chain::Chain;
 use fs_history::Version;
@@ -32,16 +32,21 @@ fn put(
     name: &DocName,
     version: Version,
 ) -> Result<(), AllocError>
-    requires { AreBefore (chain_in name.now chains.old.entries) version.time }
+    requires earlier { AreBefore (chain_in name.now chains.old.entries) version.time }
+    requires some { found name.now chains.old.entries ≢ Some [] }
     ensures ok { OnOk result (Puts chains.old.entries chains.new.entries name.now
         (Some (chain_in name.now chains.old.entries ++ version ∷ []))) }
     ensures err { OnErr result (SameTree chains.old.entries chains.new.entries) }
 {
-    if let Some(chain) = chains.get_mut(name) {
-        return chain.push(version);
+    let chain = chains
+        .entry(name.copy(alloc)?)?
+        .or_insert(Chain::new(alloc));
+    if let Err(error) = chain.push(version) {
+        if chain.is_empty() {
+            chains.remove(name);
+        }
+        return Err(error);
     }
-    let chain = Chain::of(alloc, version)?;
-    chains.insert(name.copy(alloc)?, chain)?;
     Ok(())
 }
 
@@ -52,7 +57,8 @@ fn put_change(
     change: &Change,
     time: Micros,
 ) -> Result<(), AllocError>
-    requires { AreBefore (chain_in change.now.name chains.old.entries) time }
+    requires earlier { AreBefore (chain_in change.now.name chains.old.entries) time }
+    requires some { found change.now.name chains.old.entries ≢ Some [] }
     ensures ok { OnOk result (Puts chains.old.entries chains.new.entries change.now.name
         (Some (chain_in change.now.name chains.old.entries ++ record { time = time; after = change.now.after } ∷ []))) }
     ensures err { OnErr result (SameTree chains.old.entries chains.new.entries) }

@@ -7,8 +7,8 @@ use Rattle.fs_versions.specs.Sound.{HasChanged}
 use Rattle.fs_versions.proofs.TreeLaws.{rise_take, unseen_at, unchanged_yet, changed_more}
 use Rattle.fs_versions.proofs.install.install.Goals as goal
 
-pub put_change-requires : goal.put_change-requires
-put_change-requires c =
+pub put_change-requires-clause-earlier : goal.put_change-requires-clause-earlier
+put_change-requires-clause-earlier c =
     let changes = c.args.changes.now in
     let i = c.loop-i.i in
     let change = c.index-changes-i.result in
@@ -16,6 +16,17 @@ put_change-requires c =
     let unseen = unseen_at changes i change (omega arith) c.index-changes-i.is c.requires.rising in
     let same = unchanged_yet old c.loop-i.chains.entries (take i changes) c.args.time change.name c.loop-i.invariant unseen in
     subst (λ vs. AreBefore vs c.args.time) (sym (ap (λ o. unwrap_or o []) same)) (c.requires.earlier change.name)
+
+pub put_change-requires-clause-some : goal.put_change-requires-clause-some
+put_change-requires-clause-some c = λ none.
+    let changes = c.args.changes.now in
+    let i = c.loop-i.i in
+    let change = c.index-changes-i.result in
+    let old = c.args.chains.now.entries in
+    let unseen = unseen_at changes i change (omega arith) c.index-changes-i.is c.requires.rising in
+    let same = unchanged_yet old c.loop-i.chains.entries (take i changes) c.args.time change.name c.loop-i.invariant unseen in
+    let full = c.requires.some change.name [] (sym same ∙ none) in
+    omega (arith, full)
 
 pub take_all_back-requires : goal.take_all_back-requires
 take_all_back-requires c = record { rising = rise_take c.loop-i.i c.args.changes.now c.requires.rising }
