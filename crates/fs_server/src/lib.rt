@@ -1,6 +1,14 @@
-//! The sessions of a Firestore server, each with the messages that it has still to be sent. Requests on them are to come.
+//! A Cloud Firestore server in memory: sessions, their requests, commits that are prepared and then settled, reads as of a time.
+//! Each call is one event of the server, and its contract is that event's definition.
 #![tactic(auto)]
 
+mod commit;
+mod open;
+mod read;
+mod request;
+mod server;
 mod sessions;
+mod settle;
 
-pub use sessions::Sessions;
+pub use fs_past::Chain;
+pub use server::Server;

@@ -1,4 +1,4 @@
-use Rattle.std.proofs.Common.{◌≡◌, ap, sym, ◌∙◌, length}
+use Rattle.std.proofs.Common.{ap, ◌∙◌, length}
 use Rattle.fs_machine.specs.Sessions.{Sessions}
 use Rattle.fs_server.proofs.Places.{outbox_here, no_outbox_here}
 use Rattle.fs_server.proofs.sessions.Sessions.outbox_len.Goals as goal

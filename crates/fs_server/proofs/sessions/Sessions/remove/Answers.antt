@@ -1,4 +1,4 @@
-use Rattle.std.proofs.Common.{◌≡◌, ap, sym, ◌∙◌, length}
+use Rattle.std.proofs.Common.{ap, ◌∙◌}
 use Rattle.fs_machine.specs.Sessions.{Sessions}
 use Rattle.fs_server.proofs.Places.{removed_here, none_removed_here}
 use Rattle.fs_server.proofs.sessions.Sessions.remove.Goals as goal

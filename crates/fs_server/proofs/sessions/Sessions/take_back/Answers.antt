@@ -1,4 +1,4 @@
-use Rattle.std.proofs.Common.{◌≡◌, ap, sym, ◌∙◌, length}
+use Rattle.std.proofs.Common.{ap}
 use Rattle.fs_machine.specs.Sessions.{Sessions}
 use Rattle.fs_server.specs.Place.{without_last}
 use Rattle.fs_server.proofs.Places.{changed_here, unchanged_here}

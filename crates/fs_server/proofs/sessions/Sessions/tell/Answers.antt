@@ -1,6 +1,6 @@
-use Rattle.std.proofs.Common.{◌≡◌, ap, sym, ◌∙◌, length}
+use Rattle.std.proofs.Common.{ap}
 use Rattle.fs_machine.specs.Sessions.{Sessions}
-use Rattle.std.specs.Prelude.{◌∷◌, ◌++◌, [], OnOk}
+use Rattle.std.specs.Prelude.{◌∷◌, ◌++◌, []}
 use Rattle.std.proofs.lemmas.Result.{on_ok_weaker}
 use Rattle.fs_server.proofs.Places.{changed_here, unchanged_here}
 use Rattle.fs_server.proofs.sessions.Sessions.tell.Goals as goal

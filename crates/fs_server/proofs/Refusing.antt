@@ -1,0 +1,122 @@
+-- No definition of an answer is the refusal for want of memory.
+use Rattle.std.proofs.Common.{◌≡◌, ℕ, ℤ, Bool, true, false, cond, List, [], Option, Some, None, Ok, Err, ap, length, pos}
+use Rattle.std.specs.Prelude.{codes, nat_le, nat_lt, int_lt, ◌+◌}
+use Rattle.std.specs.FinMap.{get}
+use Rattle.fs_path.specs.declared.field.FieldPath.{FieldPath}
+use Rattle.fs_rpc.specs.declared.request.Request.{Request}
+use Rattle.fs_rpc.specs.declared.request.Request.TheVariants as request
+use Rattle.fs_status.specs.Refusal.{at_limit, refusal_of}
+use Rattle.fs_status.specs.declared.reason.Reason.{Reason}
+use Rattle.fs_status.specs.declared.reason.Reason.TheVariants.{AtLimit, Memory, NoDocument, TooOld, TooNew}
+use Rattle.fs_status.specs.declared.refusal.Refusal.{Refusal}
+use Rattle.fs_value.specs.declared.document.Document.{Document}
+use Rattle.fs_write.specs.declared.write.Write.{Write}
+use Rattle.fs_history.specs.Bytes.{commit_size}
+use Rattle.fs_history.specs.History.{at}
+use Rattle.fs_history.specs.declared.batch.Batch.{Batch}
+use Rattle.fs_machine.specs.declared.answer.Answer.{Answer}
+use Rattle.fs_machine.specs.declared.answer.Answer.TheVariants.{Reply, Refused}
+use Rattle.fs_machine.specs.Commit.{commit_refusal, journal_count, journal_size, next_batch, next_time, outbox_is_full, outbox_refusal, passed, prepared_answer}
+use Rattle.fs_machine.specs.Open.{is_full, open_answer}
+use Rattle.fs_machine.specs.Past.{Past}
+use Rattle.fs_machine.specs.Read.{batch_answers, document_answer, query_answer, time_of, time_refusal, unless_refused}
+use Rattle.fs_machine.specs.Request.{request_answer}
+use Rattle.fs_machine.specs.State.{Machine}
+use Rattle.fs_rpc.specs.declared.message.Message.{Message}
+use Rattle.fs_rpc.specs.declared.message.Message.TheVariants as message
+
+abbrev IsOther : Reason → Type 0
+IsOther r = r ≡ Memory → ⊥
+
+reason_of : {r s : Refusal} → r ≡ s → r.reason ≡ s.reason
+reason_of e = ap (λ (r : Refusal). r.reason) e
+
+other_limit : (name : List ℕ) (n : ℕ) → IsOther (AtLimit name n)
+other_limit name n e = cc
+
+-- ---- sessions
+
+open_other : (full : Bool) (n limit : ℕ) → cond full (Err (at_limit (codes "sessions") limit)) (Ok n) ≡ Err (refusal_of Memory) → ⊥
+open_other true n limit e = let r : at_limit (codes "sessions") limit ≡ refusal_of Memory = cc in other_limit (codes "sessions") limit (reason_of r)
+open_other false n limit e = cc
+
+pub open_not : (m : Machine) → open_answer m ≡ Err (refusal_of Memory) → ⊥
+open_not m e = open_other (is_full m) m.sessions.given m.limits.sessions e
+
+-- ---- requests
+
+abbrev AreOther : Option Refusal → Type 0
+AreOther None = Unit {0}
+AreOther (Some r) = IsOther r.reason
+
+passed_other : (over : Bool) (name : List ℕ) (n : ℕ) (others : Option Refusal) → AreOther others → AreOther (passed over name n others)
+passed_other true name n others rest = other_limit name n
+passed_other false name n others rest = rest
+
+commit_other : (m : Machine) (session : ℕ) (writes : List Write) → AreOther (commit_refusal m session writes)
+commit_other m session writes =
+    let late = passed (int_lt (pos m.limits.time) (next_time m.past)) (codes "time") m.limits.time None in
+    let drawn = passed (nat_le m.limits.ids m.ids) (codes "ids") m.limits.ids late in
+    let large = passed (nat_lt m.limits.journal (journal_size m.past + commit_size writes [])) (codes "journal") m.limits.journal drawn in
+    let many = passed (nat_le m.limits.batches (journal_count m.past)) (codes "batches") m.limits.batches large in
+    let full = passed (outbox_is_full m session) (codes "outbox") m.limits.outbox many in
+    passed_other (nat_lt m.limits.writes (length writes)) (codes "writes") m.limits.writes full
+    (passed_other (outbox_is_full m session) (codes "outbox") m.limits.outbox many
+    (passed_other (nat_le m.limits.batches (journal_count m.past)) (codes "batches") m.limits.batches large
+    (passed_other (nat_lt m.limits.journal (journal_size m.past + commit_size writes [])) (codes "journal") m.limits.journal drawn
+    (passed_other (nat_le m.limits.ids m.ids) (codes "ids") m.limits.ids late
+    (passed_other (int_lt (pos m.limits.time) (next_time m.past)) (codes "time") m.limits.time None tt)))))
+
+refused_reason : {r s : Refusal} → Refused r ≡ Refused s → r.reason ≡ s.reason
+refused_reason {r} {s} e = let same : r ≡ s = cc in reason_of same
+
+prepared_other : (o : Option Refusal) (b : Batch) → AreOther o → prepared_answer o b ≡ Refused (refusal_of Memory) → ⊥
+prepared_other (Some r) b other e = other (refused_reason e)
+prepared_other None b other e = cc
+
+unless_other : (o : Option Refusal) (a : Answer) → AreOther o → (a ≡ Refused (refusal_of Memory) → ⊥) → unless_refused o a ≡ Refused (refusal_of Memory) → ⊥
+unless_other (Some r) a other not e = other (refused_reason e)
+unless_other None a other not e = not e
+
+either_other : (b c : Bool) (old new : Reason) → IsOther old → IsOther new → AreOther (cond b (Some (refusal_of old)) (cond c (Some (refusal_of new)) None))
+either_other true c old new o n = o
+either_other false true old new o n = n
+either_other false false old new o n = tt
+
+too_old : (t floor : ℤ) → IsOther (TooOld t floor)
+too_old t floor e = cc
+
+too_new : (t released : ℤ) → IsOther (TooNew t released)
+too_new t released e = cc
+
+time_other : (p : Past) (t : ℤ) → AreOther (time_refusal p t)
+time_other p t = either_other (int_lt t p.floor) (int_lt p.released t) (TooOld t p.floor) (TooNew t p.released) (too_old t p.floor) (too_new t p.released)
+
+no_document : (t : ℤ) → IsOther (NoDocument t)
+no_document t e = cc
+
+document_other : (id : Option (List ℕ)) (t : ℤ) (mask : Option (List FieldPath)) (o : Option Document) → document_answer id t mask o ≡ Refused (refusal_of Memory) → ⊥
+document_other id t mask None e = no_document t (refused_reason e)
+document_other id t mask (Some d) e = cc
+
+reply_other : (m : Message) → Reply m ≡ Refused (refusal_of Memory) → ⊥
+reply_other m e = cc
+
+read_other : (m : Machine) (session : ℕ) (t : ℤ) (a : Answer) → (a ≡ Refused (refusal_of Memory) → ⊥) → unless_refused (outbox_refusal m session) (unless_refused (time_refusal m.past t) a) ≡ Refused (refusal_of Memory) → ⊥
+read_other m session t a not =
+    unless_other (outbox_refusal m session) (unless_refused (time_refusal m.past t) a) (passed_other (outbox_is_full m session) (codes "outbox") m.limits.outbox None tt)
+    (unless_other (time_refusal m.past t) a (time_other m.past t) not)
+
+pub request_not : (m : Machine) (session : ℕ) (id : Option (List ℕ)) (r : Request) → request_answer m session id r ≡ Refused (refusal_of Memory) → ⊥
+request_not m session id (request.Commit database writes) = prepared_other (commit_refusal m session writes) (next_batch m writes) (commit_other m session writes)
+request_not m session id (request.GetDocument name mask read_time) =
+    let t = time_of m.past read_time in
+    read_other m session t (document_answer id t mask (get (at m.past.history t) name)) (document_other id t mask (get (at m.past.history t) name))
+request_not m session id (request.BatchGetDocuments database names mask read_time) =
+    let t = time_of m.past read_time in
+    let reply = message.BatchGetDocuments id (batch_answers (at m.past.history t) t mask names) in
+    read_other m session t (Reply reply) (reply_other reply)
+request_not m session id (request.RunQuery database query read_time) =
+    let t = time_of m.past read_time in
+    let reply = message.RunQuery id (query_answer (at m.past.history t) query) t in
+    read_other m session t (Reply reply) (reply_other reply)

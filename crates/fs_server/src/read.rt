@@ -1,0 +1,211 @@
+//! Reads as of a time.
+ghost use Rattle.std.specs.Prelude.{◌≡◌, ◌≤ℤ◌, IfOk, IfNone, Some, map};
+ghost use Rattle.std.specs.FinMap.{get, values};
+ghost use Rattle.fs_history.specs.History.{at};
+ghost use Rattle.fs_machine.specs.Read.{batch_answers, batch_get_answer, document_answer, get_answer, query_answer, run_answer, shown, time_of, time_refusal, told_of};
+ghost use Rattle.fs_query.specs.AnswerTo.{answer_to};
+
+use crate::commit::copy_id;
+use fs_machine::Answer;
+use fs_past::Past;
+use fs_path::{DocName, Names, Paths, Text};
+use fs_query::{Query, project};
+use fs_rpc::{Answers, BatchAnswer, Message};
+use fs_status::{Reason, Refusal};
+use fs_time::Micros;
+use fs_value::{Document, Documents};
+use std::alloc::{AllocError, Global};
+
+/// The time of a read: the one that is asked for, or the released one.
+pub(crate) fn time_of(past: &Past, asked: Option<Micros>) -> Micros
+    ensures { result ≡ time_of past.now asked }
+{
+    match asked {
+        Some(time) => time,
+        None => past.released(),
+    }
+}
+
+// Why a time can't be read.
+fn time_refusal(past: &Past, time: Micros) -> Option<Refusal>
+    ensures value { result ≡ time_refusal past.now time }
+    ensures from { IfNone result (past.now.floor ≤ℤ time) }
+    ensures to { IfNone result (time ≤ℤ past.now.released) }
+{
+    let floor = past.floor();
+    if time < floor {
+        return Some(Refusal::of(Reason::TooOld(time, floor)));
+    }
+    let released = past.released();
+    if released < time {
+        return Some(Refusal::of(Reason::TooNew(time, released)));
+    }
+    None
+}
+
+// A document with the fields that a mask names, or with all of them where there is none.
+fn shown(alloc: Global, document: &Document, mask: &Option<Paths>) -> Result<Document, AllocError>
+    ensures { IfOk result (λ d. d ≡ shown mask.now document.now) }
+{
+    match mask {
+        Some(paths) => project(alloc, document, paths),
+        None => document.copy(alloc),
+    }
+}
+
+// ---- one document
+
+/// Reads a document.
+pub(crate) fn read_document(
+    alloc: Global,
+    past: &Past,
+    id: &Option<Text>,
+    name: &DocName,
+    mask: &Option<Paths>,
+    time: Micros,
+) -> Result<Answer, AllocError>
+    ensures { IfOk result (λ a. a ≡ get_answer past.now id.now name.now mask.now time) }
+{
+    match time_refusal(past, time) {
+        Some(refusal) => Ok(Answer::Refused(refusal)),
+        None => document_at(alloc, past, id, name, mask, time),
+    }
+}
+
+fn document_at(
+    alloc: Global,
+    past: &Past,
+    id: &Option<Text>,
+    name: &DocName,
+    mask: &Option<Paths>,
+    time: Micros,
+) -> Result<Answer, AllocError>
+    requires from { past.now.floor ≤ℤ time }
+    requires to { time ≤ℤ past.now.released }
+    ensures { IfOk result (λ a. a ≡ document_answer id.now time mask.now (get (at past.now.history time) name.now)) }
+{
+    match past.get(name, time) {
+        Some(document) => Ok(Answer::Reply(Message::GetDocument {
+            id: copy_id(alloc, id)?,
+            document: shown(alloc, document, mask)?,
+        })),
+        None => Ok(Answer::Refused(Refusal::of(Reason::NoDocument(time)))),
+    }
+}
+
+// ---- several documents
+
+/// Reads several documents, in the order of their names in the request.
+pub(crate) fn read_batch(
+    alloc: Global,
+    past: &Past,
+    id: &Option<Text>,
+    names: &Names,
+    mask: &Option<Paths>,
+    time: Micros,
+) -> Result<Answer, AllocError>
+    ensures { IfOk result (λ a. a ≡ batch_get_answer past.now id.now names.now mask.now time) }
+{
+    match time_refusal(past, time) {
+        Some(refusal) => Ok(Answer::Refused(refusal)),
+        None => Ok(Answer::Reply(Message::BatchGetDocuments {
+            id: copy_id(alloc, id)?,
+            answers: all_at(alloc, past, names, mask, time)?,
+        })),
+    }
+}
+
+fn all_at(
+    alloc: Global,
+    past: &Past,
+    names: &Names,
+    mask: &Option<Paths>,
+    time: Micros,
+) -> Result<Answers, AllocError>
+    requires from { past.now.floor ≤ℤ time }
+    requires to { time ≤ℤ past.now.released }
+    ensures { IfOk result (λ answers. answers ≡ batch_answers (at past.now.history time) time mask.now names.now) }
+{
+    let mut answers = Answers::new(alloc);
+    for name in names.as_slice() {
+        answers.push(one_at(alloc, past, name, mask, time)?)?;
+    }
+    Ok(answers)
+}
+
+fn one_at(
+    alloc: Global,
+    past: &Past,
+    name: &DocName,
+    mask: &Option<Paths>,
+    time: Micros,
+) -> Result<BatchAnswer, AllocError>
+    requires from { past.now.floor ≤ℤ time }
+    requires to { time ≤ℤ past.now.released }
+    ensures { IfOk result (λ a. a ≡ told_of time mask.now name.now (get (at past.now.history time) name.now)) }
+{
+    match past.get(name, time) {
+        Some(document) => Ok(BatchAnswer::Found(shown(alloc, document, mask)?, time)),
+        None => Ok(BatchAnswer::Missing(name.copy(alloc)?, time)),
+    }
+}
+
+// ---- queries
+
+/// Runs a query. Only the documents that it answers are copied.
+pub(crate) fn read_query(
+    alloc: Global,
+    past: &Past,
+    id: &Option<Text>,
+    query: &Query,
+    time: Micros,
+) -> Result<Answer, AllocError>
+    ensures { IfOk result (λ a. a ≡ run_answer past.now id.now query.now time) }
+{
+    match time_refusal(past, time) {
+        Some(refusal) => Ok(Answer::Refused(refusal)),
+        None => Ok(Answer::Reply(Message::RunQuery {
+            id: copy_id(alloc, id)?,
+            documents: answer_at(alloc, past, query, time)?,
+            time,
+        })),
+    }
+}
+
+fn answer_at(
+    alloc: Global,
+    past: &Past,
+    query: &Query,
+    time: Micros,
+) -> Result<Documents, AllocError>
+    requires from { past.now.floor ≤ℤ time }
+    requires to { time ≤ℤ past.now.released }
+    ensures { IfOk result (λ ds. ds ≡ query_answer (at past.now.history time) query.now) }
+{
+    let found = past.run(alloc, query, time)?;
+    selected(alloc, found, &query.select)
+}
+
+// The same documents as a query selects their fields.
+fn selected(
+    alloc: Global,
+    found: Documents,
+    select: &Option<Paths>,
+) -> Result<Documents, AllocError>
+    ensures { IfOk result (λ ds. ds ≡ map (shown select.now) found) }
+{
+    match select {
+        Some(paths) => projected(alloc, &found, paths),
+        None => Ok(found),
+    }
+}
+
+fn projected(alloc: Global, found: &Documents, paths: &Paths) -> Result<Documents, AllocError>
+    ensures { IfOk result (λ ds. ds ≡ map (shown (Some paths.now)) found.now) }
+{
+    let mut documents = Documents::new(alloc);
+    for document in found.as_slice() {
+        documents.push(project(alloc, document, paths)?)?;
+    }
+    Ok(documents)
+}

@@ -1,0 +1,134 @@
+//! Requests.
+use crate::read::{read_batch, read_document, read_query, time_of};
+use crate::server::Server;
+use fs_machine::Answer;
+use fs_path::{DocName, Names, Paths, Text};
+use fs_query::Query;
+use fs_rpc::{Envelope, Request};
+use fs_status::{Reason, Refusal};
+use fs_time::Micros;
+use std::alloc::{AllocError, Global};
+
+impl Server {
+    ghost use Rattle.std.specs.Prelude.{◌≡◌, ◌≢◌, [], IfOk, OnOk, OnErr};
+    ghost use Rattle.fs_status.specs.Refusal.{refusal_of};
+    ghost use Rattle.fs_status.specs.declared.reason.Reason.TheVariants.{Memory};
+    ghost use Rattle.fs_machine.specs.Read.{batch_get_answer, get_answer, run_answer, time_of};
+    ghost use Rattle.fs_machine.specs.Request.{answered, asked, read_answer};
+    ghost use Rattle.fs_machine.specs.Stays.{Stays};
+    ghost use Rattle.fs_machine.specs.declared.answer.Answer.TheVariants.{Refused};
+
+    /// A request comes on a session: what it is answered at once. A commit that passes no limit is prepared, and its reply comes
+    /// to the outbox of the session once it is settled. Reads are answered as of the time that they ask for, or of what is
+    /// released. Of several refusals the first of these is told: limits, in the order in which `Limits` has them; a read
+    /// time that is too old or too new; that no document is there. Where memory runs out, all is as before. (v1 reference,
+    /// "Commit", "GetDocument", "BatchGetDocuments", "RunQuery".)
+    pub fn request(&mut self, alloc: Global, session: u32, envelope: &Envelope) -> Answer
+        requires { self.old.past.unreleased ≡ [] }
+        ensures told { result ≢ Refused (refusal_of Memory) → result ≡ answered self.old session envelope.now }
+        ensures state { result ≢ Refused (refusal_of Memory) → self.new ≡ asked self.old session envelope.now }
+        ensures memory { result ≡ Refused (refusal_of Memory) → self.new ≡ self.old }
+        ensures stays { Stays self.old.past self.new.past }
+    {
+        self.stand();
+        match self.asked(alloc, session, envelope) {
+            Ok(answer) => answer,
+            Err(_) => Answer::Refused(Refusal::of(Reason::Memory)),
+        }
+    }
+
+    fn asked(
+        &mut self,
+        alloc: Global,
+        session: u32,
+        envelope: &Envelope,
+    ) -> Result<Answer, AllocError>
+        requires { self.old.past.unreleased ≡ [] }
+        ensures told { IfOk result (λ a. a ≡ answered self.old session envelope.now) }
+        ensures state { OnOk result (self.new ≡ asked self.old session envelope.now) }
+        ensures err { OnErr result (self.new ≡ self.old) }
+    {
+        let id = &envelope.id;
+        match &envelope.request {
+            Request::Commit { writes, .. } => self.commit(alloc, session, id, writes),
+            Request::GetDocument {
+                name,
+                mask,
+                read_time,
+            } => self.get(alloc, session, id, name, mask, *read_time),
+            Request::BatchGetDocuments {
+                documents,
+                mask,
+                read_time,
+                ..
+            } => self.batch_get(alloc, session, id, documents, mask, *read_time),
+            Request::RunQuery {
+                query,
+                read_time,
+                ..
+            } => self.run(alloc, session, id, query, *read_time),
+        }
+    }
+
+    fn get(
+        &self,
+        alloc: Global,
+        session: u32,
+        id: &Option<Text>,
+        name: &DocName,
+        mask: &Option<Paths>,
+        read_time: Option<Micros>,
+    ) -> Result<Answer, AllocError>
+        ensures { IfOk result (λ a. a ≡ read_answer self.now session
+            (get_answer self.now.past id.now name.now mask.now (time_of self.now.past read_time))) }
+    {
+        match self.outbox_refusal(alloc, session)? {
+            Some(refusal) => Ok(Answer::Refused(refusal)),
+            None => {
+                let time = time_of(&self.past, read_time);
+                read_document(alloc, &self.past, id, name, mask, time)
+            }
+        }
+    }
+
+    fn batch_get(
+        &self,
+        alloc: Global,
+        session: u32,
+        id: &Option<Text>,
+        names: &Names,
+        mask: &Option<Paths>,
+        read_time: Option<Micros>,
+    ) -> Result<Answer, AllocError>
+        ensures { IfOk result (λ a. a ≡ read_answer self.now session
+            (batch_get_answer self.now.past id.now names.now mask.now (time_of self.now.past read_time))) }
+    {
+        match self.outbox_refusal(alloc, session)? {
+            Some(refusal) => Ok(Answer::Refused(refusal)),
+            None => {
+                let time = time_of(&self.past, read_time);
+                read_batch(alloc, &self.past, id, names, mask, time)
+            }
+        }
+    }
+
+    fn run(
+        &self,
+        alloc: Global,
+        session: u32,
+        id: &Option<Text>,
+        query: &Query,
+        read_time: Option<Micros>,
+    ) -> Result<Answer, AllocError>
+        ensures { IfOk result (λ a. a ≡ read_answer self.now session
+            (run_answer self.now.past id.now query.now (time_of self.now.past read_time))) }
+    {
+        match self.outbox_refusal(alloc, session)? {
+            Some(refusal) => Ok(Answer::Refused(refusal)),
+            None => {
+                let time = time_of(&self.past, read_time);
+                read_query(alloc, &self.past, id, query, time)
+            }
+        }
+    }
+}

@@ -1,0 +1,172 @@
+//! The server.
+ghost use Rattle.std.specs.Prelude.{◌≡◌};
+
+use crate::sessions::Sessions;
+use fs_machine::{Config, Limits, Messages, Unreleased, machines_are_lawful};
+use fs_past::{Chain, Past};
+use fs_path::{DocName, Root};
+use fs_status::Id;
+use fs_time::Micros;
+use std::alloc::{AllocError, Global};
+use std::marker::Model;
+
+/// A Cloud Firestore server. A commit is first prepared, which gives it its time, then what its writes come to is told, and
+/// with that it is settled. Until there are transactions, one is settled before the next request comes.
+///
+///     open                      session 0
+///     request: commit of c/a    commit 1 is pending at t1, and nobody sees it
+///     outcome and settle of 1   c/a can be read at t1, and session 0 has the reply to take
+///     request: getDocument      c/a, as of t1
+///     tick to t9, compact to t5 times from t5 to t9 can be read, and show the same c/a
+#[derive(Drop, Debug)]
+pub struct Server {
+    pub(crate) config: Config,
+    pub(crate) limits: Limits,
+    pub(crate) past: Past,
+    pub(crate) sessions: Sessions,
+    // the last number that was drawn
+    pub(crate) ids: u64,
+}
+
+impl Model for Server {
+    ghost use Rattle.fs_machine.specs.State.{Machine, machine_code};
+
+    ghost Value = { Machine };
+
+    ghost coded = { machine_code };
+
+    ghost use Rattle.fs_server.specs.Kept.{IsKept};
+
+    ghost view = { λ s. record { config = s.config; limits = s.limits; past = s.past; sessions = s.sessions; ids = s.ids } };
+
+    ghost invariant = { λ s. IsKept s.limits s.past s.ids };
+}
+
+// Read by reference.
+fn id_of(commit: &Unreleased) -> Id
+    ensures { result ≡ commit.now.batch.id }
+{
+    commit.batch.id
+}
+
+impl Server {
+    ghost use Rattle.std.specs.Prelude.{◌≡◌, ◌↔◌, [], IsNone, IfOk, IfSome, OnOk, OnErr};
+    ghost use Rattle.fs_history.specs.Versions.{chain as chain_from};
+    ghost use Rattle.fs_machine.specs.Alone.{IsAlone};
+    ghost use Rattle.fs_machine.specs.Compact.{compacted};
+    ghost use Rattle.fs_machine.specs.Facts.{Facts};
+    ghost use Rattle.fs_machine.specs.Laws.{NeverChanged};
+    ghost use Rattle.fs_machine.specs.Leave.{left};
+    ghost use Rattle.fs_machine.specs.Limits.{AreAllowed};
+    ghost use Rattle.fs_machine.specs.Outbox.{outbox_of, taken};
+    ghost use Rattle.fs_machine.specs.State.{started};
+    ghost use Rattle.fs_machine.specs.Stays.{Stays};
+    ghost use Rattle.fs_machine.specs.Tick.{advanced, ticked};
+    ghost use Rattle.fs_server.specs.Pending.{next_pending as next_in};
+
+    /// A server without documents and sessions, at a moment. The allocator serves what comes.
+    pub fn new(alloc: Global, config: Config, limits: Limits, start: Micros) -> Server
+        requires { AreAllowed limits }
+        ensures { result ≡ started config limits start }
+    {
+        Server {
+            config,
+            limits,
+            past: Past::new(alloc, start),
+            sessions: Sessions::new(alloc),
+            ids: 0,
+        }
+    }
+
+    /// The project and the database whose documents it has.
+    pub fn root(&self) -> &Root
+        ensures { result.now ≡ self.now.config.root }
+    {
+        &self.config.root
+    }
+
+    /// The time up to which all that is committed can be read.
+    pub fn released(&self) -> Micros
+        ensures value { result ≡ self.now.past.released }
+        ensures facts { Facts self.now }
+    {
+        self.past.released()
+    }
+
+    /// The commit that is to be settled next: the earliest of those that are pending. Until there are transactions, it is alone,
+    /// and where there is none the next request may come.
+    pub fn next_pending(&self) -> Option<Id>
+        ensures value { result ≡ next_in self.now.past }
+        ensures none { IsNone result → self.now.past.unreleased ≡ [] }
+        ensures alone { IfSome result (λ id. IsAlone self.now.past id) }
+        ensures facts { Facts self.now }
+    {
+        self.stand();
+        match self.past.under_way() {
+            Some(commit) => Some(id_of(commit)),
+            None => None,
+        }
+    }
+
+    /// A document's versions from the earliest time that can be read on, by rising time, and `None` where there are none.
+    pub fn chain(&self, name: &DocName) -> Option<&Chain>
+        ensures some { IfSome result (λ c. c.now ≡ chain_from self.now.past.history self.now.past.floor name.now) }
+        ensures none { IsNone result ↔ (chain_from self.now.past.history self.now.past.floor name.now ≡ []) }
+    {
+        self.past.chain(name)
+    }
+
+    /// A session ends, if it is open. Messages that it was still to be sent are lost; its pending commit goes on. It takes no
+    /// memory.
+    pub fn leave(&mut self, session: u32)
+        ensures state { self.new ≡ left self.old session }
+        ensures stays { Stays self.old.past self.new.past }
+    {
+        self.stand();
+        self.sessions.remove(session);
+    }
+
+    /// The clock goes on to a moment, and what can be is released: the time up to which can be read now. Where memory runs out,
+    /// the clock has gone on, and the release is owed: the next tick or settling makes it.
+    pub fn tick(&mut self, alloc: Global, now: Micros) -> Result<Micros, AllocError>
+        ensures ok { OnOk result (self.new ≡ ticked self.old now) }
+        ensures told { IfOk result (λ t. t ≡ self.new.past.released) }
+        ensures err { OnErr result (self.new ≡ advanced self.old now) }
+        ensures stays { Stays self.old.past self.new.past }
+    {
+        self.stand();
+        self.past.advance(now);
+        self.past.release(alloc)?;
+        Ok(self.past.released())
+    }
+
+    /// Times before this one are given up, as far as what is released: the earliest time that can be read now. It takes no
+    /// memory. (Cloud Firestore documentation, "Point-in-time recovery": how far back can be read.)
+    pub fn compact(&mut self, to: Micros) -> Micros
+        ensures state { self.new ≡ compacted self.old to }
+        ensures told { result ≡ self.new.past.floor }
+        ensures stays { Stays self.old.past self.new.past }
+    {
+        self.stand();
+        self.past.compact(to)
+    }
+
+    /// A session's messages, of which it has none left; none, where it isn't open. It takes no memory.
+    pub fn take_outbox(&mut self, alloc: Global, session: u32) -> Messages
+        ensures told { result ≡ outbox_of self.old session }
+        ensures state { self.new ≡ taken self.old session }
+        ensures stays { Stays self.old.past self.new.past }
+    {
+        self.stand();
+        self.sessions.take(alloc, session)
+    }
+
+    // What stands at every moment, and whatever comes.
+    pub(crate) fn stand(&self)
+        ensures facts { Facts self.now }
+        ensures unchanged { NeverChanged }
+    {
+        machines_are_lawful();
+        let _ = self.past.last();
+    }
+}
