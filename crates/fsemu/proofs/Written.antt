@@ -1,20 +1,9 @@
 -- What lines write, cut off one after another.
-use Rattle.std.proofs.Common.{◌≡◌, ℕ, ◌+◌, Bool, true, false, cond, eqb, List, [], ◌∷◌, ◌++◌, Result, Ok, Err, refl, ap, sym, ◌∙◌, append_assoc, pos, negsuc, ℤ, leb, ◌≤◌, ◌+ℤ◌, ◌≤ℤ◌, subst, arith}
+use Rattle.std.proofs.Common.{◌≡◌, ℕ, ◌+◌, Bool, true, false, cond, eqb, List, [], ◌∷◌, ◌++◌, refl, ap, sym, ◌∙◌, append_assoc}
 use Rattle.std.proofs.lemmas.List.{append-nil}
 use Rattle.std.specs.List.{onto_first}
 use Rattle.fsemu.specs.declared.state.State.{State}
-use Rattle.std.proofs.lemmas.Int.{ints}
-use Rattle.std.proofs.lemmas.Bool.Decides.{nat_tests}
-use Rattle.fs_time.specs.Moment.{IsMoment}
-use Rattle.fsemu.specs.Limits.{longest_input}
-use Rattle.fsemu.specs.Line.{line_of}
-use Rattle.fsemu.specs.declared.request.Line.{Line}
-use Rattle.fsemu.specs.declared.request.Line.TheVariants as line
-use Rattle.fs_json.specs.declared.bad.Bad.{Bad}
-use Rattle.fs_rpc.specs.declared.request.Request.{Request}
-use Rattle.fs_rpc.specs.declared.request.Request.TheVariants.{Commit, GetDocument, BatchGetDocuments, RunQuery}
-use Rattle.fs_write.specs.declared.write.Write.{Write}
-use Rattle.fsemu.specs.Step.{start, CanCommit, is_over, after_commit, after_reading, after_read, after_line, line_output}
+use Rattle.fsemu.specs.Step.{start, after_line, line_output}
 use Rattle.fsemu.specs.Transcript.{lines_of, all_but_last, written, played, transcript}
 
 some_lines_at : (b : Bool) (x : ℕ) (lines : List (List ℕ)) → (line : List ℕ) × (more : List (List ℕ)) × (cond b ([] ∷ lines) (onto_first x lines) ≡ line ∷ more)
@@ -32,7 +21,7 @@ pub not_last : (line : List ℕ) (text : List ℕ) → all_but_last (line ∷ li
 not_last line text = let some = some_lines text in rw some.2 refl
 
 -- the first line writes first
-pub played_cut : (whole : Bool) (s : State) (n : ℕ) (text line more : List ℕ) → lines_of text ≡ line ∷ lines_of more → played whole s n text ≡ line_output s n line ++ played whole (after_line s line) (n + 1) more
+pub played_cut : (whole : Bool) (s : State) (n : ℕ) (text line more : List ℕ) → lines_of text ≡ line ∷ lines_of more → played whole s n text ≡ line_output s n line ++ played whole (after_line s n line) (n + 1) more
 played_cut true s n text line more cut = rw cut refl
 played_cut false s n text line more cut = rw (cut, not_last line more) refl
 
@@ -46,12 +35,12 @@ played_cut_off s n text last = rw last refl
 
 -- What was given, what is to be given and what the rest writes: a line is carried out.
 pub told_line : (whole : Bool) (s t : State) (n : ℕ) (given out next text line more total : List ℕ)
-    → given ++ (out ++ played whole s n text) ≡ total → lines_of text ≡ line ∷ lines_of more → next ≡ out ++ line_output s n line → t ≡ after_line s line
+    → given ++ (out ++ played whole s n text) ≡ total → lines_of text ≡ line ∷ lines_of more → next ≡ out ++ line_output s n line → t ≡ after_line s n line
     → given ++ (next ++ played whole t (n + 1) more) ≡ total
 told_line whole s t n given out next text line more total told cut grown after =
     ap (λ u. given ++ (next ++ played whole u (n + 1) more)) after
-    ∙ ap (λ o. given ++ (o ++ played whole (after_line s line) (n + 1) more)) grown
-    ∙ ap (λ r. given ++ r) (append_assoc out (line_output s n line) (played whole (after_line s line) (n + 1) more) ∙ ap (λ p. out ++ p) (sym (played_cut whole s n text line more cut)))
+    ∙ ap (λ o. given ++ (o ++ played whole (after_line s n line) (n + 1) more)) grown
+    ∙ ap (λ r. given ++ r) (append_assoc out (line_output s n line) (played whole (after_line s n line) (n + 1) more) ∙ ap (λ p. out ++ p) (sym (played_cut whole s n text line more cut)))
     ∙ told
 
 -- and a piece of the output is given
@@ -65,45 +54,10 @@ written_front : (s : State) (n : ℕ) (lines : List (List ℕ)) → (more : List
 written_front s n [] = ([], refl)
 written_front s n (line ∷ []) = (written s n (line ∷ []), refl)
 written_front s n (line ∷ next ∷ lines) =
-    let rest = written_front (after_line s line) (n + 1) (next ∷ lines) in
-    (rest.0, append_assoc (line_output s n line) (written (after_line s line) (n + 1) (all_but_last (next ∷ lines))) rest.0 ∙ ap (λ w. line_output s n line ++ w) rest.1)
+    let rest = written_front (after_line s n line) (n + 1) (next ∷ lines) in
+    (rest.0, append_assoc (line_output s n line) (written (after_line s n line) (n + 1) (all_but_last (next ∷ lines))) rest.0 ∙ ap (λ w. line_output s n line ++ w) rest.1)
 
 -- what a script writes that was cut off begins what the whole script writes
 pub played_front : (whole : Bool) (script : List ℕ) → (more : List ℕ) × (played whole start 1 script ++ more ≡ transcript script)
 played_front true script = ([], append-nil (transcript script))
 played_front false script = written_front start 1 (lines_of script)
-
--- ---- times
-
-over_rises : (s : State) (writes : List Write) (over : Bool) → (s.last ≤ℤ (cond over s (after_commit s writes)).last) × ((cond over s (after_commit s writes)).last ≤ℤ (s.last +ℤ pos 1))
-over_rises s writes true = (omega (arith, ints), omega (arith, ints))
-over_rises s writes false = (omega (arith, ints), omega (arith, ints))
-
-request_rises : (s : State) (r : Result Request Bad) → (s.last ≤ℤ (after_reading s r).last) × ((after_reading s r).last ≤ℤ (s.last +ℤ pos 1))
-request_rises s (Ok (Commit database writes)) = over_rises s writes (is_over writes)
-request_rises s (Ok (GetDocument name mask time)) = (omega (arith, ints), omega (arith, ints))
-request_rises s (Ok (BatchGetDocuments database names mask time)) = (omega (arith, ints), omega (arith, ints))
-request_rises s (Ok (RunQuery database query time)) = (omega (arith, ints), omega (arith, ints))
-request_rises s (Err bad) = (omega (arith, ints), omega (arith, ints))
-
-reading_rises : (s : State) (l : Line) → (s.last ≤ℤ (after_read s l).last) × ((after_read s l).last ≤ℤ (s.last +ℤ pos 1))
-reading_rises s line.Empty = (omega (arith, ints), omega (arith, ints))
-reading_rises s line.NotBuilt = (omega (arith, ints), omega (arith, ints))
-reading_rises s (line.Refused reason) = (omega (arith, ints), omega (arith, ints))
-reading_rises s (line.Asked asked) = request_rises s asked.request
-
--- a line moves the last commit time by one microsecond at most, and never back
-pub line_rises : (s t : State) (bytes : List ℕ) → t ≡ after_line s bytes → (s.last ≤ℤ t.last) × (t.last ≤ℤ (s.last +ℤ pos 1))
-unfolding after_line
-line_rises s t bytes is = subst (λ (u : State). (s.last ≤ℤ u.last) × (u.last ≤ℤ (s.last +ℤ pos 1))) (sym is) (reading_rises s (line_of s.root bytes))
-
-test_from : (m n : ℕ) → m ≤ n → leb m n ≡ true
-test_from m n h = grind (arith, nat_tests)
-
-next_moment : (z : ℤ) (n : ℕ) → start.last ≤ℤ z → z ≤ℤ (start.last +ℤ pos n) → n ≤ longest_input + 1 → IsMoment (z +ℤ pos 1)
-next_moment (pos m) n low high few = test_from (m + 1) _ (omega (arith, ints))
-next_moment (negsuc m) n low high few = absurd (omega (arith, ints))
-
--- so many lines leave time for one more commit
-pub can_commit : (s : State) (n : ℕ) → start.last ≤ℤ s.last → s.last ≤ℤ (start.last +ℤ pos n) → n ≤ longest_input + 1 → CanCommit s
-can_commit s n = next_moment s.last n

@@ -1,10 +1,11 @@
-pub mod Gathering
-pub mod Laws
 pub mod Limits
 pub mod Line
-pub mod Moved
-pub mod Read
+pub mod Directory
 pub mod Reply
-pub mod Run
+pub mod Outboxes
 pub mod Step
 pub mod Transcript
+pub mod Run
+pub mod Moved
+pub mod Laws
+pub mod Gathering

@@ -5,10 +5,6 @@ use Rattle.std.specs.Prelude.{ℕ}
 abbrev pub longest_line : ℕ
 longest_line = 10485760
 
--- the most writes of a commit
-abbrev pub most_writes : ℕ
-most_writes = 500
-
 -- so many bytes end a run, and no more are taken
 abbrev pub longest_input : ℕ
 longest_input = 4294967296

@@ -1,122 +1,146 @@
--- Where a script starts, and what a line does.
-use Rattle.std.specs.Prelude.{◌≡◌, ℕ, ℤ, pos, ◌+ℤ◌, List, [], Option, Some, None, Bool, Result, Ok, Err, length, nat_lt, if◌then◌else◌, codes}
-use Rattle.std.specs.FinMap.{empty}
-use Rattle.serde_json.specs.Data.{Data}
+-- Where a script starts, and what a line does: to the server and the sessions, and to the output. A line is an event of the
+-- server, with what it answers at once; then a commit that is pending is settled, and the outboxes are emptied.
+use Rattle.std.specs.Prelude.{◌≡◌, ℕ, ℤ, pos, List, [], ◌∷◌, ◌++◌, Option, Some, None, Result, Ok, Err, codes}
 use Rattle.fs_json.specs.declared.bad.Bad.{Bad}
-use Rattle.fs_rpc.specs.MessageJson.{error_json, message_json_on, refused}
-use Rattle.fs_rpc.specs.declared.message.Message.{Message}
-use Rattle.fs_rpc.specs.declared.message.Message.TheVariants as message
+use Rattle.fs_machine.specs.Compact.{compacted}
+use Rattle.fs_machine.specs.Leave.{left}
+use Rattle.fs_machine.specs.Limits.{greatest}
+use Rattle.fs_machine.specs.Open.{open_answer, opened}
+use Rattle.fs_machine.specs.Request.{answered, asked}
+use Rattle.fs_machine.specs.Settle.{settled}
+use Rattle.fs_machine.specs.State.{Machine, started}
+use Rattle.fs_machine.specs.Tick.{later, ticked}
+use Rattle.fs_machine.specs.declared.answer.Answer.{Answer}
+use Rattle.fs_machine.specs.declared.answer.Answer.TheVariants.{Reply, Prepared, Refused}
+use Rattle.fs_rpc.specs.MessageJson.{error_json, refused}
+use Rattle.fs_rpc.specs.declared.envelope.SessionRequest.{SessionRequest}
+use Rattle.fs_rpc.specs.declared.request.Envelope.{Envelope}
 use Rattle.fs_rpc.specs.declared.request.Request.{Request}
-use Rattle.fs_rpc.specs.declared.request.Request.TheVariants.{Commit, GetDocument, BatchGetDocuments, RunQuery}
-use Rattle.fs_time.specs.Moment.{IsMoment}
+use Rattle.fs_server.specs.Pending.{next_pending}
+use Rattle.fs_status.specs.Refusal.{refusal_of}
 use Rattle.fs_status.specs.declared.code.Code.TheVariants.{Unimplemented}
-use Rattle.fs_status.specs.Refusal.{at_limit, refusal_of}
+use Rattle.fs_status.specs.declared.reason.LineFault.TheVariants.{DoesNotApply}
+use Rattle.fs_status.specs.declared.reason.Reason.{Reason}
 use Rattle.fs_status.specs.declared.reason.Reason.TheVariants as reasons
 use Rattle.fs_status.specs.declared.refusal.Refusal.{Refusal}
-use Rattle.fs_write.specs.After.{after_batch}
-use Rattle.fs_write.specs.Batch.{Docs, batch}
-use Rattle.fs_write.specs.declared.write.Write.{Write}
-use Rattle.fs_write.specs.declared.write_result.WriteResult.{WriteResult}
-use Rattle.fsemu.specs.Limits.{most_writes}
+use Rattle.fsemu.specs.Directory.{number_of, without}
 use Rattle.fsemu.specs.Line.{line_of, reason_of}
-use Rattle.fsemu.specs.Read.{get_answer, batch_answers, query_answer}
+use Rattle.fsemu.specs.Outboxes.{drained, drain_output, message_line}
 use Rattle.fsemu.specs.Reply.{refused_json, line_error, json_line}
 use Rattle.fsemu.specs.declared.request.Line.{Line}
 use Rattle.fsemu.specs.declared.request.Line.TheVariants as line
 use Rattle.fsemu.specs.declared.state.State.{State}
 
--- the start moment, 2024-01-01T00:00:00Z, and no documents
+-- 2024-01-01T00:00:00Z
+abbrev pub start_moment : ℤ
+start_moment = pos 1704067200000000
+
+-- a server without documents, and no session
 abbrev pub start : State
-start = record { root = record { project = codes "demo"; database = codes "(default)" }; documents = empty; last = pos 1704067200000000 }
+start = record {
+  server = started (record { root = record { project = codes "demo"; database = codes "(default)" } }) greatest start_moment;
+  directory = [];
+  moment = start_moment;
+}
 
--- ---- commits
+-- no commit is under way
+abbrev pub IsIdle : State → Type 0
+IsIdle s = s.server.past.unreleased ≡ []
 
--- the time of the next commit: one microsecond after the last
-abbrev pub next_time : State → ℤ
-next_time s = s.last +ℤ pos 1
+-- ---- what was played
 
--- there is such a time
-abbrev pub CanCommit : State → Type 0
-CanCommit s = IsMoment (next_time s)
+pub record Played : Type 0 where
+  pub state : State
+  pub output : List ℕ
 
--- what a commit answers to its writes: their results, or the refusal of the first that is refused
-abbrev pub answer_of : Result (Docs × List WriteResult) Refusal → Result (List WriteResult) Refusal
-answer_of (Ok done) = Ok done.1
-answer_of (Err refusal) = Err refusal
+abbrev pub nothing : State → Played
+nothing s = record { state = s; output = [] }
 
--- the documents after a commit, and what it answers
-pub record IsCommitted (before after : Docs) (writes : List Write) (time : ℤ) (answer : Result (List WriteResult) Refusal) : Type 0 where
-  pub documents : after ≡ after_batch before writes time
-  pub answers : answer ≡ answer_of (batch before writes time)
+abbrev pub prints : State → List ℕ → Played
+prints s bytes = record { state = s; output = bytes }
 
--- a commit has too many writes, and so is refused before it uses a time
-abbrev pub is_over : List Write → Bool
-is_over writes = nat_lt most_writes (length writes)
+abbrev pub followed_by : Played → (State → Played) → Played
+followed_by p next = record { state = (next p.state).state; output = p.output ++ (next p.state).output }
 
-abbrev pub after_commit : State → List Write → State
-after_commit s writes = record { root = s.root; documents = after_batch s.documents writes (next_time s); last = next_time s }
+-- that this was played: the state afterwards, and the output with what it adds
+pub record Plays (p : Played) (s : State) (before after : List ℕ) : Type 0 where
+  pub state : s ≡ p.state
+  pub output : after ≡ before ++ p.output
 
-abbrev pub committed : Option (List ℕ) → ℤ → Result (List WriteResult) Refusal → Message
-committed id time (Ok results) = message.Commit id time results
-committed id time (Err refusal) = refused id refusal
+-- ---- after each line
 
-abbrev pub commit_answer : State → Option (List ℕ) → List Write → Message
-commit_answer s id writes =
-    if is_over writes then refused id (at_limit (codes "writes") most_writes) else committed id (next_time s) (answer_of (batch s.documents writes (next_time s)))
+abbrev pub settled_if : Machine → Option ℕ → Machine
+settled_if m None = m
+settled_if m (Some id) = settled m id
+
+-- the commit that is pending is settled
+abbrev pub settled_next : Machine → Machine
+settled_next m = settled_if m (next_pending m.past)
+
+-- and the outboxes are emptied
+abbrev pub closed : State → Played
+closed s = record {
+  state = record s { server = drained s.directory (settled_next s.server) };
+  output = drain_output s.directory (settled_next s.server);
+}
 
 -- ---- requests
 
--- a commit changes the documents and uses its time, and one whose writes are refused its time alone; nothing else changes
--- anything
-abbrev pub after_writes : State → List Write → State
-after_writes s writes = if is_over writes then s else after_commit s writes
+-- what is told at once; the reply to a commit comes to the outbox
+abbrev pub reply_output : List ℕ → Option (List ℕ) → Answer → List ℕ
+reply_output name id (Reply message) = message_line name message
+reply_output name id (Prepared commit time) = []
+reply_output name id (Refused refusal) = message_line name (refused id refusal)
 
-abbrev pub after_request : State → Request → State
-after_request s (Commit database writes) = after_writes s writes
-after_request s (GetDocument name mask time) = s
-after_request s (BatchGetDocuments database names mask time) = s
-after_request s (RunQuery database query time) = s
+abbrev pub requested : State → List ℕ → ℕ → Envelope → Played
+requested s name number e = record { state = record s { server = asked s.server number e }; output = reply_output name e.id (answered s.server number e) }
 
--- reads as of a time aren't built
-abbrev pub refused_past : Option (List ℕ) → Message
-refused_past id = refused id (refusal_of (reasons.Method (codes "readTime")))
+-- a request on the session of a number, one that isn't read too
+abbrev pub asks : State → List ℕ → ℕ → Option (List ℕ) → Result Request Bad → Played
+asks s name number id (Ok request) = requested s name number (record { id = id; request = request })
+asks s name number id (Err bad) = prints s (message_line name (refused id (refusal_of (reason_of bad))))
 
-abbrev pub answer : State → Option (List ℕ) → Request → Message
-answer s id (Commit database writes) = commit_answer s id writes
-answer s id (GetDocument name mask None) = get_answer s id name mask
-answer s id (GetDocument name mask (Some time)) = refused_past id
-answer s id (BatchGetDocuments database names mask None) = message.BatchGetDocuments id (batch_answers s mask names)
-answer s id (BatchGetDocuments database names mask (Some time)) = refused_past id
-answer s id (RunQuery database query None) = message.RunQuery id (query_answer s query) s.last
-answer s id (RunQuery database query (Some time)) = refused_past id
+-- with one session more
+abbrev pub named : State → List ℕ → ℕ → State
+named s name number = record s { directory = s.directory ++ record { name = name; number = number } ∷ [] }
 
--- a request that isn't read changes nothing, and is refused
-abbrev pub after_reading : State → Result Request Bad → State
-after_reading s (Ok request) = after_request s request
-after_reading s (Err bad) = s
+-- A session opens with its first request. Where it may not, the request isn't carried out.
+abbrev pub opens : State → SessionRequest → Result ℕ Refusal → Played
+opens s a (Ok number) = asks (named s a.session number) a.session number a.id a.request
+opens s a (Err refusal) = prints s (message_line a.session (refused a.id refusal))
 
-abbrev pub reply : State → Option (List ℕ) → Result Request Bad → Message
-reply s id (Ok request) = answer s id request
-reply s id (Err bad) = refused id (refusal_of (reason_of bad))
+abbrev pub in_session : State → SessionRequest → Option ℕ → Played
+in_session s a (Some number) = asks s a.session number a.id a.request
+in_session s a None = opens (record s { server = opened s.server }) a (open_answer s.server)
+
+-- ---- other lines
+
+abbrev pub error_line : Reason → ℕ → List ℕ
+error_line reason n = json_line (line_error (refused_json reason) n)
+
+-- the clock goes on, and never back
+abbrev pub clocked : State → ℤ → State
+clocked s time = record s { server = ticked s.server (later s.moment time); moment = later s.moment time }
+
+abbrev pub leaves : State → ℕ → List ℕ → Option ℕ → Played
+leaves s n name None = prints s (error_line (reasons.Line DoesNotApply) n)
+leaves s n name (Some number) = closed (record s { server = left s.server number; directory = without name s.directory })
 
 -- ---- lines
 
-abbrev pub after_read : State → Line → State
-after_read s line.Empty = s
-after_read s line.NotBuilt = s
-after_read s (line.Refused reason) = s
-after_read s (line.Asked asked) = after_reading s asked.request
+abbrev pub line_played : State → ℕ → Line → Played
+line_played s n line.Empty = nothing s
+line_played s n line.NotBuilt = prints s (json_line (line_error (error_json Unimplemented (codes "line not read yet")) n))
+line_played s n (line.Refused reason) = prints s (error_line reason n)
+line_played s n (line.Asked a) = followed_by (in_session s a (number_of a.session s.directory)) closed
+line_played s n (line.Clock time) = closed (clocked s time)
+line_played s n (line.Compact time) = closed (record s { server = compacted s.server time })
+line_played s n (line.Leave name) = leaves s n name (number_of name s.directory)
 
-abbrev pub output_of : State → ℕ → Line → List ℕ
-output_of s n line.Empty = []
-output_of s n line.NotBuilt = json_line (line_error (error_json Unimplemented (codes "line not read yet")) n)
-output_of s n (line.Refused reason) = json_line (line_error (refused_json reason) n)
-output_of s n (line.Asked asked) = json_line (message_json_on asked.session (reply s asked.id asked.request))
+-- the state after a line, which has this number
+unfoldable pub after_line : State → ℕ → List ℕ → State
+after_line s n bytes = (line_played s n (line_of s.server.config.root bytes)).state
 
--- the state after a line
-unfoldable pub after_line : State → List ℕ → State
-after_line s bytes = after_read s (line_of s.root bytes)
-
--- what is written for a line, which has this number
+-- what is written for it
 unfoldable pub line_output : State → ℕ → List ℕ → List ℕ
-line_output s n bytes = output_of s n (line_of s.root bytes)
+line_output s n bytes = (line_played s n (line_of s.server.config.root bytes)).output

@@ -18,7 +18,7 @@ all_but_last (line ∷ next ∷ lines) = line ∷ all_but_last (next ∷ lines)
 -- what lines write from a state on, where the first of them has this number
 abbrev pub written : State → ℕ → List (List ℕ) → List ℕ
 written state number [] = []
-written state number (line ∷ lines) = line_output state number line ++ written (after_line state line) (number + 1) lines
+written state number (line ∷ lines) = line_output state number line ++ written (after_line state number line) (number + 1) lines
 
 -- what the lines of a text write from a state on, with the last line or without it
 abbrev pub played : Bool → State → ℕ → List ℕ → List ℕ

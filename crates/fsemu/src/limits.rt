@@ -3,8 +3,5 @@
 /// The longest line that is read, in bytes without its newline.
 pub const LONGEST_LINE: usize = 10_485_760;
 
-/// The most writes that a commit may have.
-pub const MOST_WRITES: usize = 500;
-
 /// So many bytes end a run. No more are taken from the source.
 pub const LONGEST_INPUT: usize = 4_294_967_296;

@@ -1,7 +1,10 @@
 //! fsemu: a local Cloud Firestore for tests of transactions, listeners and offline clients.
 #![tactic(auto)]
 
-mod commit;
+mod ask;
+mod calls;
+mod close;
+mod directory;
 mod gather;
 mod laws;
 mod limits;
@@ -10,7 +13,6 @@ mod lines;
 mod output;
 mod play;
 mod program;
-mod read;
 mod reply;
 mod request;
 mod run;

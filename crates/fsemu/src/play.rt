@@ -4,7 +4,7 @@ ghost use Rattle.std.specs.Bool.{OnTrue, OnFalse};
 ghost use Rattle.fs_edge.specs.Count.{Rose};
 ghost use Rattle.fsemu.specs.Limits.{longest_input};
 ghost use Rattle.fsemu.specs.Moved.{Gained, GainedFront};
-ghost use Rattle.fsemu.specs.Step.{CanCommit, start};
+ghost use Rattle.fsemu.specs.Step.{IsIdle, start};
 ghost use Rattle.fsemu.specs.Transcript.{lines_of, played};
 
 use crate::lines::first_line;
@@ -23,7 +23,7 @@ fn carry_last(
     whole: bool,
     out: &mut Vec<u8>,
 ) -> Result<(), AllocError>
-    requires early { CanCommit state.old }
+    requires idle { IsIdle state.old }
     requires last { lines_of line.now ≡ line.now ∷ [] }
     ensures { OnOk result (out.new.items ≡ out.old.items ++ played whole state.old number line.now) }
 {

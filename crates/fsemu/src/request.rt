@@ -1,6 +1,8 @@
 //! What the lines of a script ask for.
+use fs_path::Text;
 use fs_rpc::SessionRequest;
 use fs_status::Reason;
+use fs_time::Micros;
 
 /// A line of a script, as it was read.
 #[derive(Drop, Debug)]
@@ -11,5 +13,12 @@ pub enum Line {
     NotBuilt,
     /// It is of no form, for this reason.
     Refused(Reason),
+    /// A request on a session.
     Asked(SessionRequest),
+    /// The clock goes on to this moment.
+    Clock(Micros),
+    /// Times before this one are given up.
+    Compact(Micros),
+    /// The session of this name ends.
+    Leave(Text),
 }

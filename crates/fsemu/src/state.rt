@@ -1,20 +1,19 @@
 //! What the lines of a script act on.
 ghost use Rattle.std.specs.Prelude.{◌≡◌, IfOk};
 
+use crate::directory::Directory;
+use fs_machine::{Config, Limits};
 use fs_path::{Root, Text};
+use fs_server::Server;
 use fs_time::Micros;
-use fs_value::DocumentMap;
 use std::alloc::{AllocError, Global};
 
-/// The documents under a root, and the greatest commit time that was issued: the start moment before any.
-///
-/// After a first commit of `c/a` and a second one of `c/b` there are two documents, the one created a microsecond after
-/// the start moment and the other two; `last` is the latter time, and the next commit is at three.
+/// The server, the names of its sessions, and the moment of the clock.
 #[derive(Drop)]
 pub struct State {
-    pub root: Root,
-    pub documents: DocumentMap,
-    pub last: Micros,
+    pub server: Server,
+    pub directory: Directory,
+    pub moment: Micros,
 }
 
 /// 2024-01-01T00:00:00Z, in microseconds.
@@ -27,13 +26,15 @@ impl State {
     pub fn new(alloc: Global) -> Result<State, AllocError>
         ensures { IfOk result (λ s. s ≡ start) }
     {
+        let root = Root {
+            project: Text::from_str(alloc, "demo")?,
+            database: Text::from_str(alloc, "(default)")?,
+        };
+        let moment = Micros::new(START).unwrap();
         Ok(State {
-            root: Root {
-                project: Text::from_str(alloc, "demo")?,
-                database: Text::from_str(alloc, "(default)")?,
-            },
-            documents: DocumentMap::new(alloc),
-            last: Micros::new(START).unwrap(),
+            server: Server::new(alloc, Config { root }, Limits::greatest(), moment),
+            directory: Directory::new(alloc),
+            moment,
         })
     }
 }

@@ -1,176 +1,98 @@
-//! What one line does: to the state, and to the output.
-ghost use Rattle.std.specs.Prelude.{◌≡◌, ◌++◌, pos, ◌+ℤ◌, IfOk, OnOk, false};
-ghost use Rattle.serde_json.specs.View.{view};
-ghost use Rattle.serde_json.specs.Written.{has_float};
-ghost use Rattle.fs_rpc.specs.MessageJson.{message_json_on};
-ghost use Rattle.fsemu.specs.Line.{reason_of};
-ghost use Rattle.fsemu.specs.Step.{CanCommit, next_time, committed, commit_answer, answer, after_writes, after_request, after_reading, refused_past, reply, after_read, output_of, after_line, line_output};
+//! What one line does: to the server and its sessions, and to the output.
+ghost use Rattle.std.specs.Prelude.{◌≡◌, ◌++◌, OnOk};
+ghost use Rattle.fs_machine.specs.Compact.{compacted};
+ghost use Rattle.fs_machine.specs.Tick.{later};
+ghost use Rattle.fsemu.specs.Directory.{number_of};
+ghost use Rattle.fsemu.specs.Step.{after_line, clocked, closed, leaves, line_output, line_played, IsIdle, Plays};
 
-use crate::commit::commit;
-use crate::limits::MOST_WRITES;
+use crate::ask::ask_in_session;
+use crate::close::close;
 use crate::line::read_line;
-use crate::read::{read_batch, read_document, read_query};
-use crate::reply::{line_error, push_line, refusal_json};
+use crate::reply::{say_error, say_refused};
 use crate::request::Line;
 use crate::state::State;
-use fs_json::Bad;
-use fs_path::Text;
-use fs_rpc::{Message, Request, SessionRequest, error_json, message_json_on};
-use fs_status::{Code, Reason, Refusal};
+use fs_rpc::{SessionRequest, error_json};
+use fs_status::{Code, LineFault, Reason};
 use fs_time::Micros;
-use fs_write::{WriteResults, Writes};
-use serde_json::Value;
 use std::alloc::{AllocError, Global};
 
-// The time of the next commit: one microsecond after the last.
-fn next_time(state: &State) -> Micros
-    requires { CanCommit state.now }
-    ensures { result ≡ next_time state.now }
+fn later(a: Micros, b: Micros) -> Micros
+    ensures { result ≡ later a b }
 {
-    Micros::new(state.last.get() + 1).unwrap()
+    if a < b { b } else { a }
 }
 
-fn carry_out_commit(
+// The clock goes on to a moment, and never back.
+fn clock(
     alloc: Global,
     state: &mut State,
-    id: Option<Text>,
-    writes: &Writes,
-) -> Result<Message, AllocError>
-    requires { CanCommit state.old }
-    ensures reply { IfOk result (λ m. m ≡ commit_answer state.old id writes.now) }
-    ensures state { OnOk result (state.new ≡ after_writes state.old writes.now) }
-{
-    if writes.len() > MOST_WRITES {
-        let refusal = Refusal::at_limit(alloc, "writes", MOST_WRITES as u64)?;
-        return Message::refused(alloc, id, &refusal);
-    }
-    let time = next_time(state);
-    let answer = commit(alloc, &mut state.documents, writes, time)?;
-    state.last = time;
-    committed(alloc, id, time, answer)
-}
-
-fn committed(
-    alloc: Global,
-    id: Option<Text>,
     time: Micros,
-    answer: Result<WriteResults, Refusal>,
-) -> Result<Message, AllocError>
-    ensures { IfOk result (λ m. m ≡ committed id time answer) }
+    out: &mut Vec<u8>,
+) -> Result<(), AllocError>
+    ensures plays { OnOk result (Plays (closed (clocked state.old time)) state.new out.old.items out.new.items) }
+    ensures idle { OnOk result (IsIdle state.new) }
 {
-    match answer {
-        Ok(results) => Ok(Message::Commit { id, time, results }),
-        Err(refusal) => Message::refused(alloc, id, &refusal),
-    }
+    let now = later(state.moment, time);
+    state.server.tick(alloc, now)?;
+    state.moment = now;
+    close(alloc, state, out)
 }
 
-// Carries out a request: what it is answered.
-fn carry_out_request(
+fn compact(
     alloc: Global,
     state: &mut State,
-    id: Option<Text>,
-    request: Request,
-) -> Result<Message, AllocError>
-    requires { CanCommit state.old }
-    ensures reply { IfOk result (λ m. m ≡ answer state.old id request) }
-    ensures state { OnOk result (state.new ≡ after_request state.old request) }
+    time: Micros,
+    out: &mut Vec<u8>,
+) -> Result<(), AllocError>
+    ensures plays { OnOk result (Plays (closed (record state.old { server = compacted state.old.server time }))
+        state.new out.old.items out.new.items) }
+    ensures idle { OnOk result (IsIdle state.new) }
 {
-    match request {
-        Request::Commit { writes, .. } => carry_out_commit(alloc, state, id, &writes),
-        Request::GetDocument {
-            name,
-            mask,
-            read_time: None,
-        } => read_document(alloc, state, id, &name, &mask),
-        Request::BatchGetDocuments {
-            documents,
-            mask,
-            read_time: None,
-            ..
-        } => {
-            let answers = read_batch(alloc, state, &documents, &mask)?;
-            Ok(Message::BatchGetDocuments { id, answers })
-        }
-        Request::RunQuery {
-            query,
-            read_time: None,
-            ..
-        } => {
-            let documents = read_query(alloc, state, &query)?;
-            let time = state.last;
-            Ok(Message::RunQuery {
-                id,
-                documents,
-                time,
-            })
-        }
-        Request::GetDocument {
-            read_time: Some(_),
-            ..
-        } => refused_past(alloc, id),
-        Request::BatchGetDocuments {
-            read_time: Some(_),
-            ..
-        } => refused_past(alloc, id),
-        Request::RunQuery {
-            read_time: Some(_),
-            ..
-        } => refused_past(alloc, id),
-    }
+    let _ = state.server.compact(time);
+    close(alloc, state, out)
 }
 
-// Reads as of a time aren't built.
-fn refused_past(alloc: Global, id: Option<Text>) -> Result<Message, AllocError>
-    ensures { IfOk result (λ m. m ≡ refused_past id) }
-{
-    let refusal = Refusal::of(Reason::Method(Text::from_str(alloc, "readTime")?));
-    Message::refused(alloc, id, &refusal)
-}
-
-// Why a request that isn't read is refused.
-fn reason_of(bad: Bad) -> Reason
-    ensures { result ≡ reason_of bad }
-{
-    match bad {
-        Bad::At(rule, place) => Reason::Rule(rule, place),
-        Bad::Method(name) => Reason::Method(name),
-        Bad::Memory(_) => Reason::Memory,
-    }
-}
-
-// What a request on a session is answered, one that isn't read too.
-fn answer_to(
+fn leave(
     alloc: Global,
     state: &mut State,
-    id: Option<Text>,
-    request: Result<Request, Bad>,
-) -> Result<Message, AllocError>
-    requires { CanCommit state.old }
-    ensures reply { IfOk result (λ m. m ≡ reply state.old id request) }
-    ensures state { OnOk result (state.new ≡ after_reading state.old request) }
+    number: u64,
+    name: &str,
+    out: &mut Vec<u8>,
+) -> Result<(), AllocError>
+    requires { IsIdle state.old }
+    ensures plays { OnOk result (Plays (leaves state.old number name.now (number_of name.now state.old.directory))
+        state.new out.old.items out.new.items) }
+    ensures idle { OnOk result (IsIdle state.new) }
 {
-    match request {
-        Ok(request) => carry_out_request(alloc, state, id, request),
-        Err(bad) => Message::refused(alloc, id, &Refusal::of(reason_of(bad))),
+    match state.directory.number_of(name) {
+        Some(session) => {
+            state.server.leave(session);
+            state.directory.remove(name);
+            close(alloc, state, out)
+        }
+        None => {
+            let reason = Reason::Line(LineFault::DoesNotApply);
+            say_refused(alloc, reason, number, out)
+        }
     }
 }
 
-fn reply_to(alloc: Global, state: &mut State, asked: SessionRequest) -> Result<Value, AllocError>
-    requires { CanCommit state.old }
-    ensures reply { IfOk result (λ v. view v ≡ message_json_on asked.session (reply state.old asked.id asked.request)) }
-    ensures no_float { IfOk result (λ v. has_float (view v) ≡ false) }
-    ensures state { OnOk result (state.new ≡ after_reading state.old asked.request) }
+fn request(
+    alloc: Global,
+    state: &mut State,
+    number: u64,
+    asked: SessionRequest,
+    out: &mut Vec<u8>,
+) -> Result<(), AllocError>
+    requires { IsIdle state.old }
+    ensures plays { OnOk result (Plays (line_played state.old number (Line.Asked asked)) state.new out.old.items out.new.items) }
+    ensures idle { OnOk result (IsIdle state.new) }
 {
-    let SessionRequest {
-        session,
-        id,
-        request,
-    } = asked;
-    let message = answer_to(alloc, state, id, request)?;
-    message_json_on(alloc, session.as_str(), &message)
+    ask_in_session(alloc, state, asked, out)?;
+    close(alloc, state, out)
 }
 
-// Carries out a line that was read, and adds what it writes to the output.
+// Carries out a line that was read.
 fn carry_out_read(
     alloc: Global,
     state: &mut State,
@@ -178,24 +100,21 @@ fn carry_out_read(
     line: Line,
     out: &mut Vec<u8>,
 ) -> Result<(), AllocError>
-    requires { CanCommit state.old }
-    ensures output { OnOk result (out.new.items ≡ out.old.items ++ output_of state.old number line) }
-    ensures state { OnOk result (state.new ≡ after_read state.old line) }
+    requires { IsIdle state.old }
+    ensures plays { OnOk result (Plays (line_played state.old number line) state.new out.old.items out.new.items) }
+    ensures idle { OnOk result (IsIdle state.new) }
 {
     match line {
         Line::Empty => Ok(()),
         Line::NotBuilt => {
             let error = error_json(alloc, Code::Unimplemented, "line not read yet")?;
-            push_line(alloc, out, &line_error(alloc, error, number)?)
+            say_error(alloc, error, number, out)
         }
-        Line::Refused(reason) => {
-            let error = refusal_json(alloc, &Refusal::of(reason))?;
-            push_line(alloc, out, &line_error(alloc, error, number)?)
-        }
-        Line::Asked(asked) => {
-            let reply = reply_to(alloc, state, asked)?;
-            push_line(alloc, out, &reply)
-        }
+        Line::Refused(reason) => say_refused(alloc, reason, number, out),
+        Line::Asked(asked) => request(alloc, state, number, asked, out),
+        Line::Clock(time) => clock(alloc, state, time, out),
+        Line::Compact(time) => compact(alloc, state, time, out),
+        Line::Leave(name) => leave(alloc, state, number, name.as_str(), out),
     }
 }
 
@@ -208,10 +127,11 @@ pub fn carry_out(
     line: &[u8],
     out: &mut Vec<u8>,
 ) -> Result<(), AllocError>
-    requires { CanCommit state.old }
+    requires { IsIdle state.old }
     ensures output { OnOk result (out.new.items ≡ out.old.items ++ line_output state.old number line.now) }
-    ensures state { OnOk result (state.new ≡ after_line state.old line.now) }
+    ensures state { OnOk result (state.new ≡ after_line state.old number line.now) }
+    ensures idle { OnOk result (IsIdle state.new) }
 {
-    let read = read_line(alloc, &state.root, line)?;
+    let read = read_line(alloc, state.server.root(), line)?;
     carry_out_read(alloc, state, number, read, out)
 }

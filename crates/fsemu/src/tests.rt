@@ -1,6 +1,7 @@
 mod queries;
 mod rows;
 mod tables;
+mod times;
 
 use crate::program::{exit_code, words_of};
 use crate::run::run;
@@ -13,6 +14,7 @@ use std::alloc::{AllocError, Global};
 use std::process::Abort;
 use std::test::Fail;
 use tables::{COMMITS, FIELDS, FORMS, LINES, READS, UNBUILT, VALUES};
+use times::{ONE_TOO_MANY, THEIR_ANSWERS, TIMES};
 
 /// `@` stands for the root's database, and `~` for its documents.
 fn full(alloc: Global, text: &str) -> Result<String, AllocError> {
@@ -223,6 +225,40 @@ fn writes_are_carried_out_and_answered(rt: HostRuntime) -> Result<(), Fail> {
 #[test]
 fn queries_and_batch_reads_are_answered(rt: HostRuntime) -> Result<(), Fail> {
     each_is_written(&rt, rt.alloc(), READS_OF_MANY)
+}
+
+#[test]
+fn times_and_sessions_come_and_go(rt: HostRuntime) -> Result<(), Fail> {
+    each_is_written(&rt, rt.alloc(), TIMES)
+}
+
+/// Lines, each with its number between the same words.
+fn numbered(alloc: Global, count: u32, front: &str, back: &str) -> Result<String, AllocError> {
+    let mut text = String::new(alloc);
+    for k in 0..count {
+        text.push_str(format!(in alloc; "{front}{k}{back}\n")?.as_str())?;
+    }
+    Ok(text)
+}
+
+#[test]
+fn sixty_four_sessions_are_open_at_a_time(rt: HostRuntime) -> Result<(), Fail> {
+    let alloc = rt.alloc();
+    let asked = numbered(
+        alloc,
+        64,
+        "{\"session\":\"",
+        "\",\"getDocument\":{\"name\":\"~/c/a\"}}",
+    )?;
+    let answers = numbered(
+        alloc,
+        64,
+        "{\"error\":{\"code\":404,\"message\":\"no document at 2024-01-01T00:00:00Z\",\"status\":\"NOT_FOUND\"},\"session\":\"",
+        "\"}",
+    )?;
+    let script = format!(in alloc; "{asked}{ONE_TOO_MANY}")?;
+    let want = format!(in alloc; "{answers}{THEIR_ANSWERS}")?;
+    expect(&rt, alloc, script.as_str(), want.as_str())
 }
 
 /// A commit of so many deletes.

@@ -111,8 +111,7 @@ null -> G at commit.writes[0].update.fields.n
 
 /// Requests that are well formed and not built, and their refusals.
 pub const UNBUILT: &str =
-    r#""runQuery":{"parent":"~","structuredQuery":{"from":[{"collectionId":"c"}]},"readTime":"2024-01-01T00:00:00Z"} -> method readTime
-"runQuery":{"parent":"~","structuredQuery":{},"transaction":1} -> method transaction
+    r#""runQuery":{"parent":"~","structuredQuery":{},"transaction":1} -> method transaction
 "batchGetDocuments":{"database":"@","documents":["~/c/a"],"transaction":"x"} -> method transaction
 "beginTransaction":{} -> method beginTransaction
 "rollback":{} -> method rollback
@@ -122,8 +121,6 @@ pub const UNBUILT: &str =
 "createDocument":{} -> method createDocument
 "batchWrite":{} -> method batchWrite
 "getDocument":{"name":"~/c/a","transaction":""} -> method transaction
-"getDocument":{"name":"~/c/a","read_time":"2024-01-01T00:00:00Z"} -> method readTime
-"batchGetDocuments":{"database":"@","documents":["~/c/a"],"readTime":"2024-01-01T00:00:00Z"} -> method readTime
 "commit":{"database":"@","transaction":1} -> method transaction
 "commit":{"database":"@","writes":[{"transform":{}}]} -> method transform
 "commit":{"database":"@","writes":[{"verify":"~/c/a"}]} -> method verify
@@ -146,19 +143,47 @@ null -> line is not a JSON object
 {"session":1,"getDocument":{}} -> G at session
 {"session":"s","id":1,"getDocument":{}} -> G at id
 {"session":"s","foo":{}} -> G at foo
-{"session":"s","getDocument":{},"get_document":{}} -> G at get_document"#;
+{"session":"s","getDocument":{},"get_document":{}} -> G at get_document
+{"clock":"2024-01-01T00:00:00Z","extra":1} -> G at extra
+{"clock":null,"x":1,"extra":null} -> G at extra
+{"clock":"2024-01-01T00:00:00Z","session":"s"} -> G at session
+{"clock":"2024-01-01T00:00:00Z","compact":"2024-01-01T00:00:00Z"} -> G at compact
+{"clock":null} -> G at clock
+{"clock":1704067200} -> G at clock
+{"clock":{}} -> G at clock
+{"clock":""} -> T1 at clock
+{"clock":"2024-01-01"} -> T1 at clock
+{"clock":"2024-01-01T00:00:60Z"} -> T1 at clock
+{"clock":"0000-12-31T23:59:59.999999Z"} -> T2 at clock
+{"compact":"2024-01-01T00:00:00Z","extra":1} -> G at extra
+{"compact":"2024-01-01T00:00:00Z","getDocument":{"name":"~/c/a"}} -> G at getDocument
+{"compact":"2024-01-01T00:00:00Z","session":"s","leave":true} -> G at leave
+{"compact":null} -> G at compact
+{"compact":true} -> G at compact
+{"compact":"now"} -> T1 at compact
+{"compact":"9999-12-31T23:59:59-00:01"} -> T2 at compact
+{"session":"s","leave":true,"extra":1} -> G at extra
+{"session":"s","leave":true,"id":"1"} -> G at id
+{"session":"s","leave":true,"getDocument":{"name":"~/c/a"}} -> G at getDocument
+{"leave":true} -> G at session
+{"session":null,"leave":1} -> G at session
+{"session":["s"],"leave":1} -> G at session
+{"session":"s","leave":null} -> G at leave
+{"session":"s","leave":false} -> G at leave
+{"session":"s","leave":"true"} -> G at leave
+{"session":"s","leave":true} -> line does not apply
+{"session":"","leave":true} -> line does not apply"#;
 
 /// Lines of forms that are not built.
-pub const FORMS: &str = r#"{"clock":"2024-01-01T00:00:00Z"}
-{"compact":"2024-01-01T00:00:00Z"}
-{"session":"s","leave":true}
-{"manual":true}
+pub const FORMS: &str = r#"{"manual":true}
 {"settle":"1"}
 {"retry":true}
 {"load":{}}
 {"match":0}
 {"raise":null}
-{"client":"u","connect":true}"#;
+{"client":"u","connect":true}
+{"clock":null,"compact":1,"leave":false,"raise":1}
+{"session":"s","leave":true,"manual":null}"#;
 
 /// Values as they are given and as they are printed.
 pub const VALUES: &str = r#"{"nullValue":null} -> {"nullValue":null}

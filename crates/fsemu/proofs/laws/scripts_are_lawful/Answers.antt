@@ -1,15 +1,20 @@
-use Rattle.std.proofs.Common.{◌+ℤ◌, pos}
-use Rattle.fsemu.proofs.Lawful.{changes_nothing, time_rises, lines_keep, one_line, nothing_written, shows_what_stands, last_newline}
+use Rattle.fsemu.proofs.Lawful.{last_newline, lines_keep, lines_stay, no_line, one_line, refused_changes_nothing, shows_what_stands, starts_between, stays_between, times_rise, unmoved}
 use Rattle.fsemu.proofs.laws.scripts_are_lawful.Goals as goal
 
 pub returns : goal.returns
-returns c = record {
-  refused = changes_nothing;
-  rise = time_rises;
-  kept = lines_keep c.batches_are_lawful.ensures.unwritten;
-  unmade = λ s writes refusal is. c.batches_are_lawful.ensures.refused_stays s.documents writes (s.last +ℤ pos 1) refusal is;
-  one_line = one_line;
-  no_line = nothing_written;
-  shown = shows_what_stands;
-  newline = last_newline;
-}
+returns c =
+    let unwritten = c.batches_are_lawful.ensures.unwritten in
+    let unchanged = c.machines_are_lawful.ensures.unchanged in
+    record {
+      starts = starts_between c.machines_are_lawful.ensures.kept;
+      between = stays_between unwritten unchanged;
+      stays = lines_stay unwritten unchanged;
+      unmoved = unmoved unwritten unchanged;
+      rise = times_rise unwritten unchanged;
+      kept = lines_keep unwritten unchanged;
+      unmade = refused_changes_nothing;
+      one_line = one_line unwritten unchanged;
+      no_line = no_line unwritten unchanged;
+      shown = shows_what_stands;
+      newline = last_newline;
+    }

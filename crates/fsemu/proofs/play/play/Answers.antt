@@ -1,18 +1,13 @@
 use Rattle.std.proofs.Common.{◌++◌, ap, ◌∙◌, arith}
-use Rattle.std.proofs.lemmas.Int.{ints}
 use Rattle.fsemu.proofs.Flow.{gained_as_front, gained_front_more, gained_more, gained_whole, gained_front_whole, on_err_anyhow, on_true, on_false}
-use Rattle.fsemu.proofs.Written.{told_line, told_given, line_rises, can_commit}
+use Rattle.fsemu.proofs.Written.{told_line, told_given}
 use Rattle.fsemu.proofs.play.play.Goals as goal
 
 pub carry_out-requires : goal.carry_out-requires
-carry_out-requires g c =
-    let inv = c.lines.invariant in
-    can_commit c.lines.state c.lines.number inv.1.late inv.1.early (omega (arith, inv.1.count, c.requires))
+carry_out-requires g c = c.lines.invariant.1.idle
 
-pub carry_last-requires-clause-early : goal.carry_last-requires-clause-early
-carry_last-requires-clause-early g c =
-    let inv = c.lines.invariant in
-    can_commit c.lines.state c.lines.number inv.1.late inv.1.early (omega (arith, inv.1.count, c.requires))
+pub carry_last-requires-clause-idle : goal.carry_last-requires-clause-idle
+carry_last-requires-clause-idle g c = c.lines.invariant.1.idle
 
 pub returns-in_err-carry_out-clause-err : goal.returns-in_err-carry_out-clause-err
 returns-in_err-carry_out-clause-err g c =
@@ -42,8 +37,7 @@ lines-preserved g c =
         gained = gained_more _ _ _ inv.0 passed.0 inv.1.gained passed.1;
         told = told_given inv.0 passed.0 c.carry_out.new.out.items c.pass_on.new.out.items _ _ told passed.2;
         count = omega (arith, inv.1.count, c.in-Some.ensures.shorter);
-        late = omega (arith, ints, inv.1.late, line_rises c.lines.state c.carry_out.new.state c.in-Some.line.now made.state);
-        early = omega (arith, ints, inv.1.early, line_rises c.lines.state c.carry_out.new.state c.in-Some.line.now made.state);
+        idle = made.idle;
         faults = omega (arith, inv.1.faults, c.pass_on.ensures.faults);
       },
     )

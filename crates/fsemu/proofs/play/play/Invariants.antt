@@ -1,5 +1,5 @@
-use Rattle.std.proofs.Common.{◌≡◌, ℕ, ◌+◌, ◌≤◌, List, ◌++◌, length, pos, ◌+ℤ◌, ◌≤ℤ◌}
-use Rattle.fsemu.specs.Step.{start}
+use Rattle.std.proofs.Common.{◌≡◌, ℕ, ◌+◌, ◌≤◌, List, ◌++◌, length}
+use Rattle.fsemu.specs.Step.{start, IsIdle}
 use Rattle.fsemu.specs.Moved.{Gained}
 use Rattle.fsemu.specs.Transcript.{played}
 use Rattle.fsemu.proofs.play.play.Given as goal
@@ -11,8 +11,7 @@ invariant-lines g l =
       gained : Gained (g.K.Sink.given l.fn.sink) (g.K.Sink.given l.sink) given;
       told : given ++ (l.out.items ++ played l.whole l.state l.number l.rest) ≡ played l.whole start 1 l.script;
       count : l.number + length l.rest ≤ length l.script + 1;
-      late : start.last ≤ℤ l.state.last;
-      early : l.state.last ≤ℤ (start.last +ℤ pos l.number);
+      idle : IsIdle l.state;
       faults : g.K.Sink.faults l.fn.sink ≤ g.K.Sink.faults l.sink;
     }
 

@@ -1,7 +1,0 @@
-use Rattle.std.proofs.Common.{◌≡◌, Some, map, take}
-use Rattle.fsemu.specs.Read.{shown}
-use Rattle.fsemu.proofs.read.projected.Given as goal
-
--- the documents so far
-abbrev pub invariant-loop-document : goal.invariant-loop-document
-invariant-loop-document l = l.documents ≡ map (shown (Some l.paths)) (take l.document-index l.found)
