@@ -8,14 +8,16 @@ The scripts are made from the seed, so that two runs with the same words time th
 mixed    each second line commits a document of ten fields of mixed kinds, each other reads one that was committed
 commits  each line commits a document of one integer
 reads    a thousand documents of one integer are committed, and then each line reads one of them
+old      a thousand documents are committed twenty times each, and then each line reads one as of an earlier time
 
 Then requests over a collection of 10,000 documents of ten fields: a filter that 10 of them meet, an order by one field with
 limit 50, and a read of 100 names. Each is timed as what 20 of them add to a run that makes the documents, beside a plain
 Python loop over as many dicts, with the requests parsed and the replies printed by `json`.
 
-Then the memory of a document is measured: what a run that commits to so many names takes more at its peak than one that
-commits as many documents to one name. At last lines of 10 MB are carried out: how long each takes, and what the run takes
-more at its peak than one without lines, by the line's bytes.
+Then the memory of a document is measured: what a run that commits five times so many documents takes at its peak, the bytes
+of the script and those of a run without lines apart, for each; and what fifty times so many commits to 1,000 names take,
+without compactions and with one at every 10,000. At last lines of 10 MB are carried out: how long each takes, and what the
+run takes more at its peak than one without lines, by the line's bytes.
 """
 import json
 import os
@@ -92,6 +94,20 @@ def reads(lines, rand):
         yield commit(name, one_field(rand))
     for _ in range(lines):
         yield read(rand.choice(names))
+
+
+def moment(micros):
+    """The text of a time so many microseconds after the start, less than a minute."""
+    return "2024-01-01T00:00:%02d.%06dZ" % divmod(micros, 1000000)
+
+
+def old_reads(lines, rand):
+    names = ["%s/c/d%03d" % (DOCUMENTS, i) for i in range(1000)]
+    for _ in range(20):
+        for name in names:
+            yield commit(name, one_field(rand))
+    for _ in range(lines):
+        yield {"getDocument": {"name": rand.choice(names), "readTime": moment(rand.randrange(1000, 20000))}}
 
 
 def documents(lines, rand, fields, names):
@@ -238,13 +254,29 @@ def measure_requests(seed):
             name, taken * 1e3, taken * 1e9 / looked_at, plain * 1e3, plain * 1e9 / looked_at))
 
 
-def peak_of(lines, seed, fields, names):
-    return best_of(script_of(documents(lines, random.Random(seed), fields, names)), 1)[1] * 1024
+def held(script):
+    """The seconds of a run, and the bytes that it takes at its peak, its script and those of a run without lines apart."""
+    seconds, peak, _ = best_of(script, 1)
+    return seconds, (peak - best_of(b"", 3)[1]) * 1024 - len(script)
 
 
 def measure_memory(name, lines, seed, fields):
-    more = peak_of(lines, seed, fields, lines) - peak_of(lines, seed, fields, 1)
+    _, more = held(script_of(documents(lines, random.Random(seed), fields, lines)))
     print("%s: %d documents, %.0f bytes each" % (name, lines, more / lines))
+
+
+def measure_history(commits, seed):
+    """What many commits to few names hold, with compactions and without."""
+    made = script_of(documents(commits, random.Random(seed), one_field, 1000)).splitlines(keepends=True)
+    for name, every in (("without a compaction", None), ("with a compaction at every 10,000", 10000)):
+        lines = []
+        for i, line in enumerate(made):
+            lines.append(line)
+            if every and (i + 1) % every == 0:
+                lines.append(b'{"compact":"%s"}\n' % moment(i + 1).encode())
+        seconds, more = held(b"".join(lines))
+        print("%d commits to 1,000 names %s: %.1f s, %.0f MB beside the script, %.0f bytes a commit" % (
+            commits, name, seconds, more / 1e6, more / commits))
 
 
 def large_documents(rand):
@@ -293,11 +325,12 @@ def main():
     seed = int(sys.argv[2]) if len(sys.argv) > 2 else 1
     # Builds it first, where it isn't built.
     subprocess.run([FSEMU, "replay"], stdin=subprocess.DEVNULL, check=True)
-    for name, requests in (("mixed", mixed), ("commits", commits), ("reads", reads)):
+    for name, requests in (("mixed", mixed), ("commits", commits), ("reads", reads), ("old", old_reads)):
         measure(name, requests(lines, random.Random(seed)))
     measure_requests(seed)
     measure_memory("one integer", 5 * lines, seed, one_field)
     measure_memory("ten fields", 5 * lines, seed, ten_fields)
+    measure_history(50 * lines, seed)
     for name, request in (("documents", large_documents), ("small values", small_values), ("mask", long_mask), ("appends", many_appends)):
         measure_line(name, request(random.Random(seed)))
 
