@@ -1,9 +1,4 @@
 //! Steps on a server, each a call of it, and what they answer.
-ghost use Rattle.std.specs.Prelude.{◌≡◌, ◌≢◌, IfOk, IsSome, OnOk};
-ghost use Rattle.fs_machine.specs.Settle.{ComesTo, pending_of};
-ghost use Rattle.fs_status.specs.Refusal.{refusal_of};
-ghost use Rattle.fs_status.specs.declared.reason.Reason.TheVariants.{Memory};
-
 use crate::asked::{moment, name_of, request, root};
 use crate::limits::limits_of;
 use crate::told::{
@@ -12,7 +7,7 @@ use crate::told::{
 use fs_machine::{Config, Outcome};
 use fs_rpc::Envelope;
 use fs_server::Server;
-use fs_status::{Id, Reason, Refusal};
+use fs_status::Reason;
 use std::alloc::{AllocError, Global};
 
 /// A server with these limits, at moment 0.
@@ -47,45 +42,23 @@ fn ask(alloc: Global, server: &mut Server, method: &str, text: &str) -> Result<S
 
 // ---- commits that are pending
 
-// A refusal for another reason than want of memory.
-fn unless_memory(refusal: Refusal) -> Result<Refusal, AllocError>
-    ensures same { IfOk result (λ r. r ≡ refusal) }
-    ensures other { OnOk result (refusal ≢ refusal_of Memory) }
-{
-    match &refusal.reason {
-        Reason::Memory => Err(AllocError),
-        _ => Ok(refusal),
-    }
-}
-
-// What the writes of a pending commit come to.
-fn outcome_of(alloc: Global, server: &Server, commit: Id) -> Result<Outcome, AllocError>
-    requires { IsSome (pending_of server.now.past commit) }
-    ensures { IfOk result (λ o. ComesTo server.now.past commit o) }
-{
-    match server.outcome(alloc, commit) {
-        Outcome::Effects(changes, results) => Ok(Outcome::Effects(changes, results)),
-        Outcome::Refused(refusal) => Ok(Outcome::Refused(unless_memory(refusal)?)),
-    }
-}
-
-fn settle_pending(alloc: Global, server: &mut Server, commit: Id) -> Result<String, AllocError>
-    requires { IsSome (pending_of server.old.past commit) }
-{
-    let outcome = outcome_of(alloc, server, commit)?;
-    settled_text(alloc, server.settle(alloc, commit, outcome))
-}
-
 fn settle(alloc: Global, server: &mut Server) -> Result<String, AllocError> {
-    match server.next_pending() {
-        Some(commit) => settle_pending(alloc, server, commit),
-        None => Err(AllocError),
+    let Some(commit) = server.next_pending() else {
+        return Err(AllocError);
+    };
+    let outcome = server.outcome(alloc, commit);
+    // the server tells want of memory as a refusal, which is no outcome
+    if let Outcome::Refused(refusal) = &outcome
+        && let Reason::Memory = &refusal.reason
+    {
+        return Err(AllocError);
     }
+    settled_text(alloc, server.settle(alloc, commit, outcome))
 }
 
 fn outcome(alloc: Global, server: &Server) -> Result<String, AllocError> {
     match server.next_pending() {
-        Some(commit) => outcome_text(alloc, &outcome_of(alloc, server, commit)?),
+        Some(commit) => outcome_text(alloc, &server.outcome(alloc, commit)),
         None => Err(AllocError),
     }
 }
