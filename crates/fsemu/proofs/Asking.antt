@@ -24,7 +24,7 @@ use Rattle.fs_machine.specs.declared.answer.Answer.TheVariants.{Reply, Prepared,
 use Rattle.fsemu.specs.Directory.{number_of}
 use Rattle.fsemu.specs.Laws.{IsBetweenLines, IsOneLine, commits_in, commits_on, commits_opened, is_open, writes_of}
 use Rattle.fsemu.specs.Line.{reason_of}
-use Rattle.fsemu.specs.Step.{Played, asks, in_session, named, opens, reply_output}
+use Rattle.fsemu.specs.Step.{Played, asks, asks_if, in_session, named, named_if, reply_output}
 use Rattle.fsemu.specs.declared.state.State.{State}
 use Rattle.fsemu.proofs.Closing.{IsOwn, json_one_line, preparing}
 use Rattle.fsemu.proofs.Drained.{has_number}
@@ -152,7 +152,7 @@ number_unless full refusal m = cond full (Err refusal) (Ok m.sessions.given)
 
 -- its first request
 abbrev opens_unless : Bool → Refusal → State → SessionRequest → Played
-opens_unless full refusal s a = opens (record s { server = with_one_unless full s.server }) a (number_unless full refusal s.server)
+opens_unless full refusal s a = asks_if (named_if (record s { server = with_one_unless full s.server }) a.session (number_unless full refusal s.server)) a (number_unless full refusal s.server)
 
 -- whether that is a commit
 abbrev commits_unless : Bool → Refusal → Machine → SessionRequest → Bool

@@ -104,14 +104,28 @@ asks s name number id (Err bad) = prints s (message_line name (refused id (refus
 abbrev pub named : State → List ℕ → ℕ → State
 named s name number = record s { directory = s.directory ++ record { name = name; number = number } ∷ [] }
 
--- A session opens with its first request. Where it may not, the request isn't carried out.
-abbrev pub opens : State → SessionRequest → Result ℕ Refusal → Played
-opens s a (Ok number) = asks (named s a.session number) a.session number a.id a.request
-opens s a (Err refusal) = prints s (message_line a.session (refused a.id refusal))
+-- if it opens
+abbrev pub named_if : State → List ℕ → Result ℕ Refusal → State
+named_if s name (Ok number) = named s name number
+named_if s name (Err refusal) = s
+
+-- A session opens with its first request: the state then,
+abbrev pub entered : State → List ℕ → Option ℕ → State
+entered s name (Some number) = s
+entered s name None = named_if (record s { server = opened s.server }) name (open_answer s.server)
+
+-- and its number, or why it may not open.
+abbrev pub entry : State → Option ℕ → Result ℕ Refusal
+entry s (Some number) = Ok number
+entry s None = open_answer s.server
+
+-- Where it may not, the request isn't carried out.
+abbrev pub asks_if : State → SessionRequest → Result ℕ Refusal → Played
+asks_if s a (Ok number) = asks s a.session number a.id a.request
+asks_if s a (Err refusal) = prints s (message_line a.session (refused a.id refusal))
 
 abbrev pub in_session : State → SessionRequest → Option ℕ → Played
-in_session s a (Some number) = asks s a.session number a.id a.request
-in_session s a None = opens (record s { server = opened s.server }) a (open_answer s.server)
+in_session s a number = asks_if (entered s a.session number) a (entry s number)
 
 -- ---- other lines
 

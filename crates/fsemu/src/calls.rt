@@ -1,10 +1,8 @@
 //! Calls of the server that may want memory, which ends a run.
-ghost use Rattle.std.specs.Prelude.{◌≡◌, ◌≢◌, [], IfOk, IsSome, OnOk};
+ghost use Rattle.std.specs.Prelude.{◌≡◌, [], IfOk, IsSome, OnOk};
 ghost use Rattle.fs_machine.specs.Open.{open_answer, opened};
 ghost use Rattle.fs_machine.specs.Request.{answered, asked};
 ghost use Rattle.fs_machine.specs.Settle.{ComesTo, pending_of, settled};
-ghost use Rattle.fs_status.specs.Refusal.{refusal_of};
-ghost use Rattle.fs_status.specs.declared.reason.Reason.TheVariants.{Memory};
 
 use fs_machine::{Answer, Outcome, Settled};
 use fs_rpc::Envelope;
@@ -12,26 +10,18 @@ use fs_server::Server;
 use fs_status::{Id, Reason, Refusal};
 use std::alloc::{AllocError, Global};
 
-// A refusal for another reason than want of memory.
-fn unless_memory(refusal: Refusal) -> Result<Refusal, AllocError>
-    ensures same { IfOk result (λ r. r ≡ refusal) }
-    ensures other { OnOk result (refusal ≢ refusal_of Memory) }
-{
-    match &refusal.reason {
-        Reason::Memory => Err(AllocError),
-        _ => Ok(refusal),
-    }
-}
-
 /// Opens a session.
 pub fn open(alloc: Global, server: &mut Server) -> Result<Result<u32, Refusal>, AllocError>
     ensures told { IfOk result (λ answer. answer ≡ open_answer server.old) }
     ensures state { OnOk result (server.new ≡ opened server.old) }
 {
-    match server.open(alloc) {
-        Ok(number) => Ok(Ok(number)),
-        Err(refusal) => Ok(Err(unless_memory(refusal)?)),
+    let answer = server.open(alloc);
+    if let Err(refusal) = &answer
+        && let Reason::Memory = &refusal.reason
+    {
+        return Err(AllocError);
     }
+    Ok(answer)
 }
 
 /// Asks the server on a session.
@@ -45,11 +35,13 @@ pub fn ask(
     ensures told { IfOk result (λ a. a ≡ answered server.old session envelope.now) }
     ensures state { OnOk result (server.new ≡ asked server.old session envelope.now) }
 {
-    match server.request(alloc, session, envelope) {
-        Answer::Reply(message) => Ok(Answer::Reply(message)),
-        Answer::Prepared(commit, time) => Ok(Answer::Prepared(commit, time)),
-        Answer::Refused(refusal) => Ok(Answer::Refused(unless_memory(refusal)?)),
+    let answer = server.request(alloc, session, envelope);
+    if let Answer::Refused(refusal) = &answer
+        && let Reason::Memory = &refusal.reason
+    {
+        return Err(AllocError);
     }
+    Ok(answer)
 }
 
 // What the writes of a pending commit come to.
@@ -57,10 +49,13 @@ fn outcome_of(alloc: Global, server: &Server, commit: Id) -> Result<Outcome, All
     requires { IsSome (pending_of server.now.past commit) }
     ensures { IfOk result (λ o. ComesTo server.now.past commit o) }
 {
-    match server.outcome(alloc, commit) {
-        Outcome::Effects(changes, results) => Ok(Outcome::Effects(changes, results)),
-        Outcome::Refused(refusal) => Ok(Outcome::Refused(unless_memory(refusal)?)),
+    let outcome = server.outcome(alloc, commit);
+    if let Outcome::Refused(refusal) = &outcome
+        && let Reason::Memory = &refusal.reason
+    {
+        return Err(AllocError);
     }
+    Ok(outcome)
 }
 
 /// Settles a pending commit.

@@ -100,12 +100,16 @@ pub fn say_all(
 pub fn refuse(
     alloc: Global,
     session: &str,
-    id: Option<Text>,
+    id: &Option<Text>,
     refusal: &Refusal,
     out: &mut Vec<u8>,
 ) -> Result<(), AllocError>
-    ensures { OnOk result (out.new.items ≡ out.old.items ++ message_line session.now (refused id refusal.now)) }
+    ensures { OnOk result (out.new.items ≡ out.old.items ++ message_line session.now (refused id.now refusal.now)) }
 {
+    let id = match id {
+        Some(id) => Some(id.copy(alloc)?),
+        None => None,
+    };
     let message = Message::refused(alloc, id, refusal)?;
     say(alloc, session, &message, out)
 }
