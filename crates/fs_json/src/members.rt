@@ -1,9 +1,10 @@
 //! The members of an object: which may be there, which have to be, and in which spelling.
-ghost use Rattle.std.specs.Prelude.{◌≡◌, ◌++◌, ℕ, List, Option, map, None, option_map, IfSome, if◌then◌else◌};
+ghost use Rattle.std.specs.Prelude.{◌≡◌, ◌++◌, ℕ, List, Option, map, None, option_map, IfSome, false, if◌then◌else◌};
+ghost use Rattle.std.specs.Bool.{OnFalse};
 ghost use Rattle.std.specs.List.{list_any};
 ghost use Rattle.fs_path.specs.Way.{place_of};
 ghost use Rattle.fs_json.specs.Names.{snake_of, spells};
-ghost use Rattle.serde_json.specs.Data.{Data};
+ghost use Rattle.serde_json.specs.Data.{Data, Members};
 ghost use Rattle.serde_json.specs.View.{view, members_view};
 ghost use Rattle.serde_json.specs.Find.{get_member};
 ghost use Rattle.fs_json.specs.Answer.{Gives};
@@ -257,7 +258,14 @@ fn first_twice<'a>(
 fn is_second_of_two(members: &Map<String, Value>, these: &[&str], those: &[&str], key: &str) -> bool
     ensures { result ≡ is_second (map (λ n. n.now) these.now ++ map (λ n. n.now) those.now) (members_view members.now.entries) key.now }
 {
-    is_second(members, these, key) || is_second(members, those, key)
+    may_be_second(key) && (is_second(members, these, key) || is_second(members, those, key))
+}
+
+// Whether a key can be a name's second spelling: one without a `_`, as most are, is spelled as the name itself.
+fn may_be_second(key: &str) -> bool
+    ensures { OnFalse result ((names : List (List ℕ)) (all : Members) → is_second names all key.now ≡ false) }
+{
+    key.as_bytes().contains(&b'_')
 }
 
 fn is_second(members: &Map<String, Value>, names: &[&str], key: &str) -> bool

@@ -22,12 +22,49 @@ use fs_time::Micros;
 use fs_value::{Document, Documents};
 use std::alloc::{AllocError, Global};
 use std::collections::BTreeMap;
+use std::marker::Model;
 
 // A document that is written: as it was before the commit, and as the writes so far leave it.
 #[derive(Drop, Debug)]
 struct Staged {
     before: Option<Document>,
     now: Option<Document>,
+}
+
+// The same, in a block of its own: in the map itself, whose nodes have room for fifteen, it would make each node so large
+// that the allocator tidies its free blocks up whenever one is made.
+#[derive(Drop, Debug)]
+struct Boxed {
+    staged: Box<Staged>,
+}
+
+impl Model for Boxed {
+    ghost use Rattle.fs_write.specs.contracts.batch.Staged as plain;
+    ghost use Rattle.fs_write.specs.declared.batch.Staged.{Staged};
+
+    ghost Value = { Staged };
+
+    ghost coded = { plain.the_row.coded };
+
+    ghost view = { λ b. b.staged.value };
+}
+
+impl Boxed {
+    ghost use Rattle.std.specs.Prelude.{◌≡◌, IfOk};
+
+    fn new(alloc: Global, staged: Staged) -> Result<Boxed, AllocError>
+        ensures { IfOk result (λ b. b ≡ staged) }
+    {
+        Ok(Boxed {
+            staged: Box::new(alloc, staged)?,
+        })
+    }
+
+    fn into_staged(self) -> Staged
+        ensures { result ≡ self }
+    {
+        Box::into_inner(self.staged)
+    }
 }
 
 // A name's document before it is written. Both copies share its fields.
@@ -52,7 +89,7 @@ fn stage_first(alloc: Global, docs: &Documents, name: &DocName) -> Result<Staged
 fn take(
     alloc: Global,
     docs: &Documents,
-    stage: &mut BTreeMap<DocName, Staged>,
+    stage: &mut BTreeMap<DocName, Boxed>,
     name: &DocName,
 ) -> Result<Staged, AllocError>
     requires { IsTrue (is_sorted name_cmp (by_name docs.now)) }
@@ -61,7 +98,7 @@ fn take(
     ensures taken { IfOk result (λ s. IsTaken stage.old.entries stage.new.entries name.now) }
 {
     match stage.remove(name) {
-        Some(staged) => Ok(staged),
+        Some(staged) => Ok(staged.into_staged()),
         None => stage_first(alloc, docs, name),
     }
 }
@@ -70,7 +107,7 @@ fn take(
 fn write_next(
     alloc: Global,
     docs: &Documents,
-    stage: &mut BTreeMap<DocName, Staged>,
+    stage: &mut BTreeMap<DocName, Boxed>,
     write: &Write,
     number: u32,
     time: Micros,
@@ -89,7 +126,7 @@ fn write_next(
         before: staged.before,
         now,
     };
-    stage.insert(name.copy(alloc)?, written)?;
+    stage.insert(name.copy(alloc)?, Boxed::new(alloc, written)?)?;
     Ok(answer)
 }
 
@@ -104,11 +141,12 @@ fn is_unchanged(before: &Option<Document>, after: &Option<Document>) -> bool
 }
 
 // The changes of the documents that were written.
-fn changes_of(alloc: Global, stage: BTreeMap<DocName, Staged>) -> Result<Changes, AllocError>
+fn changes_of(alloc: Global, stage: BTreeMap<DocName, Boxed>) -> Result<Changes, AllocError>
     ensures { IfOk result (λ changes. TellsStage stage.entries changes) }
 {
     let mut changes = Changes::new(alloc);
     for (name, staged) in stage {
+        let staged = staged.into_staged();
         if !is_unchanged(&staged.before, &staged.now) {
             changes.push(Change {
                 name,

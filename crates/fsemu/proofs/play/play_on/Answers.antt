@@ -1,7 +1,7 @@
 use Rattle.std.proofs.Common.{◌++◌, ap, ◌∙◌, arith}
 use Rattle.fsemu.proofs.Flow.{gained_as_front, gained_front_more, gained_more, gained_whole, gained_front_whole, on_err_anyhow, on_true, on_false}
 use Rattle.fsemu.proofs.Written.{told_line, told_given}
-use Rattle.fsemu.proofs.play.play.Goals as goal
+use Rattle.fsemu.proofs.play.play_on.Goals as goal
 
 pub carry_out-requires : goal.carry_out-requires
 carry_out-requires g c = c.lines.invariant.1.idle

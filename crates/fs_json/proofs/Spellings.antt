@@ -1,0 +1,53 @@
+-- A key without a `_` is no name's second spelling.
+use Rattle.std.proofs.Common.{◌≡◌, ◌||◌, ◌&&◌, ℕ, List, [], ◌∷◌, Bool, true, false, cond, refl, sym, ◌∙◌, ap, subst, true≢false}
+use Rattle.std.specs.Prelude.{◌==◌, not, is_some}
+use Rattle.std.specs.Char.{is_ascii_uppercase, to_ascii_lowercase}
+use Rattle.std.specs.List.{list_any}
+use Rattle.std.specs.Str.{bytes_eq}
+use Rattle.std.proofs.lemmas.Slice.Eq.{bytes_eq-Decides}
+use Rattle.serde_json.specs.Data.{Members}
+use Rattle.fs_json.specs.Names.{snake_of}
+use Rattle.fs_json.specs.Members.{given_at, is_second}
+
+-- whether a text has a `_`
+abbrev pub has_low_line : List ℕ → Bool
+has_low_line = list_any (λ c. c == 95)
+
+neither : (a b : Bool) → (a || b) ≡ false → (a ≡ false) × (b ≡ false)
+neither true b h = absurd (true≢false h)
+neither false b h = (refl, h)
+
+-- the snake_case spelling of a name, by its first letter
+spelled : Bool → ℕ → List ℕ → List ℕ
+spelled upper c cs = cond upper (95 ∷ to_ascii_lowercase c ∷ cs) (c ∷ cs)
+
+-- of a name whose second spelling has no `_`, that is the name
+plain : (name : List ℕ) → has_low_line (snake_of name) ≡ false → snake_of name ≡ name
+plain [] h = refl
+plain (c ∷ cs) h =
+    let P : Bool → Type 0 = λ upper. has_low_line (cond upper (95 ∷ to_ascii_lowercase c ∷ snake_of cs) (c ∷ snake_of cs)) ≡ false
+    → cond upper (95 ∷ to_ascii_lowercase c ∷ snake_of cs) (c ∷ snake_of cs) ≡ c ∷ cs in
+    let cases : (upper : Bool) → P upper = λ upper. elim upper as P [
+      | true ↦ λ lower. absurd (true≢false lower)
+      | false ↦ λ lower. ap (λ rest. c ∷ rest) (plain cs (neither (c == 95) _ lower).1)
+    ] in cases (is_ascii_uppercase c) h
+
+-- no name has it as its second spelling
+not_second : (name key : List ℕ) (given : Bool) → has_low_line key ≡ false
+    → (bytes_eq (snake_of name) key && (not (bytes_eq name key) && given)) ≡ false
+not_second name key given none =
+    let P : Bool → Type 0 = λ snake. bytes_eq (snake_of name) key ≡ snake → (snake && (not (bytes_eq name key) && given)) ≡ false in
+    let cases : (snake : Bool) → P snake = λ snake. elim snake as P [
+      | true ↦ λ is.
+          let same : snake_of name ≡ key = (bytes_eq-Decides _ _).0 is in
+          let low : has_low_line (snake_of name) ≡ false = ap has_low_line same ∙ none in
+          let named : bytes_eq name key ≡ true = (bytes_eq-Decides _ _).1 (sym (plain name low) ∙ same) in
+          ap (λ b. not b && given) named
+      | false ↦ λ is. refl
+    ] in cases (bytes_eq (snake_of name) key) refl
+
+pub none_second : (names : List (List ℕ)) (all : Members) (key : List ℕ) → has_low_line key ≡ false
+    → is_second names all key ≡ false
+none_second [] all key none = refl
+none_second (name ∷ names) all key none =
+    ap (λ b. b || is_second names all key) (not_second name key (is_some (given_at name all)) none) ∙ none_second names all key none
