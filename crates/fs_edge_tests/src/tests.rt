@@ -6,6 +6,7 @@ use fs_edge::{
 };
 use fs_path::{Bytes, Text};
 use fs_time::Micros;
+use std::alloc::{AllocError, Global};
 use std::io;
 use std::io::{ErrorKind, Read, Write};
 use std::process::Abort;
@@ -49,9 +50,9 @@ fn check_reads<S: Source>(rt: &impl Abort, source: &mut S, wants: &[(Took, &str)
     for (want, text) in wants {
         let mut buffer = [0u8; 4];
         let took = source.read(&mut buffer);
-        assert_eq!(rt; took, *want);
+        assert!(rt; took == *want, "{took:?}");
         if let Took::Bytes(count) = took {
-            assert_eq!(rt; &buffer[..count], text.as_bytes());
+            assert!(rt; &buffer[..count] == text.as_bytes());
         }
     }
 }
@@ -59,7 +60,7 @@ fn check_reads<S: Source>(rt: &impl Abort, source: &mut S, wants: &[(Took, &str)
 /// Writes pieces: what each write gives.
 fn check_writes<K: Sink>(rt: &impl Abort, sink: &mut K, wants: &[(&str, Gave)]) {
     for (piece, want) in wants {
-        assert_eq!(rt; sink.write(piece.as_bytes()), *want);
+        assert!(rt; sink.write(piece.as_bytes()) == *want, "{piece}");
     }
 }
 
@@ -139,7 +140,7 @@ fn a_sink_in_memory_goes_by_its_paces(rt: HostRuntime) -> Result<(), Fail> {
     let paces = vec![in alloc; Pace::AtMost(2), Pace::Fail, Pace::AtMost(0), Pace::Fail]?;
     let mut sink = MemorySink::new(alloc, Paces::of(paces));
     check_writes(&rt, &mut sink, &GIVEN_BY_PACES);
-    assert_eq!(rt; sink.given().as_slice(), b"abc".as_slice());
+    assert!(rt; sink.given().as_slice() == b"abc".as_slice());
     Ok(())
 }
 
@@ -147,7 +148,7 @@ fn a_sink_in_memory_goes_by_its_paces(rt: HostRuntime) -> Result<(), Fail> {
 fn a_sink_takes_what_it_has_room_for(rt: HostRuntime) {
     let mut room = [0u8; 2];
     check_writes(&rt, &mut RealSink::new(room.as_mut_slice()), &UNTIL_FULL);
-    assert_eq!(rt; room.as_slice(), b"ab".as_slice());
+    assert!(rt; room.as_slice() == b"ab".as_slice());
 }
 
 #[test]
@@ -158,32 +159,64 @@ fn a_sink_goes_on_after_a_failure(rt: HostRuntime) {
         has_failed: false,
     };
     check_writes(&rt, &mut RealSink::new(writer), &GIVEN_AFTER_A_FAILURE);
-    assert_eq!(rt; written.as_slice(), b"abc".as_slice());
+    assert!(rt; written.as_slice() == b"abc".as_slice());
+}
+
+/// A link that hears a message and then nothing, and whose second call of `send` fails.
+fn link_of(alloc: Global, message: &str) -> Result<MemoryLink, AllocError> {
+    let paces = vec![in alloc; Pace::Free, Pace::Fail]?;
+    let first = Text::from_str(alloc, message)?;
+    let mut heard = Vec::new(alloc);
+    heard.push(Heard::Message(first))?;
+    heard.push(Heard::Quiet)?;
+    Ok(MemoryLink::new(alloc, Hearings::of(heard), Paces::of(paces)))
+}
+
+/// What a link hears next, in a word where it is no message.
+fn heard(alloc: Global, link: &mut MemoryLink) -> Result<Text, AllocError> {
+    match link.receive()? {
+        Heard::Message(text) => Ok(text),
+        Heard::Quiet => Text::from_str(alloc, "quiet"),
+        Heard::Closed => Text::from_str(alloc, "closed"),
+        Heard::Failed => Text::from_str(alloc, "failed"),
+    }
+}
+
+/// What a link hears and sends, in their order, and then all that it has sent.
+fn heard_and_sent(alloc: Global, link: &mut MemoryLink) -> Result<String, AllocError> {
+    let first = heard(alloc, link)?;
+    let lost = link.send("lost")?;
+    let sent = link.send("two")?;
+    let second = heard(alloc, link)?;
+    let third = heard(alloc, link)?;
+    let (first, second, third) = (first.as_str(), second.as_str(), third.as_str());
+    let mut text = format!(in alloc; "{first} {lost:?} {sent:?} {second} {third}")?;
+    for i in 0..link.sent().len() {
+        text.push_str(" ")?;
+        text.push_str(link.sent().at(i).as_str())?;
+    }
+    Ok(text)
+}
+
+fn link_told(alloc: Global) -> Result<String, AllocError> {
+    let mut link = link_of(alloc, "one")?;
+    heard_and_sent(alloc, &mut link)
 }
 
 #[test]
 fn a_link_in_memory_hears_and_sends_in_order(rt: HostRuntime) -> Result<(), Fail> {
-    let alloc = rt.alloc();
-    let heard = vec![in alloc; Heard::Message(Text::from_str(alloc, "one")?), Heard::Quiet]?;
-    let paces = Paces::of(vec![in alloc; Pace::Free, Pace::Fail]?);
-    let mut link = MemoryLink::new(alloc, Hearings::of(heard), paces);
-    match link.receive()? {
-        Heard::Message(text) => assert_eq!(rt; text.as_str(), "one"),
-        _ => assert!(rt; false, "a message is next"),
-    }
-    assert_eq!(rt; link.send("lost")?, Sent::Failed);
-    assert_eq!(rt; link.send("two")?, Sent::Done);
-    assert!(rt; matches!(&link.receive()?, Heard::Quiet));
-    assert!(rt; matches!(&link.receive()?, Heard::Closed));
-    assert_eq!(rt; link.sent().len(), 1);
-    assert_eq!(rt; link.sent().at(0).as_str(), "two");
+    let told = link_told(rt.alloc())?;
+    assert!(rt;
+        told.as_str() == "one Failed Done quiet closed two",
+        "{told}"
+    );
     Ok(())
 }
 
 #[test]
 fn doors_without_links_fail(rt: HostRuntime) -> Result<(), Fail> {
     let mut doors = MemoryDoors::new();
-    assert_eq!(rt; doors.listen(8080)?, Sent::Failed);
+    assert!(rt; doors.listen(8080)? == Sent::Failed);
     assert!(rt; matches!(&doors.accept()?, Door::Failed));
     assert!(rt; matches!(&doors.dial(8080)?, Door::Failed));
     Ok(())
@@ -195,9 +228,9 @@ fn a_clock_in_memory_tells_its_last_moment_again(rt: HostRuntime) -> Result<(), 
     let first = Micros::new(1).ok_or("a moment")?;
     let second = Micros::new(2).ok_or("a moment")?;
     let mut clock = MemoryClock::new(Moments::of(vec![in alloc; first, second]?));
-    assert_eq!(rt; clock.now().get(), 1);
-    assert_eq!(rt; clock.now().get(), 2);
-    assert_eq!(rt; clock.now().get(), 2);
+    for moment in &[1, 2, 2] {
+        assert!(rt; clock.now().get() == *moment);
+    }
     Ok(())
 }
 
@@ -212,7 +245,7 @@ fn statuses_exit_as_documented(rt: HostRuntime) {
         (Status::InputLimit, 6),
         (Status::DoorFault, 7),
     ];
-    for (status, code) in table {
-        assert_eq!(rt; status.exit_code(), code);
+    for (status, code) in &table {
+        assert!(rt; status.exit_code() == *code, "{code}");
     }
 }

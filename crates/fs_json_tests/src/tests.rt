@@ -7,7 +7,7 @@ use fs_json::{
 use fs_path::{Bytes, Root, Text, Way, print_document, print_field};
 use fs_time::Micros;
 use serde_json::Value;
-use std::alloc::Global;
+use std::alloc::{AllocError, Global};
 use std::test::Fail;
 
 // What was read, or the refusal with its place.
@@ -244,24 +244,31 @@ fn members_are_found(rt: HostRuntime) -> Result<(), Fail> {
     Ok(())
 }
 
+fn written(alloc: Global, made: Result<Value, AllocError>) -> Result<String, AllocError> {
+    made?.to_string(alloc)
+}
+
 #[test]
 fn what_is_written(rt: HostRuntime) -> Result<(), Fail> {
     let alloc = rt.alloc();
-    for (n, want) in [
+    for (n, want) in &[
         (i64::MAX, r#""9223372036854775807""#),
         (i64::MIN, r#""-9223372036854775808""#),
     ] {
-        let written = write_integer(alloc, n)?.to_string(alloc)?;
-        assert!(rt; written.as_str() == want);
+        assert_eq!(rt; written(alloc, write_integer(alloc, *n))?.as_str(), *want);
     }
-    let quoted = write_text(alloc, &Text::from_str(alloc, r#"a"é"#)?)?.to_string(alloc)?;
-    assert!(rt; quoted.as_str() == r#""a\"é""#);
-    let padded = write_bytes(alloc, &Bytes::from_slice(alloc, b"\xff\xef")?)?.to_string(alloc)?;
-    assert!(rt; padded.as_str() == r#""/+8=""#);
-    let Some(t) = Micros::new(1_704_067_200_123_000) else {
-        return Err(Fail::new("no such moment"));
-    };
-    let shortest = write_time(alloc, t)?.to_string(alloc)?;
-    assert!(rt; shortest.as_str() == r#""2024-01-01T00:00:00.123Z""#);
+    let text = Text::from_str(alloc, r#"a"é"#)?;
+    assert_eq!(rt;
+        written(alloc, write_text(alloc, &text))?.as_str(),
+        r#""a\"é""#
+    );
+    let bytes = Bytes::from_slice(alloc, b"\xff\xef")?;
+    assert_eq!(rt;
+        written(alloc, write_bytes(alloc, &bytes))?.as_str(),
+        r#""/+8=""#
+    );
+    let t = Micros::new(1_704_067_200_123_000).ok_or("a moment")?;
+    let shortest = written(alloc, write_time(alloc, t))?;
+    assert_eq!(rt; shortest.as_str(), r#""2024-01-01T00:00:00.123Z""#);
     Ok(())
 }

@@ -176,6 +176,11 @@ fn shard(alloc: Global, text: &str) -> Result<String, AllocError> {
     shard_of(&Text::from_str(alloc, id)?, count).to_string(alloc)
 }
 
+fn push_place(alloc: Global, text: &mut String, way: &Way<'_>) -> Result<(), AllocError> {
+    text.push_str(way.place(alloc)?.as_str())?;
+    text.push_str(" ")
+}
+
 // A method, a member, and the number of an item.
 fn places(alloc: Global, text: &str) -> Result<String, AllocError> {
     let (method, rest) = text.split_once(" ").unwrap_or((text, ""));
@@ -183,13 +188,12 @@ fn places(alloc: Global, text: &str) -> Result<String, AllocError> {
     let first = Way::method(method);
     let second = first.member(member);
     let third = second.item(number.parse::<u64>().unwrap_or(0));
-    let fourth = third.member(member);
-    let a = first.place(alloc)?;
-    let b = second.place(alloc)?;
-    let c = third.place(alloc)?;
-    let d = fourth.place(alloc)?;
-    let (a, b, c, d) = (a.as_str(), b.as_str(), c.as_str(), d.as_str());
-    format!(in alloc; "{a} {b} {c} {d}")
+    let mut places = String::new(alloc);
+    push_place(alloc, &mut places, &first)?;
+    push_place(alloc, &mut places, &second)?;
+    push_place(alloc, &mut places, &third)?;
+    push_place(alloc, &mut places, &third.member(member))?;
+    String::from_str(alloc, places.trim_end())
 }
 
 fn field_name(alloc: Global, pieces: &str) -> Result<String, AllocError> {
@@ -203,14 +207,18 @@ fn field_name(alloc: Global, pieces: &str) -> Result<String, AllocError> {
     format!(in alloc; "{form}{bad}")
 }
 
-fn names(alloc: Global, words: &str) -> Result<String, PathError> {
+fn read_names(alloc: Global, words: &str) -> Result<Names, PathError> {
     let mut names = Names::new(alloc);
     for word in words.split_whitespace() {
         names.push(name_of(alloc, word)?)?;
     }
-    let again = Names::of(names.copy(alloc)?.into_vec());
+    Ok(names)
+}
+
+// How many there are again, and the ids of those that are the same.
+fn same_names(alloc: Global, names: &Names, again: &Names) -> Result<String, AllocError> {
     if again.is_empty() {
-        return Ok(String::from_str(alloc, "none")?);
+        return String::from_str(alloc, "none");
     }
     let mut text = again.len().to_string(alloc)?;
     for (i, name) in again.as_slice().iter().enumerate() {
@@ -222,14 +230,23 @@ fn names(alloc: Global, words: &str) -> Result<String, PathError> {
     Ok(text)
 }
 
-fn paths(alloc: Global, words: &str) -> Result<String, PathError> {
+fn names(alloc: Global, words: &str) -> Result<String, PathError> {
+    let names = read_names(alloc, words)?;
+    let again = Names::of(names.copy(alloc)?.into_vec());
+    Ok(same_names(alloc, &names, &again)?)
+}
+
+fn read_paths(alloc: Global, words: &str) -> Result<Paths, PathError> {
     let mut paths = Paths::new(alloc);
     for word in words.split_whitespace() {
         paths.push(parse_field(alloc, word)?)?;
     }
-    let again = Paths::of(paths.copy(alloc)?.into_vec());
+    Ok(paths)
+}
+
+fn same_paths(alloc: Global, paths: &Paths, again: &Paths) -> Result<String, AllocError> {
     if again.is_empty() {
-        return Ok(String::from_str(alloc, "none")?);
+        return String::from_str(alloc, "none");
     }
     let mut text = again.len().to_string(alloc)?;
     for (i, path) in again.as_slice().iter().enumerate() {
@@ -239,6 +256,12 @@ fn paths(alloc: Global, words: &str) -> Result<String, PathError> {
         }
     }
     Ok(text)
+}
+
+fn paths(alloc: Global, words: &str) -> Result<String, PathError> {
+    let paths = read_paths(alloc, words)?;
+    let again = Paths::of(paths.copy(alloc)?.into_vec());
+    Ok(same_paths(alloc, &paths, &again)?)
 }
 
 fn told(alloc: Global, kind: &str, text: &str) -> Result<String, PathError> {
@@ -264,14 +287,17 @@ fn names_scopes_ways_and_lists(rt: HostRuntime) -> Result<(), Fail> {
     Ok(())
 }
 
+fn root_alone(alloc: Global) -> Result<DocName, AllocError> {
+    let project = Text::from_str(alloc, "demo")?;
+    let database = Text::from_str(alloc, "(default)")?;
+    let root = Root { project, database };
+    DocName::new(alloc, &root.copy(alloc)?, &Ids::new(alloc))
+}
+
 #[test]
 fn a_name_of_a_root_alone_is_printed(rt: HostRuntime) -> Result<(), Fail> {
     let alloc = rt.alloc();
-    let root = Root {
-        project: Text::from_str(alloc, "demo")?,
-        database: Text::from_str(alloc, "(default)")?,
-    };
-    let name = DocName::new(alloc, &root.copy(alloc)?, &Ids::new(alloc))?;
+    let name = root_alone(alloc)?;
     assert_eq!(rt; print_document(alloc, &name)?.as_str(), ROOT);
     assert!(rt; name_of(alloc, "demo").is_err());
     Ok(())

@@ -109,64 +109,103 @@ fn is_lawful(alloc: Global, map: &DocumentMap, q: &Query) -> Result<bool, AllocE
     Ok(all_fit(q, found.as_slice()) && are_in_order(&normal, found.as_slice()))
 }
 
+fn copy_of(alloc: Global, q: &Query) -> Result<Query, Fail> {
+    Ok(q.copy(alloc)?)
+}
+
 fn copied(alloc: Global, text: &str) -> Result<Query, Fail> {
     let q = query(alloc, text)?;
-    Ok(q.copy(alloc)?)
+    copy_of(alloc, &q)
+}
+
+// What a query answers over documents that are here and over those that are lent, where that is the same.
+fn told(alloc: Global, map: &DocumentMap, q: &Query) -> Result<String, Fail> {
+    let here = answered(alloc, map, q)?;
+    let lent = answered_among(alloc, map, q)?;
+    if here.as_str() != lent.as_str() {
+        return Ok(format!(in alloc; "{here} here, {lent} lent")?);
+    }
+    if !is_lawful(alloc, map, q)? {
+        return Ok(format!(in alloc; "{here}, which is no answer")?);
+    }
+    Ok(here)
+}
+
+fn told_again(alloc: Global, map: &DocumentMap, text: &str) -> Result<String, Fail> {
+    let q = copied(alloc, text)?;
+    told(alloc, map, &q)
+}
+
+// The first query that is answered otherwise, with its answer, and nothing where none is.
+fn first_wrong(alloc: Global, map: &DocumentMap) -> Result<String, Fail> {
+    for line in ANSWERS.lines() {
+        let (text, want) = line.split_once(" =>").ok_or("an arrow")?;
+        let told = told_again(alloc, map, text)?;
+        if told.as_str() != want.trim() {
+            return Ok(format!(in alloc; "{text} gives {told}")?);
+        }
+    }
+    Ok(String::new(alloc))
+}
+
+fn first_wrong_of_all(alloc: Global) -> Result<String, Fail> {
+    let map = documents(alloc)?;
+    first_wrong(alloc, &map)
 }
 
 #[test]
 fn queries_are_answered(rt: HostRuntime) -> Result<(), Fail> {
-    let alloc = rt.alloc();
-    let map = documents(alloc)?;
-    for line in ANSWERS.lines() {
-        let (text, want) = line.split_once(" =>").ok_or("an arrow")?;
-        let q = copied(alloc, text)?;
-        assert_eq!(rt; answered(alloc, &map, &q)?.as_str(), want.trim(), "{text}");
-        assert_eq!(rt;
-            answered_among(alloc, &map, &q)?.as_str(),
-            want.trim(),
-            "{text}"
-        );
-        assert!(rt; is_lawful(alloc, &map, &q)?, "{text}");
-    }
+    let wrong = first_wrong_of_all(rt.alloc())?;
+    assert!(rt; wrong.is_empty(), "{wrong}");
     Ok(())
 }
 
-fn shape(alloc: Global, q: &Query) -> Result<String, AllocError> {
-    let normal = normal_form(alloc, q)?;
+fn shape_of(alloc: Global, normal: &Normal) -> Result<String, Fail> {
     let mut text = String::new(alloc);
     for order in normal.orders.as_slice() {
         text.push_str(print_field(alloc, &order.path)?.as_str())?;
         text.push_str(if order.descending { "- " } else { " " })?;
     }
     let count = normal.disjuncts.len();
-    format!(in alloc; "{text}| {count}")
+    Ok(format!(in alloc; "{text}| {count}")?)
+}
+
+fn shape(alloc: Global, q: &Query) -> Result<String, Fail> {
+    let normal = normal_form(alloc, q)?;
+    shape_of(alloc, &normal)
+}
+
+fn shaped(alloc: Global, text: &str) -> Result<String, Fail> {
+    let q = query(alloc, text)?;
+    shape(alloc, &q)
 }
 
 #[test]
 fn orders_and_disjuncts_are_those_of_the_normal_form(rt: HostRuntime) -> Result<(), Fail> {
-    let alloc = rt.alloc();
     for line in NORMAL.lines() {
         let (text, want) = line.split_once(" => ").ok_or("an arrow")?;
-        let q = query(alloc, text)?;
-        assert_eq!(rt; shape(alloc, &q)?.as_str(), want, "{text}");
+        let shape = shaped(rt.alloc(), text)?;
+        assert!(rt; shape.as_str() == want, "{text} gives {shape}");
     }
     Ok(())
 }
 
+// The rule that a query breaks with this limit, if it breaks one.
+fn broken_with(alloc: Global, text: &str, limit: i32) -> Result<Option<u8>, Fail> {
+    let mut q = query(alloc, text)?;
+    q.limit = Some(limit);
+    Ok(check(&q).map(|rule| rule.number))
+}
+
 #[test]
 fn a_broken_rule_is_told(rt: HostRuntime) -> Result<(), Fail> {
-    let alloc = rt.alloc();
-    let mut q = query(alloc, r#"{"from":[{"collectionId":"t"}]}"#)?;
-    assert!(rt; check(&q).is_none());
-    q.limit = Some(-1);
-    assert_eq!(rt; check(&q).map(|rule| rule.number), Some(12));
-    q.orders = query(
-        alloc,
+    for text in &[
+        r#"{"from":[{"collectionId":"t"}]}"#,
         r#"{"from":[{"collectionId":"t"}],"orderBy":[{"field":{"fieldPath":"a"}}]}"#,
-    )?
-    .orders;
-    assert_eq!(rt; check(&q).map(|rule| rule.number), Some(12));
+    ] {
+        assert!(rt; broken_with(rt.alloc(), text, 0)?.is_none());
+        assert!(rt; broken_with(rt.alloc(), text, -1)? == Some(12));
+    }
     Ok(())
 }
 

@@ -49,10 +49,14 @@ fn read(alloc: Global, v: &Value) -> Result<Query, Bad> {
     read_query(alloc, &parent(alloc)?, v, &Way::method("x"))
 }
 
+fn written(alloc: Global, query: &Query) -> Result<String, Bad> {
+    Ok(write_query(alloc, query)?.to_string(alloc)?)
+}
+
 // What is written of the query that is read.
 fn query_again(alloc: Global, v: &Value) -> Result<String, Bad> {
     let query = read(alloc, v)?;
-    Ok(write_query(alloc, &query)?.to_string(alloc)?)
+    written(alloc, &query)
 }
 
 // The first line of a table whose answer is another, with that answer.
@@ -75,8 +79,8 @@ fn all(alloc: Global) -> Result<Query, Fail> {
     Ok(read(alloc, &v)?)
 }
 
-fn written(alloc: Global, query: &Query) -> Result<String, AllocError> {
-    write_query(alloc, query)?.to_string(alloc)
+fn text_of(alloc: Global, query: &Query) -> Result<String, Fail> {
+    Ok(written(alloc, query)?)
 }
 
 #[test]
@@ -100,6 +104,11 @@ fn the_least_rule_is_told_after_the_walk(rt: HostRuntime) -> Result<(), Fail> {
     Ok(())
 }
 
+fn goes_over(alloc: Global, scope: &Scope) -> Result<bool, Fail> {
+    let query = all(alloc)?;
+    Ok(query.scope == *scope)
+}
+
 #[test]
 fn a_query_goes_over_what_is_below_its_parent(rt: HostRuntime) -> Result<(), Fail> {
     let alloc = rt.alloc();
@@ -107,17 +116,20 @@ fn a_query_goes_over_what_is_below_its_parent(rt: HostRuntime) -> Result<(), Fai
         parent: parent(alloc)?,
         id: Text::from_str(alloc, "c")?,
     };
-    let query = all(alloc)?;
-    assert!(rt; query.scope == below);
+    assert!(rt; goes_over(alloc, &below)?);
     Ok(())
+}
+
+fn selecting_nothing(alloc: Global) -> Result<String, Fail> {
+    let mut query = all(alloc)?;
+    query.select = Some(Paths::new(alloc));
+    text_of(alloc, &query)
 }
 
 #[test]
 fn a_selection_of_no_path_is_written_by_the_name(rt: HostRuntime) -> Result<(), Fail> {
     let alloc = rt.alloc();
-    let mut query = all(alloc)?;
-    query.select = Some(Paths::new(alloc));
-    let json = written(alloc, &query)?;
+    let json = selecting_nothing(alloc)?;
     let want = spelled_out(
         alloc,
         r#"{~,"select":{"fields":[{"fieldPath":"__name__"}]}}"#,
@@ -126,14 +138,22 @@ fn a_selection_of_no_path_is_written_by_the_name(rt: HostRuntime) -> Result<(), 
     Ok(())
 }
 
+fn all_of(alloc: Global, filter: Filter) -> Result<Filter, AllocError> {
+    let mut filters = Filters::new(alloc);
+    filters.push(filter)?;
+    Ok(Filter::And(filters))
+}
+
+fn filtering_by_all(alloc: Global) -> Result<String, Fail> {
+    let mut query = all(alloc)?;
+    query.filter = all_of(alloc, Filter::All)?;
+    text_of(alloc, &query)
+}
+
 #[test]
 fn a_filter_of_all_inside_another_is_no_filter(rt: HostRuntime) -> Result<(), Fail> {
     let alloc = rt.alloc();
-    let mut query = all(alloc)?;
-    let mut filters = Filters::new(alloc);
-    filters.push(Filter::All)?;
-    query.filter = Filter::And(filters);
-    let json = written(alloc, &query)?;
+    let json = filtering_by_all(alloc)?;
     let v = Value::from_str(alloc, json.as_str())?;
     let again = shown(alloc, query_again(alloc, &v))?;
     assert!(rt;

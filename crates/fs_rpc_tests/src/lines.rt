@@ -14,7 +14,7 @@ const SHORT_FORMS: [(&str, &str); 5] = [
 
 pub(crate) fn spelled_out(alloc: Global, line: &str) -> Result<String, AllocError> {
     let mut text = String::from_str(alloc, line)?;
-    for (short, long) in SHORT_FORMS {
+    for (short, long) in &SHORT_FORMS {
         text = text.as_str().replace(alloc, short, long)?;
     }
     Ok(text)

@@ -2,7 +2,8 @@
 use fs_json::Bad;
 use fs_path::{Root, Text};
 use fs_rpc::{
-    Envelope, read_request, read_session_request, request_json, request_json_on, write_request,
+    Envelope, SessionRequest, read_request, read_session_request, request_json, request_json_on,
+    write_request,
 };
 use serde_json::Value;
 use std::alloc::{AllocError, Global};
@@ -38,18 +39,25 @@ pub(crate) fn request_again(alloc: Global, json: &str) -> Result<String, Bad> {
 // What is written of the request that a line of a script is read as.
 fn line_again(alloc: Global, line: &Value) -> Result<Value, Bad> {
     let root = demo(alloc)?;
-    let asked = read_session_request(alloc, &root, line)?;
-    let envelope = Envelope {
-        id: asked.id,
-        request: asked.request?,
-    };
-    Ok(request_json_on(alloc, &asked.session, &envelope)?)
+    let SessionRequest {
+        session,
+        id,
+        request,
+    } = read_session_request(alloc, &root, line)?;
+    match request {
+        Ok(request) => line_of(alloc, &session, &Envelope { id, request }),
+        Err(bad) => Err(bad),
+    }
+}
+
+fn line_of(alloc: Global, session: &Text, envelope: &Envelope) -> Result<Value, Bad> {
+    Ok(request_json_on(alloc, session, envelope)?)
 }
 
 fn line(alloc: Global, json: &str) -> Result<Value, Bad> {
-    let envelope = read(alloc, json)?;
     let session = Text::from_str(alloc, "s")?;
-    Ok(request_json_on(alloc, &session, &envelope)?)
+    let envelope = read(alloc, json)?;
+    line_of(alloc, &session, &envelope)
 }
 
 pub(crate) fn request_on(alloc: Global, json: &str) -> Result<String, Bad> {

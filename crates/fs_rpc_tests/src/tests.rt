@@ -26,11 +26,11 @@ fn a_line_of_a_transcript_has_its_session(rt: HostRuntime) -> Result<(), Fail> {
 
 #[test]
 fn a_refusal_is_told_with_its_status(rt: HostRuntime) -> Result<(), Fail> {
-    for (make, table) in [
+    for (make, table) in &[
         (Make::Refusal, messages::REFUSALS),
         (Make::Error, messages::ERROR),
     ] {
-        let wrong = first_wrong(rt.alloc(), make, table)?;
+        let wrong = first_wrong(rt.alloc(), *make, table)?;
         assert!(rt; wrong.is_empty(), "{wrong}");
     }
     Ok(())

@@ -4,7 +4,7 @@ use crate::limits::limits_of;
 use crate::told::{
     answer_text, chain_text, messages_text, moment_text, open_text, outcome_text, settled_text,
 };
-use fs_machine::{Config, Outcome};
+use fs_machine::{Answer, Config, Outcome};
 use fs_rpc::Envelope;
 use fs_server::Server;
 use fs_status::Reason;
@@ -25,19 +25,38 @@ fn session(text: &str) -> Result<u32, AllocError> {
     text.parse::<u32>().map_err(|_| AllocError)
 }
 
-// A request on a session. One comes only where no commit is pending.
+// One comes only where no commit is pending.
+fn reply_to(
+    alloc: Global,
+    server: &mut Server,
+    number: u32,
+    envelope: &Envelope,
+) -> Result<Answer, AllocError> {
+    if server.next_pending().is_none() {
+        return Ok(server.request(alloc, number, envelope));
+    }
+    Err(AllocError)
+}
+
+fn reply_text(
+    alloc: Global,
+    server: &mut Server,
+    number: u32,
+    envelope: &Envelope,
+) -> Result<String, AllocError> {
+    let answer = reply_to(alloc, server, number, envelope)?;
+    answer_text(alloc, &answer)
+}
+
+// A request on a session.
 fn ask(alloc: Global, server: &mut Server, method: &str, text: &str) -> Result<String, AllocError> {
     let (number, text) = text.split_once(" ").unwrap_or((text, ""));
+    let number = session(number)?;
     let envelope = Envelope {
         id: None,
         request: request(alloc, method, text)?,
     };
-    let number = session(number)?;
-    if server.next_pending().is_none() {
-        let answer = server.request(alloc, number, &envelope);
-        return answer_text(alloc, &answer);
-    }
-    Err(AllocError)
+    reply_text(alloc, server, number, &envelope)
 }
 
 // ---- commits that are pending

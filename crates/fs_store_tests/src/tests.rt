@@ -46,7 +46,7 @@ fn store_after(alloc: Global, count: usize) -> Result<(Database, Store), AllocEr
 // What is read of each document, as in the table.
 fn shown(alloc: Global, store: &Store, at: Micros) -> Result<String, AllocError> {
     let mut line = String::new(alloc);
-    for path in PATHS {
+    for path in &PATHS {
         let name = name_of(alloc, path)?;
         if store.floor() <= at && at <= store.absorbed() {
             let n = told(alloc, store.get(&name, at))?;
@@ -75,19 +75,26 @@ fn answer<L: Ledger>(
     store.run(alloc, asked, at, &mut steps)
 }
 
-// What is answered, each document's path and `n`.
-fn answered(alloc: Global, store: &Store, text: &str, at: Micros) -> Result<String, AllocError> {
+fn found(alloc: Global, store: &Store, text: &str, at: Micros) -> Result<Documents, AllocError> {
     let asked = query(alloc, text)?;
-    let documents = answer::<Brand>(alloc, store, &asked, at, Blank::new(1))?;
+    answer::<Brand>(alloc, store, &asked, at, Blank::new(1))
+}
+
+// Each document's path and `n`.
+fn line_of(alloc: Global, documents: &Documents) -> Result<String, AllocError> {
     let mut line = String::new(alloc);
     for document in documents.as_slice() {
-        let n = told(alloc, Some(document))?;
         line.push_str(document.name.ids().unwrap_or("?"))?;
         line.push_str("=")?;
-        line.push_str(n.as_str())?;
+        line.push_str(told(alloc, Some(document))?.as_str())?;
         line.push_str(" ")?;
     }
     Ok(line)
+}
+
+fn answered(alloc: Global, store: &Store, text: &str, at: Micros) -> Result<String, AllocError> {
+    let documents = found(alloc, store, text, at)?;
+    line_of(alloc, &documents)
 }
 
 // What the tables answer of documents at these places.
@@ -191,6 +198,10 @@ fn release_of(alloc: Global, changes: Vec<Change>) -> Result<Release, AllocError
     })
 }
 
+fn fits(alloc: Global, store: &Store, changes: Vec<Change>) -> Result<bool, AllocError> {
+    Ok(store.fits(&release_of(alloc, changes)?))
+}
+
 // The changes of the one commit of a release.
 fn changes_of(alloc: Global, release: &Release) -> Result<Vec<Change>, AllocError> {
     let mut changes = Vec::new(alloc);
@@ -261,8 +272,7 @@ fn changes_in_another_order(rt: HostRuntime) -> Result<(), Fail> {
     let next = next_release(alloc, &mut database)?;
     let mut changes = changes_of(alloc, &next)?;
     changes.reverse();
-    let turned = release_of(alloc, changes)?;
-    assert!(rt; !store.fits(&turned));
+    assert!(rt; !fits(alloc, &store, changes)?);
     Ok(())
 }
 
@@ -271,9 +281,7 @@ fn changes_to_another_name(rt: HostRuntime) -> Result<(), Fail> {
     let alloc = rt.alloc();
     let (mut database, store) = store_after(alloc, 1)?;
     let next = next_release(alloc, &mut database)?;
-    let same = release_of(alloc, changes_of(alloc, &next)?)?;
-    assert!(rt; store.fits(&same));
-    let other = release_of(alloc, renamed(alloc, &next)?)?;
-    assert!(rt; !store.fits(&other));
+    assert!(rt; fits(alloc, &store, changes_of(alloc, &next)?)?);
+    assert!(rt; !fits(alloc, &store, renamed(alloc, &next)?)?);
     Ok(())
 }

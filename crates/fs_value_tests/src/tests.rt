@@ -139,7 +139,8 @@ fn fields(alloc: Global, pairs: &str) -> Result<Fields, AllocError> {
 }
 
 fn name(alloc: Global, path: &str) -> Result<DocName, AllocError> {
-    DocName::of_path(String::from_str(alloc, path)?).ok_or(AllocError)
+    let path = String::from_str(alloc, path)?;
+    DocName::of_path(path).ok_or(AllocError)
 }
 
 // The value that a line of a table says.
@@ -175,18 +176,23 @@ fn stands_at(value: &Value, i: usize, values: &Values) -> bool {
     true
 }
 
+fn rising(alloc: Global) -> Result<Values, AllocError> {
+    let mut values = Values::new(alloc);
+    for line in &RISING {
+        let some = value(alloc, line)?;
+        values.push(some)?;
+    }
+    Ok(values)
+}
+
 #[test]
 fn values_of_all_kinds_in_their_order(rt: HostRuntime) -> Result<(), Fail> {
     let alloc = rt.alloc();
-    let mut values = Values::new(alloc);
-    for line in RISING {
-        values.push(value(alloc, line)?)?;
-    }
-    let copied = values.copy(alloc)?;
+    let values = rising(alloc)?.copy(alloc)?;
     for (i, line) in RISING.iter().enumerate() {
         let some = value(alloc, line)?;
         assert!(rt; is_of_kind(&some, line));
-        assert!(rt; stands_at(&some, i, &copied));
+        assert!(rt; stands_at(&some, i, &values));
     }
     Ok(())
 }
@@ -213,19 +219,32 @@ fn nested(alloc: Global, levels: u32, bottom: bool) -> Result<Value, AllocError>
     Ok(value)
 }
 
-// At 100 levels a comparison that came twice to each inner value would not end.
+fn depth_of(alloc: Global, levels: u32) -> Result<u32, AllocError> {
+    Ok(depth(&nested(alloc, levels, true)?))
+}
+
 #[test]
-fn depth_from_1_to_21_and_100(rt: HostRuntime) -> Result<(), Fail> {
+fn depth_from_1_to_21(rt: HostRuntime) -> Result<(), Fail> {
     let alloc = rt.alloc();
     for levels in 1..DEEPEST_VALUE + 2 {
-        assert_eq!(rt; depth(&nested(alloc, levels, true)?), levels);
+        assert_eq!(rt; depth_of(alloc, levels)?, levels);
     }
-    assert_eq!(rt; depth(&value(alloc, "array ")?), 1);
-    assert_eq!(rt; depth(&value(alloc, "map ")?), 1);
+    for empty in &["array ", "map "] {
+        assert_eq!(rt; depth(&value(alloc, empty)?), 1);
+    }
+    Ok(())
+}
+
+// A comparison that came twice to each inner value would not end.
+#[test]
+fn values_of_depth_100_are_compared(rt: HostRuntime) -> Result<(), Fail> {
+    let alloc = rt.alloc();
     let deep = nested(alloc, 100, true)?;
     keys_rise(&deep);
-    assert!(rt; same(&deep, &deep.copy(alloc)?));
-    assert!(rt; compare(&deep, &nested(alloc, 100, false)?) == Ordering::Greater);
+    let copied = deep.copy(alloc)?;
+    assert!(rt; same(&deep, &copied));
+    let other = nested(alloc, 100, false)?;
+    assert!(rt; compare(&deep, &other) == Ordering::Greater);
     Ok(())
 }
 
@@ -250,20 +269,21 @@ fn long_text(alloc: Global, n: u32) -> Result<Value, AllocError> {
     Ok(Value::String(Text::of(s)))
 }
 
+fn counted(alloc: Global, n: Value) -> Result<u128, AllocError> {
+    Ok(size(&document(alloc, "a", n)?))
+}
+
 // The values of the table are 82 together. 1,048,576 is the greatest size that is stored.
 #[test]
 fn counted_size_of_a_document(rt: HostRuntime) -> Result<(), Fail> {
     let alloc = rt.alloc();
     let mut all = Values::new(alloc);
-    for (line, count) in COUNTED {
+    for (line, count) in &COUNTED {
         all.push(value(alloc, line)?)?;
-        assert_eq!(rt; size(&document(alloc, "a", value(alloc, line)?)?), count);
+        assert_eq!(rt; counted(alloc, value(alloc, line)?)?, *count);
     }
-    assert_eq!(rt; size(&document(alloc, "a", Value::Array(all))?), 136);
-    assert_eq!(rt;
-        size(&document(alloc, "a", long_text(alloc, 1_048_521)?)?),
-        1_048_576
-    );
+    assert_eq!(rt; counted(alloc, Value::Array(all))?, 136);
+    assert_eq!(rt; counted(alloc, long_text(alloc, 1_048_521)?)?, 1_048_576);
     Ok(())
 }
 
@@ -300,20 +320,33 @@ fn has_integer(fields: &Fields, n: i64) -> bool {
     }
 }
 
+// The documents `a` and `b`, of which `b` was put twice.
+fn of_two(alloc: Global) -> Result<DocumentMap, AllocError> {
+    let mut documents = DocumentMap::new(alloc);
+    for (id, n) in &[("b", 1), ("a", 2), ("b", 3)] {
+        let one = document(alloc, id, Value::Integer(*n))?;
+        documents.put(alloc, one)?;
+    }
+    Ok(documents)
+}
+
+#[test]
+fn documents_stand_in_the_order_of_their_names(rt: HostRuntime) -> Result<(), Fail> {
+    let alloc = rt.alloc();
+    let all = of_two(alloc)?.documents(alloc)?.copy(alloc)?;
+    assert_eq!(rt; all.len(), 2);
+    for (d, (id, n)) in all.as_slice().iter().zip(&[("a", 2), ("b", 3)]) {
+        assert!(rt; d.name.len() == 2 && d.name.id(1) == *id);
+        assert!(rt; has_integer(d.fields.as_fields(), *n));
+    }
+    Ok(())
+}
+
 #[test]
 fn documents_by_their_names(rt: HostRuntime) -> Result<(), Fail> {
     let alloc = rt.alloc();
-    let mut documents = DocumentMap::new(alloc);
-    for (id, n) in [("b", 1), ("a", 2), ("b", 3)] {
-        documents.put(alloc, document(alloc, id, Value::Integer(n))?)?;
-    }
-    let all = documents.documents(alloc)?.copy(alloc)?;
-    assert_eq!(rt; all.len(), 2);
-    for (d, (id, n)) in all.as_slice().iter().zip([("a", 2), ("b", 3)]) {
-        assert!(rt; d.name.len() == 2 && d.name.id(1) == id);
-        assert!(rt; has_integer(d.fields.as_fields(), n));
-    }
     let b = name(alloc, "demo/(default)/c/b")?;
+    let mut documents = of_two(alloc)?;
     assert!(rt; documents.get(&b).is_some());
     assert_eq!(rt; documents.lent(alloc)?.len(), 2);
     assert!(rt; documents.remove(&b).is_some());
@@ -338,11 +371,18 @@ fn a_change_of_a_document_or_its_copy_leaves_the_other(rt: HostRuntime) -> Resul
     assert!(rt; has_integer(first.fields.as_fields(), 1));
     put(alloc, &mut first, 4)?;
     assert!(rt; has_integer(copied.fields.as_fields(), 3));
-    let again = first.copy(alloc)?;
+    assert!(rt; has_integer(first.fields.as_fields(), 4));
+    Ok(())
+}
+
+#[test]
+fn shared_fields_are_taken_out_whole(rt: HostRuntime) -> Result<(), Fail> {
+    let alloc = rt.alloc();
+    let mut first = document(alloc, "a", Value::Integer(4))?;
+    let again = first.fields.copy()?;
     put(alloc, &mut first, 5)?;
-    assert!(rt; has_integer(again.fields.as_fields(), 4));
-    let shared = again.fields.copy()?;
-    assert!(rt; has_integer(&again.fields.into_fields(alloc)?, 4));
+    let shared = again.copy()?;
+    assert!(rt; has_integer(&again.into_fields(alloc)?, 4));
     assert!(rt; has_integer(&shared.into_fields(alloc)?, 4));
     assert!(rt; has_integer(first.fields.as_fields(), 5));
     Ok(())

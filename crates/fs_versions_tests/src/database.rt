@@ -127,7 +127,7 @@ impl Database {
 
     fn chains(&self, alloc: Global) -> Result<String, AllocError> {
         let mut text = String::new(alloc);
-        for id in IDS {
+        for id in &IDS {
             let name = name_of(alloc, id)?;
             let one = chain_text(alloc, self.versions.chain(&name))?;
             text.push_str(one.as_str())?;

@@ -19,7 +19,7 @@ fn database(alloc: Global, batches: &str) -> Result<Database, AllocError> {
 fn shown(alloc: Global, versions: &Versions, time: &str) -> Result<String, AllocError> {
     let at = moment(time)?;
     let mut line = format!(in alloc; "{time} |")?;
-    for id in IDS {
+    for id in &IDS {
         let name = name_of(alloc, id)?;
         if at >= versions.floor() {
             let n = told(alloc, versions.at(&name, at))?;
@@ -134,7 +134,7 @@ fn documents_at_each_time(rt: HostRuntime) -> Result<(), Fail> {
     assert!(rt; shows_all(alloc, &database.versions)?);
     assert_eq!(rt; database.versions.floor().get(), 0);
     assert_eq!(rt; database.versions.last().get(), 15);
-    for id in IDS {
+    for id in &IDS {
         let name = name_of(alloc, id)?;
         let newest = told(alloc, database.versions.latest(&name))?;
         let wanted = told(alloc, database.now.get(&name))?;

@@ -1,9 +1,9 @@
 //! Writes and batches, by a table.
 use crate::commits::COMMITS;
-use crate::short::{act, fields, moment, name_of, number, transforms};
+use crate::short::{act, field, fields, moment, name_of, number, shared, write_of};
 use fs_path::Text;
-use fs_status::message;
-use fs_value::{Document, DocumentMap, Fields, SharedFields, Value, fields_same};
+use fs_status::{Refusal, message};
+use fs_value::{Document, DocumentMap, SharedFields, Value, fields_same};
 use fs_write::{
     Act, Change, Changes, Precondition, Write, WriteResults, Writes, apply_batch,
     batches_are_lawful, writes_are_lawful,
@@ -19,26 +19,28 @@ const UPDATED: i64 = 5;
 const TIME: i64 = 9;
 
 // `.` is no fields.
-fn fields_of(alloc: Global, text: &str) -> Result<Fields, AllocError> {
-    fields(alloc, text.strip_prefix(".").unwrap_or(text))
+fn without_dot(text: &str) -> &str {
+    text.strip_prefix(".").unwrap_or(text)
 }
 
-fn documents(alloc: Global, text: &str) -> Result<DocumentMap, AllocError> {
-    let mut map = DocumentMap::new(alloc);
+fn document(alloc: Global, id: &str, text: &str) -> Result<Document, AllocError> {
+    let created = moment(CREATED)?;
+    let updated = moment(UPDATED)?;
+    Ok(Document {
+        name: name_of(alloc, id)?,
+        fields: shared(alloc, without_dot(text))?,
+        created,
+        updated,
+    })
+}
+
+fn put_documents(alloc: Global, map: &mut DocumentMap, text: &str) -> Result<(), AllocError> {
     for one in text.split("/") {
         if let Some((id, text)) = one.split_once(" ") {
-            map.put(
-                alloc,
-                Document {
-                    name: name_of(alloc, id)?,
-                    fields: SharedFields::of(alloc, fields_of(alloc, text)?)?,
-                    created: moment(CREATED)?,
-                    updated: moment(UPDATED)?,
-                },
-            )?;
+            map.put(alloc, document(alloc, id, text)?)?;
         }
     }
-    Ok(map)
+    Ok(())
 }
 
 fn condition(text: &str) -> Result<Precondition, AllocError> {
@@ -59,21 +61,22 @@ fn write(alloc: Global, text: &str) -> Result<Write, AllocError> {
     let (wanted, rest) = cut(rest);
     let (doing, rest) = cut(rest);
     let (input, changes) = cut(rest);
-    Ok(Write {
-        act: act(alloc, id, doing, input)?,
-        transforms: transforms(alloc, changes)?,
-        condition: condition(wanted)?,
-    })
+    let condition = condition(wanted)?;
+    write_of(alloc, act(alloc, id, doing, input)?, changes, condition)
 }
 
-fn writes(alloc: Global, text: &str) -> Result<Writes, AllocError> {
-    let mut all = Writes::new(alloc);
+fn add_writes(alloc: Global, writes: &mut Writes, text: &str) -> Result<(), AllocError> {
     for one in text.split("/") {
         if !one.is_empty() {
-            all.push(write(alloc, one)?)?;
+            writes.push(write(alloc, one)?)?;
         }
     }
-    Ok(all)
+    Ok(())
+}
+
+fn has_fields(alloc: Global, document: &Document, text: &str) -> Result<bool, AllocError> {
+    let expected = fields(alloc, without_dot(text))?;
+    Ok(fields_same(document.fields.as_fields(), &expected))
 }
 
 // Whether a document, or none at `-`, has these fields and times.
@@ -87,12 +90,17 @@ fn is_document(
     match found {
         Some(document) => Ok(
             text != "-"
-                && fields_same(document.fields.as_fields(), &fields_of(alloc, text)?)
+                && has_fields(alloc, document, text)?
                 && document.created.get() == created
                 && document.updated.get() == updated,
         ),
         None => Ok(text == "-"),
     }
+}
+
+fn is_named(alloc: Global, change: &Change, id: &str) -> Result<bool, AllocError> {
+    let name = name_of(alloc, id)?;
+    Ok(change.name == name)
 }
 
 // A change, as `a n: 1 > n: 2`. A document that is made anew is told by `*`.
@@ -105,7 +113,7 @@ fn is_change(alloc: Global, change: &Change, text: &str) -> Result<bool, AllocEr
     };
     let after = after.strip_prefix("*").unwrap_or(after);
     Ok(
-        change.name == name_of(alloc, id)?
+        is_named(alloc, change, id)?
             && is_document(alloc, &change.before, before, CREATED, UPDATED)?
             && is_document(alloc, &change.after, after, created, TIME)?,
     )
@@ -146,14 +154,27 @@ fn comes_to(
     if writes.len() > 500 {
         return Ok(false);
     }
-    match apply_batch(alloc, &map.documents(alloc)?, writes, moment(TIME)?) {
-        Ok((found, told)) => {
-            Ok(are_changes(alloc, &found, changes)? && are_results(&told, results)?)
-        }
-        Err(refusal) => Ok(
-            message(alloc, &refusal)?.as_str() == changes && refusal.index.is_some(),
-        ),
+    let time = moment(TIME)?;
+    let documents = map.documents(alloc)?;
+    match apply_batch(alloc, &documents, writes, time) {
+        Ok((found, told)) => are_told(alloc, &found, &told, changes, results),
+        Err(refusal) => is_refusal(alloc, &refusal, changes),
     }
+}
+
+fn are_told(
+    alloc: Global,
+    found: &Changes,
+    told: &WriteResults,
+    changes: &str,
+    results: &str,
+) -> Result<bool, AllocError> {
+    Ok(are_changes(alloc, found, changes)? && are_results(told, results)?)
+}
+
+fn is_refusal(alloc: Global, refusal: &Refusal, text: &str) -> Result<bool, AllocError> {
+    let told = message(alloc, refusal)?;
+    Ok(told.as_str() == text && refusal.index.is_some())
 }
 
 // A line of the table.
@@ -161,15 +182,32 @@ fn is_so(alloc: Global, line: &str) -> Result<bool, AllocError> {
     let (before, rest) = cell(line);
     let (texts, rest) = cell(rest);
     let (changes, results) = cell(rest);
-    let docs = documents(alloc, before)?;
-    let all = writes(alloc, texts)?;
-    comes_to(
+    let results = results.strip_prefix("none").unwrap_or(results);
+    let mut map = DocumentMap::new(alloc);
+    let mut writes = Writes::new(alloc);
+    is_so_in(
         alloc,
-        &docs,
-        &all,
+        &mut map,
+        before,
+        &mut writes,
+        texts,
         changes,
-        results.strip_prefix("none").unwrap_or(results),
+        results,
     )
+}
+
+fn is_so_in(
+    alloc: Global,
+    map: &mut DocumentMap,
+    before: &str,
+    writes: &mut Writes,
+    texts: &str,
+    changes: &str,
+    results: &str,
+) -> Result<bool, AllocError> {
+    put_documents(alloc, map, before)?;
+    add_writes(alloc, writes, texts)?;
+    comes_to(alloc, map, writes, changes, results)
 }
 
 // `none` is an empty cell.
@@ -187,43 +225,71 @@ fn commits(rt: HostRuntime) -> Result<(), Fail> {
             rows = rows.saturating_add(1);
         }
     }
-    assert_eq!(rt; rows, 81);
+    assert!(rt; rows == 81, "{rows} rows");
     Ok(())
 }
 
-// A document whose text makes it count so many bytes: 55 beside the text, as `c/a {s: ..}` does.
-fn of_size(alloc: Global, bytes: usize) -> Result<Writes, AllocError> {
+// Sets a document whose text makes it count so many bytes: 55 beside the text, as `c/a {s: ..}` does.
+fn of_size(alloc: Global, bytes: usize) -> Result<Act, AllocError> {
+    let name = name_of(alloc, "a")?;
+    let key = Text::from_str(alloc, "s")?;
     let text = "x".repeat(alloc, bytes.saturating_sub(55))?;
-    let mut fields = Fields::new(alloc);
-    fields.put(Text::from_str(alloc, "s")?, Value::String(Text::of(text)))?;
-    let mut all = Writes::new(alloc);
-    all.push(Write {
-        act: Act::Set {
-            name: name_of(alloc, "a")?,
-            fields: SharedFields::of(alloc, fields)?,
-        },
-        transforms: transforms(alloc, "")?,
-        condition: Precondition::None,
-    })?;
-    Ok(all)
+    let fields = field(alloc, key, Value::String(Text::of(text)))?;
+    Ok(Act::Set {
+        name,
+        fields: SharedFields::of(alloc, fields)?,
+    })
 }
 
-fn is_taken(alloc: Global, map: &DocumentMap, writes: &Writes) -> Result<bool, AllocError> {
+fn add_of_size(alloc: Global, writes: &mut Writes, bytes: usize) -> Result<(), AllocError> {
+    writes.push(write_of(alloc, of_size(alloc, bytes)?, "", Precondition::None)?)
+}
+
+// Whether a document of this size is refused with this message, where there was none before.
+fn is_refused(alloc: Global, bytes: usize, told: &str) -> Result<bool, AllocError> {
+    let map = DocumentMap::new(alloc);
+    let mut writes = Writes::new(alloc);
+    is_refused_in(alloc, &map, &mut writes, bytes, told)
+}
+
+fn is_refused_in(
+    alloc: Global,
+    map: &DocumentMap,
+    writes: &mut Writes,
+    bytes: usize,
+    told: &str,
+) -> Result<bool, AllocError> {
+    add_of_size(alloc, writes, bytes)?;
+    comes_to(alloc, map, writes, told, "")
+}
+
+fn is_taken(alloc: Global, bytes: usize) -> Result<bool, AllocError> {
+    let map = DocumentMap::new(alloc);
+    let mut writes = Writes::new(alloc);
+    is_taken_in(alloc, &map, &mut writes, bytes)
+}
+
+fn is_taken_in(
+    alloc: Global,
+    map: &DocumentMap,
+    writes: &mut Writes,
+    bytes: usize,
+) -> Result<bool, AllocError> {
+    add_of_size(alloc, writes, bytes)?;
     if writes.len() > 500 {
         return Ok(false);
     }
-    Ok(apply_batch(alloc, &map.documents(alloc)?, writes, moment(TIME)?).is_ok())
+    let time = moment(TIME)?;
+    let documents = map.documents(alloc)?;
+    Ok(apply_batch(alloc, &documents, writes, time).is_ok())
 }
 
 #[test]
 fn the_largest_document(rt: HostRuntime) -> Result<(), Fail> {
     let alloc = rt.alloc();
-    let docs = documents(alloc, "")?;
-    let large = of_size(alloc, 1_048_577)?;
     let told = "write 0: document has 1048577 bytes";
-    assert!(rt; comes_to(alloc, &docs, &large, told, "")?);
-    let fitting = of_size(alloc, 1_048_576)?;
-    assert!(rt; is_taken(alloc, &docs, &fitting)?);
+    assert!(rt; is_refused(alloc, 1_048_577, told)?);
+    assert!(rt; is_taken(alloc, 1_048_576)?);
     writes_are_lawful();
     batches_are_lawful();
     Ok(())

@@ -2,7 +2,7 @@
 use fs_path::{DocName, FieldPath, Ids, Paths, Text, parse_field};
 use fs_time::Micros;
 use fs_value::{Fields, SharedFields, Value, Values};
-use fs_write::{Act, Operation, Transform, Transforms};
+use fs_write::{Act, Operation, Precondition, Transform, Transforms, Write};
 use std::alloc::{AllocError, Global};
 use std::mem::replace;
 
@@ -33,35 +33,74 @@ impl Open {
         self.fields.put(key, value)
     }
 
-    fn closed(self) -> Value {
-        if self.is_array {
-            Value::Array(self.values)
-        } else {
-            Value::Map(self.fields)
-        }
+    fn take_values(&mut self, alloc: Global) -> Values {
+        replace(&mut self.values, Values::new(alloc))
     }
-}
 
-fn read(alloc: Global, text: &str, is_array: bool) -> Result<Open, AllocError> {
-    let mut here = Open::new(alloc, is_array);
-    let mut around: Vec<Open> = Vec::new(alloc);
-    for word in text.split_whitespace() {
+    fn take_fields(&mut self, alloc: Global) -> Fields {
+        replace(&mut self.fields, Fields::new(alloc))
+    }
+
+    // Puts what was read into the one around it, and goes on there.
+    fn close(&mut self, alloc: Global, outer: Open) -> Result<(), AllocError> {
+        let inner = if self.is_array {
+            Value::Array(self.take_values(alloc))
+        } else {
+            Value::Map(self.take_fields(alloc))
+        };
+        *self = outer;
+        self.put(alloc, inner)
+    }
+
+    fn read_word(
+        &mut self,
+        alloc: Global,
+        around: &mut Vec<Open>,
+        word: &str,
+    ) -> Result<(), AllocError> {
         match word {
-            "[" => around.push(replace(&mut here, Open::new(alloc, true)))?,
-            "{" => around.push(replace(&mut here, Open::new(alloc, false)))?,
-            "]" | "}" => {
-                if let Some(outer) = around.pop() {
-                    let inner = replace(&mut here, outer);
-                    here.put(alloc, inner.closed())?;
-                }
-            }
+            "[" => Ok(around.push(replace(self, Open::new(alloc, true)))?),
+            "{" => Ok(around.push(replace(self, Open::new(alloc, false)))?),
+            "]" | "}" => match around.pop() {
+                Some(outer) => self.close(alloc, outer),
+                None => Ok(()),
+            },
             _ => match word.strip_suffix(":") {
-                Some(key) => here.key = name(alloc, key)?,
-                None => here.put(alloc, scalar(alloc, word)?)?,
+                Some(key) => {
+                    self.key = name(alloc, key)?;
+                    Ok(())
+                }
+                None => self.put(alloc, scalar(alloc, word)?),
             },
         }
     }
-    Ok(here)
+
+    fn read_words(
+        &mut self,
+        alloc: Global,
+        around: &mut Vec<Open>,
+        text: &str,
+    ) -> Result<(), AllocError> {
+        for word in text.split_whitespace() {
+            self.read_word(alloc, around, word)?;
+        }
+        Ok(())
+    }
+
+    fn read(&mut self, alloc: Global, text: &str) -> Result<(), AllocError> {
+        let mut around = Vec::new(alloc);
+        self.read_words(alloc, &mut around, text)
+    }
+
+    fn read_fields(&mut self, alloc: Global, text: &str) -> Result<Fields, AllocError> {
+        self.read(alloc, text)?;
+        Ok(self.take_fields(alloc))
+    }
+
+    fn read_values(&mut self, alloc: Global, text: &str) -> Result<Values, AllocError> {
+        self.read(alloc, text)?;
+        Ok(self.take_values(alloc))
+    }
 }
 
 pub fn number(text: &str) -> Result<i64, AllocError> {
@@ -86,12 +125,23 @@ fn name(alloc: Global, text: &str) -> Result<Text, AllocError> {
 // `^20` is a value of depth 20, maps in maps.
 fn nested(alloc: Global, depth: i64) -> Result<Value, AllocError> {
     let mut value = Value::Null;
-    for _ in 1..depth {
-        let mut fields = Fields::new(alloc);
-        fields.put(Text::from_str(alloc, "a")?, value)?;
-        value = Value::Map(fields);
-    }
+    nest(alloc, &mut value, depth)?;
     Ok(value)
+}
+
+fn nest(alloc: Global, value: &mut Value, depth: i64) -> Result<(), AllocError> {
+    for _ in 1..depth {
+        let key = Text::from_str(alloc, "a")?;
+        *value = Value::Map(field(alloc, key, replace(value, Value::Null))?);
+    }
+    Ok(())
+}
+
+/// The fields with this one alone.
+pub fn field(alloc: Global, key: Text, value: Value) -> Result<Fields, AllocError> {
+    let mut fields = Fields::new(alloc);
+    fields.put(key, value)?;
+    Ok(fields)
 }
 
 // `null`, `true`, `false`, `'x` a string, `@5` a time in microseconds, `^20` a nest, or a number.
@@ -120,12 +170,14 @@ pub fn moment(n: i64) -> Result<Micros, AllocError> {
 
 /// Fields, each a key with `:` behind it and a value.
 pub fn fields(alloc: Global, text: &str) -> Result<Fields, AllocError> {
-    Ok(read(alloc, text, false)?.fields)
+    let mut open = Open::new(alloc, false);
+    open.read_fields(alloc, text)
 }
 
 /// Values in order.
 pub fn values(alloc: Global, text: &str) -> Result<Values, AllocError> {
-    Ok(read(alloc, text, true)?.values)
+    let mut open = Open::new(alloc, true);
+    open.read_values(alloc, text)
 }
 
 /// A field path, or with `*1500` one of a single name of 1,500 bytes.
@@ -155,6 +207,15 @@ fn operation(alloc: Global, word: &str, operand: &str) -> Result<Operation, Allo
 /// Transforms with `;` between each two: a path, an operation and its operand, as `a.b increment 2; c append 'x 'y`.
 pub fn transforms(alloc: Global, text: &str) -> Result<Transforms, AllocError> {
     let mut transforms = Transforms::new(alloc);
+    add_transforms(alloc, &mut transforms, text)?;
+    Ok(transforms)
+}
+
+fn add_transforms(
+    alloc: Global,
+    transforms: &mut Transforms,
+    text: &str,
+) -> Result<(), AllocError> {
     for one in text.split(";") {
         if let Some((at, rest)) = one.trim().split_once(" ") {
             let (word, operand) = rest.split_once(" ").unwrap_or((rest, ""));
@@ -164,7 +225,7 @@ pub fn transforms(alloc: Global, text: &str) -> Result<Transforms, AllocError> {
             })?;
         }
     }
-    Ok(transforms)
+    Ok(())
 }
 
 /// The name of a document of the collection `c`.
@@ -176,14 +237,44 @@ pub fn name_of(alloc: Global, id: &str) -> Result<DocName, AllocError> {
 pub fn act(alloc: Global, id: &str, text: &str, input: &str) -> Result<Act, AllocError> {
     let name = name_of(alloc, id)?;
     let (word, paths) = text.split_once(" ").unwrap_or((text, ""));
-    let fields = SharedFields::of(alloc, fields(alloc, input)?)?;
-    let mut mask = Paths::new(alloc);
-    for one in paths.split_whitespace() {
-        mask.push(path(alloc, one)?)?;
-    }
     Ok(match word {
-        "set" => Act::Set { name, fields },
-        "merge" => Act::Merge { name, fields, mask },
+        "set" => Act::Set {
+            name,
+            fields: shared(alloc, input)?,
+        },
+        "merge" => Act::Merge {
+            name,
+            mask: mask(alloc, paths)?,
+            fields: shared(alloc, input)?,
+        },
         _ => Act::Delete { name },
+    })
+}
+
+/// Fields as a document holds them.
+pub fn shared(alloc: Global, text: &str) -> Result<SharedFields, AllocError> {
+    SharedFields::of(alloc, fields(alloc, text)?)
+}
+
+fn mask(alloc: Global, text: &str) -> Result<Paths, AllocError> {
+    let mut paths = Paths::new(alloc);
+    for one in text.split_whitespace() {
+        paths.push(path(alloc, one)?)?;
+    }
+    Ok(paths)
+}
+
+/// A write with these transforms.
+pub fn write_of(
+    alloc: Global,
+    act: Act,
+    transforms_text: &str,
+    condition: Precondition,
+) -> Result<Write, AllocError> {
+    let transforms = transforms(alloc, transforms_text)?;
+    Ok(Write {
+        act,
+        transforms,
+        condition,
     })
 }

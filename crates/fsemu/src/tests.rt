@@ -31,13 +31,31 @@ fn full(alloc: Global, text: &str) -> Result<String, AllocError> {
 
 /// Runs a script over memory: what it has written, and its status.
 fn played(alloc: Global, word: &str, script: &[u8]) -> Result<(String, Status), Fail> {
-    let mut source = MemorySource::new(Bytes::from_slice(alloc, script)?, Paces::free(alloc));
-    let mut sink = MemorySink::new(alloc, Paces::free(alloc));
-    let status = run_over(alloc, word, &mut source, &mut sink)?;
-    let text = String::from_utf8(sink.given().copy(alloc)?.into_vec())
-        .ok()
-        .ok_or("output is text")?;
-    Ok((text, status))
+    let script = Bytes::from_slice(alloc, script)?;
+    let source = MemorySource::new(script, Paces::free(alloc));
+    played_from(alloc, word, source, Paces::free(alloc))
+}
+
+/// The same from any source, into a sink that goes by these paces.
+fn played_from(
+    alloc: Global,
+    word: &str,
+    mut source: MemorySource,
+    writes: Paces,
+) -> Result<(String, Status), Fail> {
+    let mut sink = MemorySink::new(alloc, writes);
+    told_to(alloc, word, &mut source, &mut sink)
+}
+
+fn told_to(
+    alloc: Global,
+    word: &str,
+    source: &mut MemorySource,
+    sink: &mut MemorySink,
+) -> Result<(String, Status), Fail> {
+    let status = run_over(alloc, word, source, sink)?;
+    let text = String::from_utf8(sink.given().copy(alloc)?.into_vec());
+    Ok((text.ok().ok_or("output is text")?, status))
 }
 
 fn run_over(
@@ -53,13 +71,27 @@ fn run_over(
     Ok(run(&(), alloc, &words, source, sink, &mut doors, &mut clock))
 }
 
-/// Checks a script of any number of lines against what it writes.
-fn expect(rt: &impl Abort, alloc: Global, script: &str, want: &str) -> Result<(), Fail> {
+/// What a script of any number of lines writes.
+fn written(alloc: Global, script: &str) -> Result<String, Fail> {
     let script = full(alloc, script)?;
+    match played(alloc, "replay", script.as_bytes())? {
+        (text, Status::Ok) => Ok(text),
+        _ => Err(Fail::new("another status")),
+    }
+}
+
+/// Checks a script against what it writes.
+fn expect(rt: &impl Abort, alloc: Global, script: &str, want: &str) -> Result<(), Fail> {
     let want = full(alloc, want)?;
-    let (text, status) = played(alloc, "replay", script.as_bytes())?;
-    assert_eq!(rt; text.as_str(), want.as_str());
-    assert_eq!(rt; status, Status::Ok);
+    let text = written(alloc, script)?;
+    assert!(rt; text.as_str() == want.as_str(), "{text}");
+    Ok(())
+}
+
+/// Checks how what a script writes begins.
+fn expect_front(rt: &impl Abort, alloc: Global, script: &str, want: &str) -> Result<(), Fail> {
+    let text = written(alloc, script)?;
+    assert!(rt; text.as_str().starts_with(want), "{text}");
     Ok(())
 }
 
@@ -81,7 +113,7 @@ fn a_commit_and_a_read(rt: HostRuntime) -> Result<(), Fail> {
     let alloc = rt.alloc();
     let want = format!(in alloc; "{ITS_REPLY}{ITS_DOCUMENT}")?;
     // The last newline makes no difference, and an empty script writes nothing.
-    for end in ["", "\n"] {
+    for end in &["", "\n"] {
         let script = format!(in alloc; "{A_COMMIT}\n{A_READ}{end}")?;
         expect(&rt, alloc, script.as_str(), want.as_str())?;
     }
@@ -91,10 +123,9 @@ fn a_commit_and_a_read(rt: HostRuntime) -> Result<(), Fail> {
 #[test]
 fn other_words_are_no_command(rt: HostRuntime) -> Result<(), Fail> {
     let alloc = rt.alloc();
-    for word in ["", "play", "replay ", "--help", "Replay"] {
+    for word in &["", "play", "replay ", "--help", "Replay"] {
         let (text, status) = played(alloc, word, A_COMMIT.as_bytes())?;
-        assert_eq!(rt; status, Status::Usage, "{word}");
-        assert!(rt; text.is_empty(), "{word}");
+        assert!(rt; status == Status::Usage && text.is_empty(), "{word}");
     }
     Ok(())
 }
@@ -107,11 +138,11 @@ fn the_words_follow_the_programs_name(rt: HostRuntime) -> Result<(), Fail> {
         String::from_str(alloc, "replay")?,
     ]?;
     let words = words_of(&given);
-    assert_eq!(rt; words.len(), 1);
-    assert_eq!(rt; words[0].as_str(), "replay");
-    assert_eq!(rt; words_of(&[]).len(), 0);
-    assert_eq!(rt; exit_code(Ok(Status::Usage)), 2);
-    assert_eq!(rt; exit_code(Err(AllocError)), 3);
+    assert!(rt; words.len() == 1);
+    assert!(rt; words[0].as_str() == "replay");
+    assert!(rt; words_of(&[]).is_empty());
+    assert!(rt; exit_code(Ok(Status::Usage)) == 2);
+    assert!(rt; exit_code(Err(AllocError)) == 3);
     Ok(())
 }
 
@@ -185,8 +216,7 @@ fn a_line_is_read_up_to_its_limit(rt: HostRuntime) -> Result<(), Fail> {
     for _ in line.len()..10_485_760 {
         line.push(' ')?;
     }
-    let (text, _) = played(alloc, "replay", line.as_bytes())?;
-    assert!(rt; text.as_str().starts_with("{\"error\":{\"code\":404"));
+    expect_front(&rt, alloc, line.as_str(), "{\"error\":{\"code\":404")?;
     // A longer one isn't, and the next is.
     let script = format!(in alloc; "{line} \n{A_COMMIT}\n")?;
     let want = format!(in alloc; "{TOO_LONG}{ITS_REPLY}")?;
@@ -281,16 +311,14 @@ fn a_commit_has_up_to_five_hundred_writes(rt: HostRuntime) -> Result<(), Fail> {
     let refused =
         "{\"error\":{\"code\":429,\"message\":\"limit writes 500\",\"status\":\"RESOURCE_EXHAUSTED\"},\"session\":\"s\"}\n";
     // It has used no time.
-    for (count, want) in [
+    for (count, want) in &[
         (
             500,
             "{\"result\":{\"commitTime\":\"2024-01-01T00:00:00.000001Z\"",
         ),
         (501, refused),
     ] {
-        let script = deletes(alloc, count)?;
-        let (text, _) = played(alloc, "replay", full(alloc, script.as_str())?.as_bytes())?;
-        assert!(rt; text.as_str().starts_with(want), "{count}");
+        expect_front(&rt, alloc, deletes(alloc, *count)?.as_str(), want)?;
     }
     let script = format!(in alloc; "{}\n{A_COMMIT}", deletes(alloc, 501)?)?;
     let want = format!(in alloc; "{refused}{ITS_REPLY}")?;
@@ -338,16 +366,15 @@ fn a_document_has_up_to_one_mebibyte(rt: HostRuntime) -> Result<(), Fail> {
     let alloc = rt.alloc();
     let refused =
         "{\"error\":{\"code\":400,\"message\":\"write 0: document has 1048577 bytes\",\"status\":\"INVALID_ARGUMENT\"}";
-    for (bytes, want) in [(1_048_521, "{\"result\":"), (1_048_522, refused)] {
+    for (bytes, want) in &[(1_048_521, "{\"result\":"), (1_048_522, refused)] {
         let mut value = String::new(alloc);
-        for _ in 0..bytes {
+        for _ in 0..*bytes {
             value.push('s')?;
         }
         let script = format!(in alloc;
             "{{\"session\":\"s\",\"commit\":{{\"database\":\"@\",\"writes\":[{{\"update\":{{\"name\":\"~/c/a\",\"fields\":{{\"b\":{{\"stringValue\":\"{value}\"}}}}}}}}]}}}}"
         )?;
-        let (text, _) = played(alloc, "replay", full(alloc, script.as_str())?.as_bytes())?;
-        assert!(rt; text.as_str().starts_with(want), "{bytes}");
+        expect_front(&rt, alloc, script.as_str(), want)?;
     }
     Ok(())
 }
@@ -413,11 +440,10 @@ fn nested(alloc: Global, depth: u32) -> Result<String, AllocError> {
 fn values_nest_up_to_twenty_deep(rt: HostRuntime) -> Result<(), Fail> {
     let alloc = rt.alloc();
     let refused = "{\"error\":{\"code\":400,\"message\":\"E6 at commit.writes[0]\"";
-    for (depth, want) in [(20, "{\"result\":"), (21, refused)] {
-        let value = nested(alloc, depth)?;
+    for (depth, want) in &[(20, "{\"result\":"), (21, refused)] {
+        let value = nested(alloc, *depth)?;
         let script = format!(in alloc; "{{\"session\":\"s\",{A_COMMIT_OF}{value}}}}}}}]}}}}")?;
-        let (text, _) = played(alloc, "replay", full(alloc, script.as_str())?.as_bytes())?;
-        assert!(rt; text.as_str().starts_with(want), "{text}");
+        expect_front(&rt, alloc, script.as_str(), want)?;
     }
     Ok(())
 }
@@ -427,42 +453,45 @@ fn a_source_that_fails_leaves_the_lines_before(rt: HostRuntime) -> Result<(), Fa
     let alloc = rt.alloc();
     let first = full(alloc, A_COMMIT)?;
     let script = format!(in alloc; "{first}\n{A_READ}\n")?;
-    let paces = Paces::of(vec![in alloc; Pace::AtMost(first.len() as u64 + 1), Pace::Fail]?);
-    let mut source = MemorySource::new(Bytes::from_slice(alloc, script.as_bytes())?, paces);
-    let mut sink = MemorySink::new(alloc, Paces::free(alloc));
-    let status = run_over(alloc, "replay", &mut source, &mut sink)?;
-    assert_eq!(rt; status, Status::ReadFault);
-    assert_eq!(rt; sink.given().as_slice(), ITS_REPLY.as_bytes());
+    let reads = Paces::of(vec![in alloc; Pace::AtMost(first.len() as u64 + 1), Pace::Fail]?);
+    let source = MemorySource::new(Bytes::from_slice(alloc, script.as_bytes())?, reads);
+    let (text, status) = played_from(alloc, "replay", source, Paces::free(alloc))?;
+    assert!(rt;
+        status == Status::ReadFault && text.as_str() == ITS_REPLY,
+        "{text}"
+    );
     Ok(())
 }
 
 /// Replays a commit into a sink that takes one byte at each of so many calls, and then goes by this pace.
-fn given_in_bytes(alloc: Global, bytes: usize, then: Pace) -> Result<(MemorySink, Status), Fail> {
+fn given_in_bytes(alloc: Global, bytes: usize, then: Pace) -> Result<(String, Status), Fail> {
     let script = full(alloc, A_COMMIT)?;
-    let mut paces = Vec::new(alloc);
+    let mut writes = Vec::new(alloc);
     for _ in 0..bytes {
-        paces.push(Pace::AtMost(1))?;
+        writes.push(Pace::AtMost(1))?;
     }
-    paces.push(then)?;
-    let bytes = Bytes::from_slice(alloc, script.as_bytes())?;
-    let mut source = MemorySource::new(bytes, Paces::free(alloc));
-    let mut sink = MemorySink::new(alloc, Paces::of(paces));
-    let status = run_over(alloc, "replay", &mut source, &mut sink)?;
-    Ok((sink, status))
+    writes.push(then)?;
+    let script = Bytes::from_slice(alloc, script.as_bytes())?;
+    let source = MemorySource::new(script, Paces::free(alloc));
+    played_from(alloc, "replay", source, Paces::of(writes))
 }
 
 #[test]
 fn a_sink_has_a_front_of_the_transcript(rt: HostRuntime) -> Result<(), Fail> {
     let alloc = rt.alloc();
     for bytes in 0..4usize {
-        let (sink, status) = given_in_bytes(alloc, bytes, Pace::Fail)?;
-        assert_eq!(rt; status, Status::WriteFault);
-        assert_eq!(rt; sink.given().len(), bytes);
-        assert!(rt; ITS_REPLY.as_bytes().starts_with(sink.given().as_slice()));
+        let (text, status) = given_in_bytes(alloc, bytes, Pace::Fail)?;
+        assert!(rt;
+            status == Status::WriteFault && text.len() == bytes,
+            "{text}"
+        );
+        assert!(rt; ITS_REPLY.starts_with(text.as_str()), "{text}");
     }
     // One that takes a byte at a time has the whole.
-    let (sink, status) = given_in_bytes(alloc, ITS_REPLY.len(), Pace::Free)?;
-    assert_eq!(rt; status, Status::Ok);
-    assert_eq!(rt; sink.given().as_slice(), ITS_REPLY.as_bytes());
+    let (text, status) = given_in_bytes(alloc, ITS_REPLY.len(), Pace::Free)?;
+    assert!(rt;
+        status == Status::Ok && text.as_str() == ITS_REPLY,
+        "{text}"
+    );
     Ok(())
 }
