@@ -1,7 +1,9 @@
 #!/usr/bin/env python3
-"""Times `./fsemu replay` over workloads, beside parsing and printing the same bytes as plain JSON.
+"""Times the built program over workloads, beside parsing and printing the same bytes as plain JSON.
 
-usage: bench/bench.py [lines [seed]], with FSEMU for another program than ./fsemu
+usage: bench/bench.py [lines [seed]], with FSEMU for another program than the one that ./fsemu builds
+
+What the script ./fsemu takes before it starts the program is told by itself.
 
 The scripts are made from the seed, so that two runs with the same words time the same bytes:
 
@@ -28,7 +30,8 @@ import tempfile
 import time
 
 TOP = os.path.dirname(os.path.dirname(os.path.abspath(__file__)))
-FSEMU = os.environ.get("FSEMU", os.path.join(TOP, "fsemu"))
+SCRIPT = os.path.join(TOP, "fsemu")
+FSEMU = os.environ.get("FSEMU", os.path.join(TOP, "crates", "fsemu", "out", "fsemu"))
 ROOT = "projects/demo/databases/(default)"
 DOCUMENTS = ROOT + "/documents"
 RUNS = 5
@@ -131,9 +134,9 @@ print(time.perf_counter() - start, usage.ru_maxrss, os.waitstatus_to_exitcode(st
 """
 
 
-def timed_fsemu(path):
+def timed_fsemu(path, program=FSEMU):
     with open(path, "rb") as script, tempfile.TemporaryFile() as out:
-        told = subprocess.run([sys.executable, "-c", LAUNCH, FSEMU], stdin=script, stdout=out, stderr=subprocess.PIPE)
+        told = subprocess.run([sys.executable, "-c", LAUNCH, program], stdin=script, stdout=out, stderr=subprocess.PIPE)
         seconds, peak, status = told.stderr.split()
         out.seek(0)
         written = out.read()
@@ -324,7 +327,9 @@ def main():
     lines = int(sys.argv[1]) if len(sys.argv) > 1 else 20000
     seed = int(sys.argv[2]) if len(sys.argv) > 2 else 1
     # Builds it first, where it isn't built.
-    subprocess.run([FSEMU, "replay"], stdin=subprocess.DEVNULL, check=True)
+    subprocess.run([SCRIPT, "replay"], stdin=subprocess.DEVNULL, check=True)
+    script, program = (min(timed_fsemu(os.devnull, it)[0] for _ in range(4 * RUNS)) for it in (SCRIPT, FSEMU))
+    print("no lines: ./fsemu %.0f ms, the program %.0f ms" % (script * 1e3, program * 1e3))
     for name, requests in (("mixed", mixed), ("commits", commits), ("reads", reads), ("old", old_reads)):
         measure(name, requests(lines, random.Random(seed)))
     measure_requests(seed)
