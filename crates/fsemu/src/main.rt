@@ -1,25 +1,8 @@
 //! fsemu: a local Cloud Firestore for tests of transactions, listeners and offline clients.
 #![tactic(auto)]
 
-mod ask;
-mod calls;
-mod close;
-mod directory;
-mod gather;
-mod laws;
-mod limits;
-mod line;
-mod lines;
-mod output;
-mod play;
 mod program;
-mod reply;
-mod request;
 mod run;
-mod state;
-mod step;
-#[cfg(test)]
-mod tests;
 
 use fs_edge::Status;
 use std::process::ExitCode;

@@ -1,15 +1,14 @@
 //! The top call: a command, by the words of its command line.
-ghost use Rattle.std.specs.Prelude.{◌≡◌, ◌≢◌, ◌↔◌, ◌⊎◌, ◌≤◌, ◌∷◌, [], length, map, codes, string_bytes, IsTrue, IfOk, IfSome, OnErr};
+ghost use Rattle.std.specs.Prelude.{◌≡◌, ◌≢◌, ◌↔◌, ◌⊎◌, ◌∷◌, [], length, map, codes, string_bytes, IsTrue, IfSome};
 ghost use Rattle.fs_edge.specs.Count.{Rose};
-ghost use Rattle.fsemu.specs.Limits.{longest_input};
-ghost use Rattle.fsemu.specs.Moved.{Taken, TakenUpTo, IfTaken, Gained, GainedFront};
-ghost use Rattle.fsemu.specs.Run.{Wrote};
-ghost use Rattle.fsemu.specs.Transcript.{transcript};
+ghost use Rattle.fs_replay.specs.Limits.{longest_input};
+ghost use Rattle.fs_replay.specs.Moved.{TakenUpTo, IfTaken, Gained};
+ghost use Rattle.fs_replay.specs.Run.{Wrote};
+ghost use Rattle.fs_replay.specs.Transcript.{transcript};
 
-use crate::gather::gather;
-use crate::play::play;
 use fs_edge::{Clock, Doors, Sink, Source, Status};
-use std::alloc::{AllocError, Global};
+use fs_replay::replay;
+use std::alloc::Global;
 
 /// Runs the program on the words of its command line. `replay` reads a script from the source to its end, carries it
 /// out, and writes the transcript to the sink. All other words are no command: nothing is read or written then.
@@ -51,12 +50,10 @@ pub fn run<Rt, S: Source, K: Sink, D: Doors, C: Clock>(
     ensures limit_told { IfTaken (S.left source.old) (S.left source.new) (λ taken. length taken ≡ longest_input
         → (result ≡ Status.InputLimit) ⊎ ((result ≡ Status.WriteFault) ⊎ ((result ≡ Status.Memory) ⊎ (result ≡ Status.Usage)))) }
 {
-    if !is_replay(words) {
-        return Status::Usage;
-    }
-    match replay(alloc, source, sink) {
-        Ok(status) => status,
-        Err(_) => Status::Memory,
+    if is_replay(words) {
+        replay(alloc, source, sink)
+    } else {
+        Status::Usage
     }
 }
 
@@ -68,34 +65,4 @@ fn is_replay(words: &[String]) -> bool
         [word] => word.as_str() == "replay",
         _ => false,
     }
-}
-
-// Replays a script, as `run` says.
-fn replay<S: Source, K: Sink>(
-    alloc: Global,
-    source: &mut S,
-    sink: &mut K,
-) -> Result<Status, AllocError>
-    ensures ended { IfOk result (λ status. status ≡ Status.Ok → Rose (S.ends source.old) (S.ends source.new)) }
-    ensures all_read { IfOk result (λ status. status ≡ Status.Ok → IfSome (S.left source.new) (λ rest. rest ≡ [])) }
-    ensures transcript { IfOk result (λ status. status ≡ Status.Ok → IfSome (S.left source.old) (λ script.
-        Gained (K.given sink.old) (K.given sink.new) (transcript script))) }
-    ensures taken { TakenUpTo longest_input (S.left source.old) (S.left source.new) }
-    ensures written { IfOk result (λ status. IfTaken (S.left source.old) (S.left source.new) (λ taken.
-        Wrote status taken (K.given sink.old) (K.given sink.new))) }
-    ensures some { IfOk result (λ status. (status ≢ Status.Usage) × (status ≢ Status.DoorFault)) }
-    ensures read_fault { IfOk result (λ status. status ≡ Status.ReadFault → Rose (S.faults source.old) (S.faults source.new)) }
-    ensures write_fault { IfOk result (λ status. status ≡ Status.WriteFault → Rose (K.faults sink.old) (K.faults sink.new)) }
-    ensures limit { IfOk result (λ status. status ≡ Status.InputLimit → IfTaken (S.left source.old) (S.left source.new)
-        (λ taken. length taken ≡ longest_input)) }
-    ensures limit_told { IfOk result (λ status. IfTaken (S.left source.old) (S.left source.new) (λ taken.
-        length taken ≡ longest_input → (status ≡ Status.InputLimit) ⊎ (status ≡ Status.WriteFault))) }
-    ensures err { OnErr result (IfTaken (S.left source.old) (S.left source.new) (λ taken.
-        GainedFront (K.given sink.old) (K.given sink.new) (transcript taken))) }
-{
-    let input = gather(alloc, source)?;
-    if !play(alloc, &input.bytes, input.stop.is_whole(), sink)? {
-        return Ok(Status::WriteFault);
-    }
-    Ok(input.stop.status())
 }

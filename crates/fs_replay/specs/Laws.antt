@@ -1,0 +1,144 @@
+-- What the laws of scripts speak of.
+use Rattle.std.specs.Prelude.{◌≡◌, ℕ, ◌+◌, ◌≤◌, Bool, true, false, ◌||◌, ◌==◌, is_none, List, [], ◌∷◌, ◌++◌, Option, Some, None, Result, Ok, Err}
+use Rattle.std.specs.List.{list_any, AllByRecursion}
+use Rattle.fs_path.specs.declared.name.DocName.{DocName}
+use Rattle.fs_json.specs.declared.bad.Bad.{Bad}
+use Rattle.fs_machine.specs.Commit.{commit_refusal}
+use Rattle.fs_machine.specs.Facts.{Facts}
+use Rattle.fs_machine.specs.Limits.{greatest}
+use Rattle.fs_machine.specs.Open.{open_answer, opened}
+use Rattle.fs_machine.specs.State.{Machine}
+use Rattle.fs_machine.specs.declared.session.Session.{Session}
+use Rattle.fs_rpc.specs.declared.envelope.SessionRequest.{SessionRequest}
+use Rattle.fs_rpc.specs.declared.request.Request.{Request}
+use Rattle.fs_rpc.specs.declared.request.Request.TheVariants.{Commit, GetDocument, BatchGetDocuments, RunQuery}
+use Rattle.fs_status.specs.declared.refusal.Refusal.{Refusal}
+use Rattle.fs_write.specs.WrittenName.{is_written}
+use Rattle.fs_write.specs.declared.write.Write.{Write}
+use Rattle.fs_replay.specs.Directory.{number_of}
+use Rattle.fs_replay.specs.Line.{line_of}
+use Rattle.fs_replay.specs.Step.{after_line, IsIdle}
+use Rattle.fs_replay.specs.declared.directory.Named.{Named}
+use Rattle.fs_replay.specs.declared.request.Line.{Line}
+use Rattle.fs_replay.specs.declared.request.Line.TheVariants as line
+use Rattle.fs_replay.specs.declared.state.State.{State}
+
+-- ---- between two lines
+
+abbrev pub is_open : ℕ → List Session → Bool
+is_open number ss = list_any (λ s. s.number == number) ss
+
+abbrev pub IsOpen : List Session → Named → Type 0
+IsOpen ss n = is_open n.number ss ≡ true
+
+-- nothing waits for it to be told
+abbrev pub HasNothing : Session → Type 0
+HasNothing session = session.outbox ≡ []
+
+-- in the order of opening their numbers rise, from one on and below another
+abbrev pub NumbersRise : ℕ → ℕ → List Named → Type 0
+NumbersRise from to [] = from ≤ to
+NumbersRise from to (n ∷ ns) = (from ≤ n.number) × NumbersRise (n.number + 1) to ns
+
+pub record IsBetweenLines (s : State) : Type 0 where
+  -- no commit is under way, and nothing waits to be told
+  pub idle : IsIdle s
+  pub empty : AllByRecursion HasNothing s.server.sessions.list
+  -- the sessions that the script knows are open, and each has a number of its own, below the one that is given next
+  pub open_all : AllByRecursion (IsOpen s.server.sessions.list) s.directory
+  pub numbers : NumbersRise 0 s.server.sessions.given s.directory
+  pub facts : Facts s.server
+  pub limits : s.server.limits ≡ greatest
+
+-- ---- lines
+
+-- the state after lines, the first of which has this number
+abbrev pub after_lines : State → ℕ → List (List ℕ) → State
+after_lines s n [] = s
+after_lines s n (line ∷ lines) = after_lines (after_line s n line) (n + 1) lines
+
+abbrev pub line_in_state : State → List ℕ → Line
+line_in_state s bytes = line_of s.server.config.root bytes
+
+-- whether a line is answered
+abbrev pub is_answered : Line → Bool
+is_answered line.Empty = false
+is_answered line.NotBuilt = true
+is_answered (line.Refused reason) = true
+is_answered (line.Asked a) = true
+is_answered (line.Clock time) = false
+is_answered (line.Compact time) = false
+is_answered (line.Leave name) = false
+
+-- whether it gives nothing in any case
+abbrev pub is_silent : Line → Bool
+is_silent line.Empty = true
+is_silent line.NotBuilt = false
+is_silent (line.Refused reason) = false
+is_silent (line.Asked a) = false
+is_silent (line.Clock time) = true
+is_silent (line.Compact time) = true
+is_silent (line.Leave name) = false
+
+-- one line of output: a text without a newline, and its newline
+abbrev pub IsOneLine : List ℕ → Type 0
+IsOneLine output = (text : List ℕ) × (output ≡ text ++ 10 ∷ []) × (list_any (λ b. b == 10) text ≡ false)
+
+-- ---- commits
+
+-- the writes that a line asks for
+abbrev pub writes_of : Result Request Bad → List Write
+writes_of (Ok (Commit database writes)) = writes
+writes_of (Ok (GetDocument name mask time)) = []
+writes_of (Ok (BatchGetDocuments database names mask time)) = []
+writes_of (Ok (RunQuery database query time)) = []
+writes_of (Err bad) = []
+
+abbrev pub asked_writes : Line → List Write
+asked_writes line.Empty = []
+asked_writes line.NotBuilt = []
+asked_writes (line.Refused reason) = []
+asked_writes (line.Asked a) = writes_of a.request
+asked_writes (line.Clock time) = []
+asked_writes (line.Compact time) = []
+asked_writes (line.Leave name) = []
+
+-- whether one of the lines writes a name
+abbrev pub is_written_in : DocName → State → ℕ → List (List ℕ) → Bool
+is_written_in name s n [] = false
+is_written_in name s n (line ∷ lines) = is_written name (asked_writes (line_in_state s line)) || is_written_in name (after_line s n line) (n + 1) lines
+
+-- whether a request on the session of a number is a commit that passes no limit
+abbrev pub commits_on : Machine → ℕ → Result Request Bad → Bool
+commits_on m session (Ok (Commit database writes)) = is_none (commit_refusal m session writes)
+commits_on m session (Ok (GetDocument name mask time)) = false
+commits_on m session (Ok (BatchGetDocuments database names mask time)) = false
+commits_on m session (Ok (RunQuery database query time)) = false
+commits_on m session (Err bad) = false
+
+abbrev pub commits_opened : Machine → Result Request Bad → Result ℕ Refusal → Bool
+commits_opened m request (Ok session) = commits_on m session request
+commits_opened m request (Err refusal) = false
+
+abbrev pub commits_in : Machine → SessionRequest → Option ℕ → Bool
+commits_in m a (Some session) = commits_on m session a.request
+commits_in m a None = commits_opened (opened m) a.request (open_answer m)
+
+abbrev pub is_commit : State → Line → Bool
+is_commit s line.Empty = false
+is_commit s line.NotBuilt = false
+is_commit s (line.Refused reason) = false
+is_commit s (line.Asked a) = commits_in s.server a (number_of a.session s.directory)
+is_commit s (line.Clock time) = false
+is_commit s (line.Compact time) = false
+is_commit s (line.Leave name) = false
+
+-- whether a line may move what was committed, or its times
+abbrev pub may_move : State → Line → Bool
+may_move s line.Empty = false
+may_move s line.NotBuilt = false
+may_move s (line.Refused reason) = false
+may_move s (line.Asked a) = is_commit s (line.Asked a)
+may_move s (line.Clock time) = true
+may_move s (line.Compact time) = true
+may_move s (line.Leave name) = false

@@ -1,0 +1,34 @@
+-- What a script writes: each line's output, one after another.
+use Rattle.std.specs.Prelude.{ℕ, ◌+◌, ◌==◌, Bool, true, false, List, [], ◌∷◌, ◌++◌}
+use Rattle.std.specs.List.{slice_split}
+use Rattle.fs_replay.specs.declared.state.State.{State}
+use Rattle.fs_replay.specs.Step.{start, after_line, line_output}
+
+-- The lines of a script are its parts between newlines. What stands after the last newline is a line too, and an
+-- empty line where nothing does.
+abbrev pub lines_of : List ℕ → List (List ℕ)
+lines_of bytes = slice_split (λ b. b == 10) bytes
+
+-- those that have their newline
+abbrev pub all_but_last : List (List ℕ) → List (List ℕ)
+all_but_last [] = []
+all_but_last (line ∷ []) = []
+all_but_last (line ∷ next ∷ lines) = line ∷ all_but_last (next ∷ lines)
+
+-- what lines write from a state on, where the first of them has this number
+abbrev pub written : State → ℕ → List (List ℕ) → List ℕ
+written state number [] = []
+written state number (line ∷ lines) = line_output state number line ++ written (after_line state number line) (number + 1) lines
+
+-- what the lines of a text write from a state on, with the last line or without it
+abbrev pub played : Bool → State → ℕ → List ℕ → List ℕ
+played true state number text = written state number (lines_of text)
+played false state number text = written state number (all_but_last (lines_of text))
+
+-- what a whole script writes
+abbrev pub transcript : List ℕ → List ℕ
+transcript script = played true start 1 script
+
+-- what a script that was cut off writes: the output of the lines that have their newline
+abbrev pub begun : List ℕ → List ℕ
+begun script = played false start 1 script

@@ -1,0 +1,22 @@
+//! Scripts of requests to a Firestore server: each line is carried out in its turn, and what it writes is the transcript.
+#![tactic(auto)]
+
+mod ask;
+mod calls;
+mod close;
+mod directory;
+mod gather;
+mod laws;
+mod limits;
+mod line;
+mod lines;
+mod output;
+mod play;
+mod replay;
+mod reply;
+mod request;
+mod state;
+mod step;
+
+pub use laws::scripts_are_lawful;
+pub use replay::replay;

@@ -1,0 +1,189 @@
+//! Reading the lines of a script.
+ghost use Rattle.std.specs.Prelude.{◌≡◌, IfOk, codes, map, option_map};
+ghost use Rattle.serde_json.specs.View.{view};
+ghost use Rattle.fs_json.specs.Answer.{Gives};
+ghost use Rattle.fs_path.specs.Way.{place_of};
+ghost use Rattle.fs_rpc.specs.Envelope.{session_request_at};
+ghost use Rattle.fs_rpc.specs.Times.{required_time_at};
+ghost use Rattle.fs_replay.specs.Line.{form_of, has_any, is_unbuilt_form, IsFault, json_of, leave_at, line_of, line_read, line_reason, time_line_at};
+
+use crate::limits::LONGEST_LINE;
+use crate::request::Line;
+use fs_json::{Bad, only, required, text, time};
+use fs_path::{Place, Root, Rule, Text, Way};
+use fs_rpc::read_session_request;
+use fs_status::{LineFault, Reason};
+use fs_time::Micros;
+use serde_json::Value;
+use std::alloc::{AllocError, Global};
+
+/// The forms of lines that aren't built, each told by a member.
+const UNBUILT_FORMS: [&str; 7] = [
+    "manual", "settle", "retry", "load", "match", "raise", "client",
+];
+
+// The members that tell the other forms.
+const CLOCK: &str = "clock";
+
+const COMPACT: &str = "compact";
+
+const LEAVE: &str = "leave";
+
+const SESSION: &str = "session";
+
+// Whether an object has a member of one of these names, whatever it holds.
+fn has_any(v: &Value, names: &[&str]) -> bool
+    ensures { result ≡ has_any (map (λ n. n.now) names.now) (view v.now) }
+{
+    match names {
+        [] => false,
+        [name, rest @ ..] => v.get(*name).is_some() || has_any(v, rest),
+    }
+}
+
+fn is_unbuilt_form(v: &Value) -> bool
+    ensures { result ≡ is_unbuilt_form (view v.now) }
+{
+    has_any(v, &UNBUILT_FORMS)
+}
+
+// The value of a line that is JSON.
+fn json_of(alloc: Global, line: &[u8]) -> Result<Option<Value>, AllocError>
+    ensures { IfOk result (λ found. option_map view found ≡ json_of line.now) }
+{
+    match Value::from_slice(alloc, line) {
+        Ok(v) => Ok(Some(v)),
+        Err(e) => {
+            if e.is_memory() {
+                Err(AllocError)
+            } else {
+                Ok(None)
+            }
+        }
+    }
+}
+
+/// Reads a line without its newline.
+pub fn read_line(alloc: Global, root: &Root, line: &[u8]) -> Result<Line, AllocError>
+    ensures { IfOk result (λ l. l ≡ line_of root.now line.now) }
+{
+    if line.is_empty() {
+        return Ok(Line::Empty);
+    }
+    if line.len() > LONGEST_LINE {
+        let bytes = line.len() as u64;
+        return Ok(Line::Refused(Reason::Line(LineFault::HasBytes(bytes))));
+    }
+    match json_of(alloc, line)? {
+        Some(v) => line_in(alloc, root, &v),
+        None => Ok(Line::Refused(Reason::Line(LineFault::NotAnObject))),
+    }
+}
+
+fn line_in(alloc: Global, root: &Root, v: &Value) -> Result<Line, AllocError>
+    ensures { IfOk result (λ l. l ≡ form_of root.now (view v.now)) }
+{
+    if is_unbuilt_form(v) {
+        return Ok(Line::NotBuilt);
+    }
+    if v.get(CLOCK).is_some() {
+        return clock_in(alloc, v);
+    }
+    if v.get(COMPACT).is_some() {
+        return compact_in(alloc, v);
+    }
+    if v.get(LEAVE).is_some() {
+        return leave_in(alloc, v);
+    }
+    request_in(alloc, root, v)
+}
+
+fn clock_in(alloc: Global, v: &Value) -> Result<Line, AllocError>
+    ensures { IfOk result (λ l. l ≡ line_read Line.Clock (time_line_at (codes "clock") (view v.now))) }
+{
+    match time_in(alloc, v, CLOCK) {
+        Ok(time) => Ok(Line::Clock(time)),
+        Err(bad) => refused(bad),
+    }
+}
+
+fn compact_in(alloc: Global, v: &Value) -> Result<Line, AllocError>
+    ensures { IfOk result (λ l. l ≡ line_read Line.Compact (time_line_at (codes "compact") (view v.now))) }
+{
+    match time_in(alloc, v, COMPACT) {
+        Ok(time) => Ok(Line::Compact(time)),
+        Err(bad) => refused(bad),
+    }
+}
+
+fn leave_in(alloc: Global, v: &Value) -> Result<Line, AllocError>
+    ensures { IfOk result (λ l. l ≡ line_read Line.Leave (leave_at (view v.now))) }
+{
+    match leaving_in(alloc, v) {
+        Ok(name) => Ok(Line::Leave(name)),
+        Err(bad) => refused(bad),
+    }
+}
+
+fn request_in(alloc: Global, root: &Root, v: &Value) -> Result<Line, AllocError>
+    ensures { IfOk result (λ l. l ≡ line_read Line.Asked (session_request_at root.now (view v.now))) }
+{
+    match read_session_request(alloc, root, v) {
+        Ok(asked) => Ok(Line::Asked(asked)),
+        Err(bad) => refused(bad),
+    }
+}
+
+// A line that isn't read.
+fn refused(bad: Bad) -> Result<Line, AllocError>
+    ensures { IfOk result (λ l. IsFault bad × (l ≡ Line.Refused (line_reason bad))) }
+{
+    match bad {
+        Bad::At(rule, place) => Ok(Line::Refused(line_fault(rule, place))),
+        Bad::Method(name) => Ok(Line::Refused(Reason::Method(name))),
+        Bad::Memory(e) => Err(e),
+    }
+}
+
+// The time of a line that has nothing else.
+fn time_in(alloc: Global, v: &Value, name: &str) -> Result<Micros, Bad>
+    ensures { Gives (λ t. t) result (time_line_at name.now (view v.now)) }
+{
+    let top = Way::method("");
+    only(alloc, v, &[name], &top)?;
+    required_time(alloc, v, name, &top)
+}
+
+// A time that has to be there.
+fn required_time(alloc: Global, v: &Value, name: &str, place: &Way<'_>) -> Result<Micros, Bad>
+    ensures { Gives (λ t. t) result (required_time_at name.now (view v.now) (place_of place.now)) }
+{
+    let moment = required(alloc, v, name, place)?;
+    time(alloc, moment, &place.member(name))
+}
+
+// The name of a session that leaves.
+fn leaving_in(alloc: Global, v: &Value) -> Result<Text, Bad>
+    ensures { Gives (λ t. t) result (leave_at (view v.now)) }
+{
+    let top = Way::method("");
+    only(alloc, v, &[SESSION, LEAVE], &top)?;
+    let session = required(alloc, v, SESSION, &top)?;
+    let name = text(alloc, session, &Way::method(SESSION))?;
+    let leave = required(alloc, v, LEAVE, &top)?;
+    if leave.as_bool() == Some(true) {
+        return Ok(name);
+    }
+    Err(Bad::at(alloc, Rule::G, &Way::method(LEAVE)))
+}
+
+// Why a line is refused that breaks a rule at a place. One whose own place is at fault is no object of any form.
+fn line_fault(rule: Rule, place: Place) -> Reason
+    ensures { result ≡ line_reason (Bad.At rule place) }
+{
+    if place.as_str().is_empty() {
+        Reason::Line(LineFault::NotAnObject)
+    } else {
+        Reason::Rule(rule, place)
+    }
+}

@@ -1,0 +1,76 @@
+//! The top call: a script from a source, and its transcript into a sink.
+ghost use Rattle.std.specs.Prelude.{◌≡◌, ◌≢◌, ◌⊎◌, [], length, IfOk, IfSome, OnErr};
+ghost use Rattle.fs_edge.specs.Count.{Rose};
+ghost use Rattle.fs_replay.specs.Limits.{longest_input};
+ghost use Rattle.fs_replay.specs.Moved.{TakenUpTo, IfTaken, Gained, GainedFront};
+ghost use Rattle.fs_replay.specs.Run.{Wrote};
+ghost use Rattle.fs_replay.specs.Transcript.{transcript};
+
+use crate::gather::gather;
+use crate::play::play;
+use fs_edge::{Sink, Source, Status};
+use std::alloc::{AllocError, Global};
+
+/// Reads a script from the source to its end, carries it out, and writes the transcript to the sink.
+///
+/// `Ok` where the source told its end and all was written; `ReadFault` or `InputLimit` where the lines were carried out that
+/// had come with their newline by then; `WriteFault` or `Memory` where the sink has a beginning of the transcript.
+pub fn replay<S: Source, K: Sink>(alloc: Global, source: &mut S, sink: &mut K) -> Status
+    ensures some { (result ≢ Status.Usage) × (result ≢ Status.DoorFault) }
+
+    // At status 0 the source told its end, and the sink has gained the transcript of all that the source had.
+    ensures ended { result ≡ Status.Ok → Rose (S.ends source.old) (S.ends source.new) }
+    ensures all_read { result ≡ Status.Ok → IfSome (S.left source.new) (λ rest. rest ≡ []) }
+    ensures transcript { result ≡ Status.Ok → IfSome (S.left source.old) (λ script.
+        Gained (K.given sink.old) (K.given sink.new) (transcript script)) }
+
+    // At each status some bytes were taken, and the sink has gained what they give.
+    ensures taken { TakenUpTo longest_input (S.left source.old) (S.left source.new) }
+    ensures written { IfTaken (S.left source.old) (S.left source.new) (λ taken.
+        Wrote result taken (K.given sink.old) (K.given sink.new)) }
+
+    // A fault has its cause in what was handed in.
+    ensures read_fault { result ≡ Status.ReadFault → Rose (S.faults source.old) (S.faults source.new) }
+    ensures write_fault { result ≡ Status.WriteFault → Rose (K.faults sink.old) (K.faults sink.new) }
+
+    // The input limit is told exactly where so many bytes were taken, but for a write fault and want of memory.
+    ensures limit { result ≡ Status.InputLimit → IfTaken (S.left source.old) (S.left source.new) (λ taken.
+        length taken ≡ longest_input) }
+    ensures limit_told { IfTaken (S.left source.old) (S.left source.new) (λ taken. length taken ≡ longest_input
+        → (result ≡ Status.InputLimit) ⊎ ((result ≡ Status.WriteFault) ⊎ (result ≡ Status.Memory))) }
+{
+    match replay_all(alloc, source, sink) {
+        Ok(status) => status,
+        Err(_) => Status::Memory,
+    }
+}
+
+// The same, where want of memory has its own answer.
+fn replay_all<S: Source, K: Sink>(
+    alloc: Global,
+    source: &mut S,
+    sink: &mut K,
+) -> Result<Status, AllocError>
+    ensures ended { IfOk result (λ status. status ≡ Status.Ok → Rose (S.ends source.old) (S.ends source.new)) }
+    ensures all_read { IfOk result (λ status. status ≡ Status.Ok → IfSome (S.left source.new) (λ rest. rest ≡ [])) }
+    ensures transcript { IfOk result (λ status. status ≡ Status.Ok → IfSome (S.left source.old) (λ script.
+        Gained (K.given sink.old) (K.given sink.new) (transcript script))) }
+    ensures taken { TakenUpTo longest_input (S.left source.old) (S.left source.new) }
+    ensures written { IfOk result (λ status. IfTaken (S.left source.old) (S.left source.new) (λ taken.
+        Wrote status taken (K.given sink.old) (K.given sink.new))) }
+    ensures some { IfOk result (λ status. (status ≢ Status.Usage) × (status ≢ Status.DoorFault)) }
+    ensures read_fault { IfOk result (λ status. status ≡ Status.ReadFault → Rose (S.faults source.old) (S.faults source.new)) }
+    ensures write_fault { IfOk result (λ status. status ≡ Status.WriteFault → Rose (K.faults sink.old) (K.faults sink.new)) }
+    ensures limit { IfOk result (λ status. status ≡ Status.InputLimit → IfTaken (S.left source.old) (S.left source.new)
+        (λ taken. length taken ≡ longest_input)) }
+    ensures limit_told { IfOk result (λ status. IfTaken (S.left source.old) (S.left source.new) (λ taken.
+        length taken ≡ longest_input → (status ≡ Status.InputLimit) ⊎ (status ≡ Status.WriteFault))) }
+    ensures err { OnErr result (IfTaken (S.left source.old) (S.left source.new) (λ taken.
+        GainedFront (K.given sink.old) (K.given sink.new) (transcript taken))) }
+{
+    let input = gather(alloc, source)?;
+    if !play(alloc, &input.bytes, input.stop.is_whole(), sink)? {
+        return Ok(Status::WriteFault);
+    }
+    Ok(input.stop.status())
+}

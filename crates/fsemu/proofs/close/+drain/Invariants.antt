@@ -1,5 +1,0 @@
-use Rattle.std.proofs.Common.{length}
-use Rattle.fsemu.proofs.close.+drain.Given as goal
-
-abbrev pub decreases-drain : goal.decreases-drain
-decreases-drain l = length l.named.now

@@ -1,9 +1,0 @@
-use Rattle.std.proofs.Common.{arith}
-use Rattle.std.proofs.lemmas.List.{length-take}
-use Rattle.fsemu.specs.Limits.{longest_input}
-use Rattle.fsemu.proofs.Flow.{taken_up_to_more, on_err_anyhow}
-use Rattle.fsemu.proofs.gather.gather.Goals as goal
-
-pub returns-in_err-take_next-clause-err : goal.returns-in_err-take_next-clause-err
-returns-in_err-take_next-clause-err g c =
-    on_err_anyhow _ (taken_up_to_more _ _ _ c.loop-bytes.bytes.items _ longest_input c.loop-bytes.invariant.taken c.in_err-take_next.ensures.err (omega (arith, length-take c.min-room.result c.deref_mut.result.now)))

@@ -1,8 +1,0 @@
-use Rattle.serde_json.specs.View.{view}
-use Rattle.fsemu.specs.Line.{leave_at}
-use Rattle.fsemu.specs.declared.request.Line.TheVariants as line
-use Rattle.fsemu.proofs.Reading.{read_refused}
-use Rattle.fsemu.proofs.line.leave_in.Goals as goal
-
-pub returns-in-Err : goal.returns-in-Err
-returns-in-Err c = read_refused (λ x. x) line.Leave c.in-Err.bad (leave_at (view c.args.v.now)) c.refused.result c.in-Err.ensures c.refused.ensures
