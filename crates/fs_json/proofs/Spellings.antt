@@ -1,5 +1,5 @@
 -- A key without a `_` is no name's second spelling.
-use Rattle.std.proofs.Common.{◌≡◌, ◌||◌, ◌&&◌, ℕ, List, [], ◌∷◌, Bool, true, false, cond, refl, sym, ◌∙◌, ap, subst, true≢false}
+use Rattle.std.proofs.Common.{◌≡◌, ◌||◌, ◌&&◌, ℕ, List, [], ◌∷◌, Bool, true, false, cond, refl, sym, ◌∙◌, ap, true≢false}
 use Rattle.std.specs.Prelude.{◌==◌, not, is_some}
 use Rattle.std.specs.Char.{is_ascii_uppercase, to_ascii_lowercase}
 use Rattle.std.specs.List.{list_any}
@@ -16,10 +16,6 @@ has_low_line = list_any (λ c. c == 95)
 neither : (a b : Bool) → (a || b) ≡ false → (a ≡ false) × (b ≡ false)
 neither true b h = absurd (true≢false h)
 neither false b h = (refl, h)
-
--- the snake_case spelling of a name, by its first letter
-spelled : Bool → ℕ → List ℕ → List ℕ
-spelled upper c cs = cond upper (95 ∷ to_ascii_lowercase c ∷ cs) (c ∷ cs)
 
 -- of a name whose second spelling has no `_`, that is the name
 plain : (name : List ℕ) → has_low_line (snake_of name) ≡ false → snake_of name ≡ name

@@ -1,5 +1,15 @@
-//! Tests of what fs_json gives, by its public calls.
+//! Tests of what is read from JSON and written: of fs_json, fs_valjson, fs_writejson, fs_query, fs_queryjson and fs_rpc, by their public calls.
 #![tactic(auto)]
 
 #[cfg(test)]
-mod tests;
+mod json;
+#[cfg(test)]
+mod query;
+#[cfg(test)]
+mod queryjson;
+#[cfg(test)]
+mod rpc;
+#[cfg(test)]
+mod valjson;
+#[cfg(test)]
+mod writejson;

@@ -6,6 +6,7 @@ pub mod Floats
 mod Json
 mod Places
 mod Reading
+mod Plain
 mod OneLine
 mod Standing
 mod Told

@@ -93,6 +93,15 @@ abbrev pub line_of : Root → List ℕ → Line
 line_of root [] = line.Empty
 line_of root (b ∷ bs) = if nat_lt longest_line (length (b ∷ bs)) then line.Refused (too_long (length (b ∷ bs))) else line_in root (json_of (b ∷ bs))
 
+-- for private clauses: a line whose form is told by a member that no request has
+abbrev pub told_in : Data → Option Line
+told_in d =
+    if is_unbuilt_form d then Some line.NotBuilt
+    else if has (codes "clock") d then Some (line_read line.Clock (time_line_at (codes "clock") d))
+    else if has (codes "compact") d then Some (line_read line.Compact (time_line_at (codes "compact") d))
+    else if has (codes "leave") d then Some (line_read line.Leave (leave_at d))
+    else None
+
 -- for private clauses: a fault, and not want of memory
 abbrev pub IsFault : Bad → Type 0
 IsFault (At rule place) = Unit {0}

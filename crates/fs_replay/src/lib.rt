@@ -12,11 +12,11 @@ mod line;
 mod lines;
 mod output;
 mod play;
-mod replay;
 mod reply;
 mod request;
+mod script;
 mod state;
 mod step;
 
 pub use laws::scripts_are_lawful;
-pub use replay::replay;
+pub use script::replay;

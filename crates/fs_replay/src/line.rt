@@ -3,9 +3,8 @@ ghost use Rattle.std.specs.Prelude.{◌≡◌, IfOk, codes, map, option_map};
 ghost use Rattle.serde_json.specs.View.{view};
 ghost use Rattle.fs_json.specs.Answer.{Gives};
 ghost use Rattle.fs_path.specs.Way.{place_of};
-ghost use Rattle.fs_rpc.specs.Envelope.{session_request_at};
 ghost use Rattle.fs_rpc.specs.Times.{required_time_at};
-ghost use Rattle.fs_replay.specs.Line.{form_of, has_any, is_unbuilt_form, IsFault, json_of, leave_at, line_of, line_read, line_reason, time_line_at};
+ghost use Rattle.fs_replay.specs.Line.{form_of, has_any, is_unbuilt_form, IsFault, json_of, leave_at, line_of, line_read, line_reason, time_line_at, told_in};
 
 use crate::limits::LONGEST_LINE;
 use crate::request::Line;
@@ -80,22 +79,36 @@ pub fn read_line(alloc: Global, root: &Root, line: &[u8]) -> Result<Line, AllocE
     }
 }
 
+// No member of a request tells another form, so that is looked for only where a line isn't read as a request.
 fn line_in(alloc: Global, root: &Root, v: &Value) -> Result<Line, AllocError>
     ensures { IfOk result (λ l. l ≡ form_of root.now (view v.now)) }
 {
+    match read_session_request(alloc, root, v) {
+        Ok(asked) => Ok(Line::Asked(asked)),
+        Err(bad) => match told_line(alloc, v)? {
+            Some(line) => Ok(line),
+            None => refused(bad),
+        },
+    }
+}
+
+// The line whose form a member tells that no request has.
+fn told_line(alloc: Global, v: &Value) -> Result<Option<Line>, AllocError>
+    ensures { IfOk result (λ found. found ≡ told_in (view v.now)) }
+{
     if is_unbuilt_form(v) {
-        return Ok(Line::NotBuilt);
+        return Ok(Some(Line::NotBuilt));
     }
     if v.get(CLOCK).is_some() {
-        return clock_in(alloc, v);
+        return Ok(Some(clock_in(alloc, v)?));
     }
     if v.get(COMPACT).is_some() {
-        return compact_in(alloc, v);
+        return Ok(Some(compact_in(alloc, v)?));
     }
     if v.get(LEAVE).is_some() {
-        return leave_in(alloc, v);
+        return Ok(Some(leave_in(alloc, v)?));
     }
-    request_in(alloc, root, v)
+    Ok(None)
 }
 
 fn clock_in(alloc: Global, v: &Value) -> Result<Line, AllocError>
@@ -121,15 +134,6 @@ fn leave_in(alloc: Global, v: &Value) -> Result<Line, AllocError>
 {
     match leaving_in(alloc, v) {
         Ok(name) => Ok(Line::Leave(name)),
-        Err(bad) => refused(bad),
-    }
-}
-
-fn request_in(alloc: Global, root: &Root, v: &Value) -> Result<Line, AllocError>
-    ensures { IfOk result (λ l. l ≡ line_read Line.Asked (session_request_at root.now (view v.now))) }
-{
-    match read_session_request(alloc, root, v) {
-        Ok(asked) => Ok(Line::Asked(asked)),
         Err(bad) => refused(bad),
     }
 }

@@ -17,9 +17,8 @@ fn push_line(alloc: Global, out: &mut Vec<u8>, v: &Value) -> Result<(), AllocErr
     requires { has_float (view v.now) ≡ false }
     ensures { OnOk result (out.new.items ≡ out.old.items ++ json_line (view v.now)) }
 {
-    let mut text = v.to_string(alloc)?;
-    text.push('\n')?;
-    out.extend_from_slice(text.as_bytes())
+    out.extend_from_slice(&v.to_vec(alloc)?)?;
+    Ok(out.push(b'\n')?)
 }
 
 // ---- lines that are at fault

@@ -1,3 +1,4 @@
+//! Scripts with their transcripts: each line in its turn, and sources and sinks that fail.
 mod queries;
 mod rows;
 mod tables;

@@ -1,0 +1,13 @@
+//! Tests of writes, histories, versions, the store and the server, by the public calls of their libraries.
+#![tactic(auto)]
+
+#[cfg(test)]
+mod history;
+#[cfg(test)]
+mod server;
+#[cfg(test)]
+mod store;
+#[cfg(test)]
+mod versions;
+#[cfg(test)]
+mod write;

@@ -1,0 +1,8 @@
+//! Tests of what fs_server gives, by its public calls.
+
+mod asked;
+mod limits;
+mod steps;
+mod tables;
+mod tests;
+mod told;

@@ -1,0 +1,5 @@
+//! Tests of what fs_store gives, by its public calls.
+
+mod database;
+mod tables;
+mod tests;

@@ -1,7 +1,0 @@
-//! Tests of what fs_path gives, by its public calls.
-#![tactic(auto)]
-
-#[cfg(test)]
-mod tables;
-#[cfg(test)]
-mod tests;

@@ -1,0 +1,116 @@
+-- A line that is read as a request has no member that tells another form.
+use Rattle.std.proofs.Common.{◌≡◌, ℕ, Bool, true, false, List, [], ◌∷◌, ◌++◌, Option, Some, None, Result, Ok, Err, ◌||◌, ◌∙◌, unwrap_or, refl, sym, ap, is_some, codes, if◌then◌else◌}
+use Rattle.std.proofs.lemmas.Map.Lookups.{exact_bytes}
+use Rattle.std.specs.Cmp.Lexicographic.{slice_cmp}
+use Rattle.std.specs.Bool.{⊤}
+use Rattle.std.specs.List.{list_any}
+use Rattle.std.specs.Option.{option_map_or, option_or}
+use Rattle.std.specs.Ordering.{nat_cmp, match_ordering}
+use Rattle.std.specs.declared.cmp.Ordering.{Ordering}
+use Rattle.std.specs.declared.cmp.Ordering.TheVariants.{Less, Equal, Greater}
+use Rattle.serde_json.specs.Data.{Data, null, boolean, number, string, array, object, Members, no_members, member}
+use Rattle.serde_json.specs.Find.{get_member}
+use Rattle.fs_json.specs.Answer.{◌>>=◌}
+use Rattle.fs_json.specs.Members.{first_twice, first_unknown, only_at}
+use Rattle.fs_json.specs.Names.{spells}
+use Rattle.fs_json.specs.declared.bad.Bad.{Bad}
+use Rattle.fs_json.specs.declared.bad.Bad.TheVariants.{At}
+use Rattle.fs_path.specs.Place.{member_place}
+use Rattle.fs_path.specs.declared.name.Root.{Root}
+use Rattle.fs_path.specs.declared.place.Rule.TheVariants.{G}
+use Rattle.fs_rpc.specs.Envelope.{session_request_at}
+use Rattle.fs_rpc.specs.Methods.{methods, session_head}
+use Rattle.fs_rpc.specs.declared.envelope.SessionRequest.{SessionRequest}
+use Rattle.fs_replay.specs.Line.{form_of, has, has_any, is_unbuilt_form, line_read, told_in, unbuilt_forms}
+use Rattle.fs_replay.specs.declared.request.Line.{Line}
+use Rattle.fs_replay.specs.declared.request.Line.TheVariants as line
+
+-- ---- keys that aren't there
+
+absent_here : (names : List (List ℕ)) (k l : List ℕ) (d : Data) (ms : Members) (known : Bool) (o : Ordering)
+    → known ≡ list_any (λ name. spells name l) names → o ≡ slice_cmp nat_cmp k l → list_any (λ name. spells name k) names ≡ false
+    → (if known then first_unknown names ms else Some l) ≡ None → (first_unknown names ms ≡ None → is_some (get_member k ms) ≡ false)
+    → is_some (match_ordering o (get_member k ms) (Some d) (get_member k ms)) ≡ false
+absent_here names k l d ms false o known_is o_is unknown none rest = absurd (cc)
+absent_here names k l d ms true Less known_is o_is unknown none rest = rest none
+absent_here names k l d ms true Greater known_is o_is unknown none rest = rest none
+absent_here names k l d ms true Equal known_is o_is unknown none rest =
+    let same : list_any (λ name. spells name k) names ≡ list_any (λ name. spells name l) names = ap (λ key. list_any (λ name. spells name key) names) (exact_bytes k l (sym o_is)) in
+    absurd (cc)
+
+-- where no member is unknown, a key that spells none of the names isn't there
+absent : (names : List (List ℕ)) (k : List ℕ) (ms : Members) → list_any (λ name. spells name k) names ≡ false → first_unknown names ms ≡ None → is_some (get_member k ms) ≡ false
+absent names k no_members unknown none = refl
+absent names k (member l d ms) unknown none =
+    absent_here names k l d ms (list_any (λ name. spells name l) names) (slice_cmp nat_cmp k l) refl refl unknown none (absent names k ms unknown)
+
+first_none : (place : List ℕ) (a b : Option (List ℕ)) (r : ⊤) → option_map_or (λ key. Err (At G (member_place place key))) (option_or a b) (Ok tt) ≡ Ok r → a ≡ None
+first_none place None b r passed = refl
+first_none place (Some key) b r passed = absurd (cc)
+
+-- of an object with no member but these
+is_absent : (names : List (List ℕ)) (k : List ℕ) (d : Data) (r : ⊤) → list_any (λ name. spells name k) names ≡ false → only_at names d [] ≡ Ok r → has k d ≡ false
+is_absent names k null r unknown passed = refl
+is_absent names k (boolean b) r unknown passed = refl
+is_absent names k (number n) r unknown passed = refl
+is_absent names k (string s) r unknown passed = refl
+is_absent names k (array ds) r unknown passed = refl
+is_absent names k (object ms) r unknown passed = absent names k ms unknown (first_none [] (first_unknown names ms) (first_twice names ms ms) r passed)
+
+-- ---- requests
+
+neither : (a b : Bool) → (a || b) ≡ false → (a ≡ false) × (b ≡ false)
+neither false b is = (refl, is)
+neither true b is = absurd (cc)
+
+abbrev known : List (List ℕ)
+known = session_head ++ methods
+
+first_passes : {A B : Type 0} (r : Result A Bad) (next : A → Result B Bad) (y : B) → r >>= next ≡ Ok y → (x : A) × (r ≡ Ok x)
+first_passes (Ok x) next y is = (x, refl)
+first_passes (Err bad) next y is = absurd (cc)
+
+any_absent : (names keys : List (List ℕ)) (d : Data) (r : ⊤) → list_any (λ key. list_any (λ name. spells name key) names) keys ≡ false → only_at names d [] ≡ Ok r → has_any keys d ≡ false
+any_absent names [] d r unknown passed = refl
+any_absent names (k ∷ ks) d r unknown passed =
+    let each = neither (list_any (λ name. spells name k) names) (list_any (λ key. list_any (λ name. spells name key) names) ks) unknown in
+    rw (is_absent names k d r each.0 passed) (any_absent names ks d r each.1 passed)
+
+none_told : (a b c e : Bool) (w x y z : Line) → a ≡ false → b ≡ false → c ≡ false → e ≡ false
+    → (if a then Some w else if b then Some x else if c then Some y else if e then Some z else None) ≡ None
+none_told a b c e w x y z not_a not_b not_c not_e = rw (not_a, not_b, not_c, not_e) refl
+
+-- what is read as a request has no member that tells another form
+no_form_told : (root : Root) (d : Data) (asked : SessionRequest) → session_request_at root d ≡ Ok asked → told_in d ≡ None
+unfolding session_request_at
+no_form_told root d asked is =
+    let passed = first_passes (only_at known d []) _ asked is in
+    none_told (is_unbuilt_form d) (has (codes "clock") d) (has (codes "compact") d) (has (codes "leave") d) _ _ _ _
+    (any_absent known unbuilt_forms d passed.0 refl passed.1)
+    (is_absent known (codes "clock") d passed.0 refl passed.1)
+    (is_absent known (codes "compact") d passed.0 refl passed.1)
+    (is_absent known (codes "leave") d passed.0 refl passed.1)
+
+-- ---- the form of a line
+
+formed : (a b c e : Bool) (w x y z r : Line) → (if a then w else if b then x else if c then y else if e then z else r)
+    ≡ unwrap_or (if a then Some w else if b then Some x else if c then Some y else if e then Some z else None) r
+formed true b c e w x y z r = refl
+formed false true c e w x y z r = refl
+formed false false true e w x y z r = refl
+formed false false false true w x y z r = refl
+formed false false false false w x y z r = refl
+
+form_is : (root : Root) (d : Data) (found : Option Line) → told_in d ≡ found → form_of root d ≡ unwrap_or found (line_read line.Asked (session_request_at root d))
+form_is root d found told =
+    formed (is_unbuilt_form d) (has (codes "clock") d) (has (codes "compact") d) (has (codes "leave") d) _ _ _ _ _
+    ∙ ap (λ o. unwrap_or o (line_read line.Asked (session_request_at root d))) told
+
+pub form_told : (root : Root) (d : Data) (l : Line) → told_in d ≡ Some l → form_of root d ≡ l
+form_told root d l told = form_is root d (Some l) told
+
+pub form_untold : (root : Root) (d : Data) → told_in d ≡ None → form_of root d ≡ line_read line.Asked (session_request_at root d)
+form_untold root d told = form_is root d None told
+
+pub form_asked : (root : Root) (d : Data) (asked : SessionRequest) → session_request_at root d ≡ Ok asked → form_of root d ≡ line.Asked asked
+form_asked root d asked is = form_untold root d (no_form_told root d asked is) ∙ ap (line_read line.Asked) is

@@ -1,9 +1,0 @@
-//! Tests of what fs_versions gives, by its public calls.
-#![tactic(auto)]
-
-#[cfg(test)]
-mod database;
-#[cfg(test)]
-mod tables;
-#[cfg(test)]
-mod tests;
