@@ -86,21 +86,25 @@ const READ_AFTER_A_FAILURE: [(Took, &str); 5] = [
 ];
 
 #[test]
-fn a_source_in_memory_goes_by_its_paces(rt: HostRuntime) -> Result<(), Fail> {
+fn a_source_in_memory_goes_by_its_paces(rt: HostRuntime) {
     let alloc = rt.alloc();
-    let paces = Paces::of(vec![in alloc; Pace::AtMost(2), Pace::Fail]?);
-    let mut source = MemorySource::new(Bytes::from_slice(alloc, b"abcde")?, paces);
+    let paces = Paces::of(vec![in alloc; Pace::AtMost(2), Pace::Fail].expect(&rt, "memory"));
+    let mut source = MemorySource::new(
+        Bytes::from_slice(alloc, b"abcde").expect(&rt, "memory"),
+        paces,
+    );
     check_reads(&rt, &mut source, &BY_PACES);
-    Ok(())
 }
 
 #[test]
-fn sources_give_their_bytes_in_order(rt: HostRuntime) -> Result<(), Fail> {
+fn sources_give_their_bytes_in_order(rt: HostRuntime) {
     let alloc = rt.alloc();
-    let mut free = MemorySource::new(Bytes::from_slice(alloc, b"abcde")?, Paces::free(alloc));
+    let mut free = MemorySource::new(
+        Bytes::from_slice(alloc, b"abcde").expect(&rt, "memory"),
+        Paces::free(alloc),
+    );
     check_reads(&rt, &mut free, &WHOLE);
     check_reads(&rt, &mut RealSource::new(b"abcde".as_slice()), &WHOLE);
-    Ok(())
 }
 
 #[test]
@@ -135,13 +139,14 @@ const GIVEN_AFTER_A_FAILURE: [(&str, Gave); 3] = [
 ];
 
 #[test]
-fn a_sink_in_memory_goes_by_its_paces(rt: HostRuntime) -> Result<(), Fail> {
+fn a_sink_in_memory_goes_by_its_paces(rt: HostRuntime) {
     let alloc = rt.alloc();
-    let paces = vec![in alloc; Pace::AtMost(2), Pace::Fail, Pace::AtMost(0), Pace::Fail]?;
+    let paces = vec![in alloc; Pace::AtMost(2), Pace::Fail, Pace::AtMost(0), Pace::Fail].expect(
+        &rt, "memory",
+    );
     let mut sink = MemorySink::new(alloc, Paces::of(paces));
     check_writes(&rt, &mut sink, &GIVEN_BY_PACES);
     assert!(rt; sink.given().as_slice() == b"abc".as_slice());
-    Ok(())
 }
 
 #[test]
@@ -204,34 +209,33 @@ fn link_told(alloc: Global) -> Result<String, AllocError> {
 }
 
 #[test]
-fn a_link_in_memory_hears_and_sends_in_order(rt: HostRuntime) -> Result<(), Fail> {
-    let told = link_told(rt.alloc())?;
+fn a_link_in_memory_hears_and_sends_in_order(rt: HostRuntime) {
+    let told = link_told(rt.alloc()).expect(&rt, "memory");
     assert!(rt;
         told.as_str() == "one Failed Done quiet closed two",
         "{told}"
     );
-    Ok(())
 }
 
 #[test]
-fn doors_without_links_fail(rt: HostRuntime) -> Result<(), Fail> {
+fn doors_without_links_fail(rt: HostRuntime) {
     let mut doors = MemoryDoors::new();
-    assert!(rt; doors.listen(8080)? == Sent::Failed);
-    assert!(rt; matches!(&doors.accept()?, Door::Failed));
-    assert!(rt; matches!(&doors.dial(8080)?, Door::Failed));
-    Ok(())
+    assert!(rt; doors.listen(8080).expect(&rt, "memory") == Sent::Failed);
+    assert!(rt; matches!(&doors.accept().expect(&rt, "memory"), Door::Failed));
+    assert!(rt; matches!(&doors.dial(8080).expect(&rt, "memory"), Door::Failed));
 }
 
 #[test]
-fn a_clock_in_memory_tells_its_last_moment_again(rt: HostRuntime) -> Result<(), Fail> {
+fn a_clock_in_memory_tells_its_last_moment_again(rt: HostRuntime) {
     let alloc = rt.alloc();
-    let first = Micros::new(1).ok_or("a moment")?;
-    let second = Micros::new(2).ok_or("a moment")?;
-    let mut clock = MemoryClock::new(Moments::of(vec![in alloc; first, second]?));
+    let first = Micros::new(1).expect(&rt, "a moment");
+    let second = Micros::new(2).expect(&rt, "a moment");
+    let mut clock = MemoryClock::new(Moments::of(vec![in alloc; first, second].expect(
+        &rt, "memory",
+    )));
     for moment in &[1, 2, 2] {
         assert!(rt; clock.now().get() == *moment);
     }
-    Ok(())
 }
 
 #[test]

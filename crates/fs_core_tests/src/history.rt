@@ -7,7 +7,6 @@ use fs_time::Micros;
 use fs_value::{Document, Documents, Fields, SharedFields, Value};
 use fs_write::{Act, Precondition, Transforms, Write, Writes};
 use std::alloc::{AllocError, Global};
-use std::test::Fail;
 
 fn moment(n: i64) -> Result<Micros, AllocError> {
     Micros::new(n).ok_or(AllocError)
@@ -147,7 +146,7 @@ fn cell(text: &str) -> (&str, &str) {
 }
 
 #[test]
-fn what_a_journal_counts(rt: HostRuntime) -> Result<(), Fail> {
+fn what_a_journal_counts(rt: HostRuntime) {
     let alloc = rt.alloc();
     let mut journal = Journal::new(alloc);
     let mut number: u32 = 0;
@@ -156,23 +155,28 @@ fn what_a_journal_counts(rt: HostRuntime) -> Result<(), Fail> {
         let (text, rest) = cell(line);
         let (texts, bytes) = cell(rest);
         let batch = Batch {
-            time: moment(i64::from(number))?,
+            time: moment(i64::from(number)).expect(&rt, "memory"),
             id: Id::new(u64::from(number)),
-            writes: writes(alloc, text)?,
-            reads: reads(alloc, texts)?,
+            writes: writes(alloc, text).expect(&rt, "memory"),
+            reads: reads(alloc, texts).expect(&rt, "memory"),
         };
-        assert!(rt; add(alloc, &mut journal, batch)?, "{line}");
+        assert!(rt;
+            add(alloc, &mut journal, batch).expect(&rt, "memory"),
+            "{line}"
+        );
         let counted = journal.bytes();
-        let told = format!(in alloc; "{counted}")?;
+        let told = format!(in alloc; "{counted}").expect(&rt, "memory");
         assert!(rt; told.as_str() == bytes, "{line}");
     }
     assert_eq!(rt; journal.count(), 9);
     for i in 0..journal.count() {
         assert_eq!(rt; journal.batch(i).id.get(), i + 1);
     }
-    assert!(rt; !journal.ends_before(moment(9)?) && journal.ends_before(moment(10)?));
+    assert!(rt;
+        !journal.ends_before(moment(9).expect(&rt, "memory"))
+            && journal.ends_before(moment(10).expect(&rt, "memory"))
+    );
     histories_are_lawful();
-    Ok(())
 }
 
 // Each line: the document that is written, what was read, and whether the write touches the read.
@@ -192,14 +196,13 @@ d/a | ?**d | true
 c/a | ?**d | false"#;
 
 #[test]
-fn which_writes_touch_a_read(rt: HostRuntime) -> Result<(), Fail> {
+fn which_writes_touch_a_read(rt: HostRuntime) {
     let alloc = rt.alloc();
     for line in TOUCHED.split("\n") {
         let (path, rest) = cell(line);
         let (text, wanted) = cell(rest);
-        let name = name_of(alloc, path)?;
-        let read = read(alloc, text)?;
+        let name = name_of(alloc, path).expect(&rt, "memory");
+        let read = read(alloc, text).expect(&rt, "memory");
         assert_eq!(rt; touches(&name, &read), wanted == "true", "{line}");
     }
-    Ok(())
 }

@@ -249,26 +249,34 @@ fn written(alloc: Global, made: Result<Value, AllocError>) -> Result<String, All
 }
 
 #[test]
-fn what_is_written(rt: HostRuntime) -> Result<(), Fail> {
+fn what_is_written(rt: HostRuntime) {
     let alloc = rt.alloc();
     for (n, want) in &[
         (i64::MAX, r#""9223372036854775807""#),
         (i64::MIN, r#""-9223372036854775808""#),
     ] {
-        assert_eq!(rt; written(alloc, write_integer(alloc, *n))?.as_str(), *want);
+        assert_eq!(rt;
+            written(alloc, write_integer(alloc, *n))
+                .expect(&rt, "memory")
+                .as_str(),
+            *want
+        );
     }
-    let text = Text::from_str(alloc, r#"a"é"#)?;
+    let text = Text::from_str(alloc, r#"a"é"#).expect(&rt, "memory");
     assert_eq!(rt;
-        written(alloc, write_text(alloc, &text))?.as_str(),
+        written(alloc, write_text(alloc, &text))
+            .expect(&rt, "memory")
+            .as_str(),
         r#""a\"é""#
     );
-    let bytes = Bytes::from_slice(alloc, b"\xff\xef")?;
+    let bytes = Bytes::from_slice(alloc, b"\xff\xef").expect(&rt, "memory");
     assert_eq!(rt;
-        written(alloc, write_bytes(alloc, &bytes))?.as_str(),
+        written(alloc, write_bytes(alloc, &bytes))
+            .expect(&rt, "memory")
+            .as_str(),
         r#""/+8=""#
     );
-    let t = Micros::new(1_704_067_200_123_000).ok_or("a moment")?;
-    let shortest = written(alloc, write_time(alloc, t))?;
+    let t = Micros::new(1_704_067_200_123_000).expect(&rt, "a moment");
+    let shortest = written(alloc, write_time(alloc, t)).expect(&rt, "memory");
     assert_eq!(rt; shortest.as_str(), r#""2024-01-01T00:00:00.123Z""#);
-    Ok(())
 }

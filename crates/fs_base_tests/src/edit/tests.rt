@@ -5,7 +5,6 @@ use fs_path::{FieldPath, Text, parse_field};
 use fs_value::{Fields, Value, Values, fields_same};
 use std::alloc::{AllocError, Global};
 use std::mem::replace;
-use std::test::Fail;
 
 fn key(alloc: Global, c: char) -> Result<Text, AllocError> {
     let mut string = String::new(alloc);
@@ -119,17 +118,21 @@ fn is_found(alloc: Global, line: &str) -> Result<bool, AllocError> {
 }
 
 #[test]
-fn changes_of_opened_fields(rt: HostRuntime) -> Result<(), Fail> {
+fn changes_of_opened_fields(rt: HostRuntime) {
     for line in CHANGED.lines() {
-        assert!(rt; line.is_empty() || is_changed(rt.alloc(), line)?, "{line}");
+        assert!(rt;
+            line.is_empty() || is_changed(rt.alloc(), line).expect(&rt, "memory"),
+            "{line}"
+        );
     }
-    Ok(())
 }
 
 #[test]
-fn integers_in_opened_fields(rt: HostRuntime) -> Result<(), Fail> {
+fn integers_in_opened_fields(rt: HostRuntime) {
     for line in FOUND.lines() {
-        assert!(rt; line.is_empty() || is_found(rt.alloc(), line)?, "{line}");
+        assert!(rt;
+            line.is_empty() || is_found(rt.alloc(), line).expect(&rt, "memory"),
+            "{line}"
+        );
     }
-    Ok(())
 }

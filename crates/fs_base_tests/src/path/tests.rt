@@ -295,12 +295,14 @@ fn root_alone(alloc: Global) -> Result<DocName, AllocError> {
 }
 
 #[test]
-fn a_name_of_a_root_alone_is_printed(rt: HostRuntime) -> Result<(), Fail> {
+fn a_name_of_a_root_alone_is_printed(rt: HostRuntime) {
     let alloc = rt.alloc();
-    let name = root_alone(alloc)?;
-    assert_eq!(rt; print_document(alloc, &name)?.as_str(), ROOT);
+    let name = root_alone(alloc).expect(&rt, "memory");
+    assert_eq!(rt;
+        print_document(alloc, &name).expect(&rt, "memory").as_str(),
+        ROOT
+    );
     assert!(rt; name_of(alloc, "demo").is_err());
-    Ok(())
 }
 
 fn rising(alloc: Global, line: &str) -> Result<DocName, PathError> {
@@ -311,27 +313,31 @@ fn rising(alloc: Global, line: &str) -> Result<DocName, PathError> {
 }
 
 #[test]
-fn names_go_segment_by_segment(rt: HostRuntime) -> Result<(), Fail> {
+fn names_go_segment_by_segment(rt: HostRuntime) {
     let alloc = rt.alloc();
     for (lower, upper) in RISING.lines().zip(RISING.lines().skip(1)) {
-        let a = rising(alloc, lower)?;
-        let b = rising(alloc, upper)?;
-        let orders = (a.cmp(&b), b.cmp(&a), a == b, a == a.copy(alloc)?);
+        let a = rising(alloc, lower).expect(&rt, "memory");
+        let b = rising(alloc, upper).expect(&rt, "memory");
+        let orders = (
+            a.cmp(&b),
+            b.cmp(&a),
+            a == b,
+            a == a.copy(alloc).expect(&rt, "memory"),
+        );
         let rise = (Ordering::Less, Ordering::Greater, false, true);
         assert_eq!(rt; orders, rise, "{lower} before {upper}");
     }
-    Ok(())
 }
 
 #[test]
-fn equal_names_hash_alike(rt: HostRuntime) -> Result<(), Fail> {
+fn equal_names_hash_alike(rt: HostRuntime) {
     let alloc = rt.alloc();
     let mut seen: HashSet<DocName> = HashSet::new(alloc);
     for line in RISING.lines() {
-        let name = rising(alloc, line)?;
-        seen.insert(name.copy(alloc)?)?;
+        let name = rising(alloc, line).expect(&rt, "memory");
+        seen.insert(name.copy(alloc).expect(&rt, "memory"))
+            .expect(&rt, "memory");
         assert!(rt; seen.contains(&name), "{line}");
     }
     assert_eq!(rt; seen.len(), 41);
-    Ok(())
 }

@@ -4,7 +4,6 @@ use fs_time::Micros;
 use fs_value::*;
 use std::alloc::{AllocError, Global};
 use std::cmp::Ordering;
-use std::test::Fail;
 
 // The words for the kinds, in their order.
 const KINDS: [&str; 9] = [
@@ -186,15 +185,17 @@ fn rising(alloc: Global) -> Result<Values, AllocError> {
 }
 
 #[test]
-fn values_of_all_kinds_in_their_order(rt: HostRuntime) -> Result<(), Fail> {
+fn values_of_all_kinds_in_their_order(rt: HostRuntime) {
     let alloc = rt.alloc();
-    let values = rising(alloc)?.copy(alloc)?;
+    let values = rising(alloc)
+        .expect(&rt, "memory")
+        .copy(alloc)
+        .expect(&rt, "memory");
     for (i, line) in RISING.iter().enumerate() {
-        let some = value(alloc, line)?;
+        let some = value(alloc, line).expect(&rt, "memory");
         assert!(rt; is_of_kind(&some, line));
         assert!(rt; stands_at(&some, i, &values));
     }
-    Ok(())
 }
 
 // An array or a map round a value, which makes it one deeper.
@@ -224,28 +225,26 @@ fn depth_of(alloc: Global, levels: u32) -> Result<u32, AllocError> {
 }
 
 #[test]
-fn depth_from_1_to_21(rt: HostRuntime) -> Result<(), Fail> {
+fn depth_from_1_to_21(rt: HostRuntime) {
     let alloc = rt.alloc();
     for levels in 1..DEEPEST_VALUE + 2 {
-        assert_eq!(rt; depth_of(alloc, levels)?, levels);
+        assert_eq!(rt; depth_of(alloc, levels).expect(&rt, "memory"), levels);
     }
     for empty in &["array ", "map "] {
-        assert_eq!(rt; depth(&value(alloc, empty)?), 1);
+        assert_eq!(rt; depth(&value(alloc, empty).expect(&rt, "memory")), 1);
     }
-    Ok(())
 }
 
 // A comparison that came twice to each inner value would not end.
 #[test]
-fn values_of_depth_100_are_compared(rt: HostRuntime) -> Result<(), Fail> {
+fn values_of_depth_100_are_compared(rt: HostRuntime) {
     let alloc = rt.alloc();
-    let deep = nested(alloc, 100, true)?;
+    let deep = nested(alloc, 100, true).expect(&rt, "memory");
     keys_rise(&deep);
-    let copied = deep.copy(alloc)?;
+    let copied = deep.copy(alloc).expect(&rt, "memory");
     assert!(rt; same(&deep, &copied));
-    let other = nested(alloc, 100, false)?;
+    let other = nested(alloc, 100, false).expect(&rt, "memory");
     assert!(rt; compare(&deep, &other) == Ordering::Greater);
-    Ok(())
 }
 
 // `demo/(default)/c/{id}` with the field `n`.
@@ -275,16 +274,25 @@ fn counted(alloc: Global, n: Value) -> Result<u128, AllocError> {
 
 // The values of the table are 82 together. 1,048,576 is the greatest size that is stored.
 #[test]
-fn counted_size_of_a_document(rt: HostRuntime) -> Result<(), Fail> {
+fn counted_size_of_a_document(rt: HostRuntime) {
     let alloc = rt.alloc();
     let mut all = Values::new(alloc);
     for (line, count) in &COUNTED {
-        all.push(value(alloc, line)?)?;
-        assert_eq!(rt; counted(alloc, value(alloc, line)?)?, *count);
+        all.push(value(alloc, line).expect(&rt, "memory"))
+            .expect(&rt, "memory");
+        assert_eq!(rt;
+            counted(alloc, value(alloc, line).expect(&rt, "memory")).expect(&rt, "memory"),
+            *count
+        );
     }
-    assert_eq!(rt; counted(alloc, Value::Array(all))?, 136);
-    assert_eq!(rt; counted(alloc, long_text(alloc, 1_048_521)?)?, 1_048_576);
-    Ok(())
+    assert_eq!(rt;
+        counted(alloc, Value::Array(all)).expect(&rt, "memory"),
+        136
+    );
+    assert_eq!(rt;
+        counted(alloc, long_text(alloc, 1_048_521).expect(&rt, "memory")).expect(&rt, "memory"),
+        1_048_576
+    );
 }
 
 fn has_keys(some: &Fields, keys: &str) -> bool {
@@ -299,18 +307,21 @@ fn has_keys(some: &Fields, keys: &str) -> bool {
 }
 
 #[test]
-fn fields_stand_in_the_order_of_their_keys(rt: HostRuntime) -> Result<(), Fail> {
+fn fields_stand_in_the_order_of_their_keys(rt: HostRuntime) {
     let alloc = rt.alloc();
-    let some = fields(alloc, "b=1 a=2 é=3 c=4 a=5")?;
-    let other = fields(alloc, "a=5 b=1 c=4 é=3")?;
+    let some = fields(alloc, "b=1 a=2 é=3 c=4 a=5").expect(&rt, "memory");
+    let other = fields(alloc, "a=5 b=1 c=4 é=3").expect(&rt, "memory");
     assert!(rt; has_keys(&some, "a b c é"));
     assert!(rt; some.find("aa").is_none() && some.find("z").is_none() && some.find("").is_none());
     assert!(rt; fields_same(&some, &other));
     assert_eq!(rt; Fields::of(other.into_vec()).len(), 4);
     let mut one = Fields::new(alloc);
-    one.push_last(Text::from_str(alloc, "a")?, Value::Boolean(true))?;
+    one.push_last(
+        Text::from_str(alloc, "a").expect(&rt, "memory"),
+        Value::Boolean(true),
+    )
+    .expect(&rt, "memory");
     assert!(rt; has_keys(&one, "a"));
-    Ok(())
 }
 
 fn has_integer(fields: &Fields, n: i64) -> bool {
@@ -331,28 +342,31 @@ fn of_two(alloc: Global) -> Result<DocumentMap, AllocError> {
 }
 
 #[test]
-fn documents_stand_in_the_order_of_their_names(rt: HostRuntime) -> Result<(), Fail> {
+fn documents_stand_in_the_order_of_their_names(rt: HostRuntime) {
     let alloc = rt.alloc();
-    let all = of_two(alloc)?.documents(alloc)?.copy(alloc)?;
+    let all = of_two(alloc)
+        .expect(&rt, "memory")
+        .documents(alloc)
+        .expect(&rt, "memory")
+        .copy(alloc)
+        .expect(&rt, "memory");
     assert_eq!(rt; all.len(), 2);
     for (d, (id, n)) in all.as_slice().iter().zip(&[("a", 2), ("b", 3)]) {
         assert!(rt; d.name.len() == 2 && d.name.id(1) == *id);
         assert!(rt; has_integer(d.fields.as_fields(), *n));
     }
-    Ok(())
 }
 
 #[test]
-fn documents_by_their_names(rt: HostRuntime) -> Result<(), Fail> {
+fn documents_by_their_names(rt: HostRuntime) {
     let alloc = rt.alloc();
-    let b = name(alloc, "demo/(default)/c/b")?;
-    let mut documents = of_two(alloc)?;
+    let b = name(alloc, "demo/(default)/c/b").expect(&rt, "memory");
+    let mut documents = of_two(alloc).expect(&rt, "memory");
     assert!(rt; documents.get(&b).is_some());
-    assert_eq!(rt; documents.lent(alloc)?.len(), 2);
+    assert_eq!(rt; documents.lent(alloc).expect(&rt, "memory").len(), 2);
     assert!(rt; documents.remove(&b).is_some());
     assert!(rt; documents.get(&b).is_none());
-    assert_eq!(rt; documents.copy(alloc)?.len(), 1);
-    Ok(())
+    assert_eq!(rt; documents.copy(alloc).expect(&rt, "memory").len(), 1);
 }
 
 fn put(alloc: Global, d: &mut Document, n: i64) -> Result<(), AllocError> {
@@ -362,28 +376,26 @@ fn put(alloc: Global, d: &mut Document, n: i64) -> Result<(), AllocError> {
 
 // The first change copies the fields, and the others are made in place.
 #[test]
-fn a_change_of_a_document_or_its_copy_leaves_the_other(rt: HostRuntime) -> Result<(), Fail> {
+fn a_change_of_a_document_or_its_copy_leaves_the_other(rt: HostRuntime) {
     let alloc = rt.alloc();
-    let mut first = document(alloc, "a", Value::Integer(1))?;
-    let mut copied = first.copy(alloc)?;
-    put(alloc, &mut copied, 2)?;
-    put(alloc, &mut copied, 3)?;
+    let mut first = document(alloc, "a", Value::Integer(1)).expect(&rt, "memory");
+    let mut copied = first.copy(alloc).expect(&rt, "memory");
+    put(alloc, &mut copied, 2).expect(&rt, "memory");
+    put(alloc, &mut copied, 3).expect(&rt, "memory");
     assert!(rt; has_integer(first.fields.as_fields(), 1));
-    put(alloc, &mut first, 4)?;
+    put(alloc, &mut first, 4).expect(&rt, "memory");
     assert!(rt; has_integer(copied.fields.as_fields(), 3));
     assert!(rt; has_integer(first.fields.as_fields(), 4));
-    Ok(())
 }
 
 #[test]
-fn shared_fields_are_taken_out_whole(rt: HostRuntime) -> Result<(), Fail> {
+fn shared_fields_are_taken_out_whole(rt: HostRuntime) {
     let alloc = rt.alloc();
-    let mut first = document(alloc, "a", Value::Integer(4))?;
-    let again = first.fields.copy()?;
-    put(alloc, &mut first, 5)?;
-    let shared = again.copy()?;
-    assert!(rt; has_integer(&again.into_fields(alloc)?, 4));
-    assert!(rt; has_integer(&shared.into_fields(alloc)?, 4));
+    let mut first = document(alloc, "a", Value::Integer(4)).expect(&rt, "memory");
+    let again = first.fields.copy().expect(&rt, "memory");
+    put(alloc, &mut first, 5).expect(&rt, "memory");
+    let shared = again.copy().expect(&rt, "memory");
+    assert!(rt; has_integer(&again.into_fields(alloc).expect(&rt, "memory"), 4));
+    assert!(rt; has_integer(&shared.into_fields(alloc).expect(&rt, "memory"), 4));
     assert!(rt; has_integer(first.fields.as_fields(), 5));
-    Ok(())
 }

@@ -4,7 +4,6 @@ use crate::server::steps::{answered, server};
 use crate::server::tables::{CASES, CHAINS, HISTORY, SHOWN};
 use fs_server::Server;
 use std::alloc::{AllocError, Global};
-use std::test::Fail;
 
 // The steps that are answered otherwise than they say, or than by one answer to all, and nothing where none is.
 fn unlike(
@@ -32,14 +31,13 @@ fn unlike_at_first(alloc: Global, limits: &str, steps: &str) -> Result<String, A
 }
 
 #[test]
-fn steps_are_answered(rt: HostRuntime) -> Result<(), Fail> {
+fn steps_are_answered(rt: HostRuntime) {
     for line in CASES.lines() {
         if let Some((limits, steps)) = line.split_once(" | ") {
-            let found = unlike_at_first(rt.alloc(), limits, steps)?;
+            let found = unlike_at_first(rt.alloc(), limits, steps).expect(&rt, "memory");
             assert!(rt; found.is_empty(), "{line}: {found}");
         }
     }
-    Ok(())
 }
 
 // Makes the history.
@@ -111,8 +109,7 @@ fn unlike_from_all(alloc: Global) -> Result<String, AllocError> {
 }
 
 #[test]
-fn each_time_from_each_floor_on(rt: HostRuntime) -> Result<(), Fail> {
-    let found = unlike_from_all(rt.alloc())?;
+fn each_time_from_each_floor_on(rt: HostRuntime) {
+    let found = unlike_from_all(rt.alloc()).expect(&rt, "memory");
     assert!(rt; found.is_empty(), "{found}");
-    Ok(())
 }

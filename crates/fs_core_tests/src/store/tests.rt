@@ -13,7 +13,6 @@ use fs_write::{Change, Changes, TimedChange, TimedChanges};
 use std::alloc::{AllocError, Global};
 use std::marker::Brand;
 use std::sync::ledger::{Blank, Ledger};
-use std::test::Fail;
 
 // Takes in a release if it fits. Where memory is wanting, nothing has changed, and the second time it goes well.
 fn taken_in(alloc: Global, store: &mut Store, release: &Release) -> Result<bool, AllocError> {
@@ -143,44 +142,41 @@ fn shows_all(alloc: Global, store: &Store) -> Result<bool, AllocError> {
 }
 
 #[test]
-fn each_time_after_each_release(rt: HostRuntime) -> Result<(), Fail> {
+fn each_time_after_each_release(rt: HostRuntime) {
     let alloc = rt.alloc();
     for count in 0..6 {
-        let (_, store) = store_after(alloc, count)?;
-        assert!(rt; shows_all(alloc, &store)?, "{count}");
+        let (_, store) = store_after(alloc, count).expect(&rt, "memory");
+        assert!(rt; shows_all(alloc, &store).expect(&rt, "memory"), "{count}");
     }
-    Ok(())
 }
 
 #[test]
-fn the_same_after_each_compaction(rt: HostRuntime) -> Result<(), Fail> {
+fn the_same_after_each_compaction(rt: HostRuntime) {
     let alloc = rt.alloc();
-    let (_, mut store) = store_after(alloc, 5)?;
+    let (_, mut store) = store_after(alloc, 5).expect(&rt, "memory");
     for line in SHOWN.split("\n") {
         let (time, _) = line.split_once(" | ").unwrap_or((line, ""));
-        let floor = moment(time)?;
+        let floor = moment(time).expect(&rt, "memory");
         if store.floor() <= floor && floor <= store.absorbed() {
             store.compact(floor);
         }
         assert!(rt; store.floor() == floor, "{line}");
-        assert!(rt; shows_all(alloc, &store)?, "{line}");
+        assert!(rt; shows_all(alloc, &store).expect(&rt, "memory"), "{line}");
     }
-    let gone = name_of(alloc, "c/b")?;
-    let there = name_of(alloc, "c/a")?;
+    let gone = name_of(alloc, "c/b").expect(&rt, "memory");
+    let there = name_of(alloc, "c/a").expect(&rt, "memory");
     assert!(rt; store.chain(&gone).is_none());
     assert!(rt; store.chain(&there).map(|chain| chain.len()) == Some(1));
-    Ok(())
 }
 
 #[test]
-fn releases_that_do_not_fit(rt: HostRuntime) -> Result<(), Fail> {
+fn releases_that_do_not_fit(rt: HostRuntime) {
     let alloc = rt.alloc();
     for line in UNFIT.split("\n") {
-        let (mut database, store) = store_after(alloc, 1)?;
-        let release = database.release(alloc, line)?;
+        let (mut database, store) = store_after(alloc, 1).expect(&rt, "memory");
+        let release = database.release(alloc, line).expect(&rt, "memory");
         assert!(rt; !store.fits(&release), "{line}");
     }
-    Ok(())
 }
 
 // A release from 4 to 5 with one commit of these changes.
@@ -250,38 +246,46 @@ fn named_z(alloc: Global, document: Document) -> Result<Document, AllocError> {
 }
 
 #[test]
-fn changes_from_other_documents(rt: HostRuntime) -> Result<(), Fail> {
+fn changes_from_other_documents(rt: HostRuntime) {
     let alloc = rt.alloc();
-    let (mut database, store) = store_after(alloc, 1)?;
-    let next = next_release(alloc, &mut database)?;
+    let (mut database, store) = store_after(alloc, 1).expect(&rt, "memory");
+    let next = next_release(alloc, &mut database).expect(&rt, "memory");
     assert!(rt; store.fits(&next));
     // from none, where there is a document
     let mut fresh = Database::new(alloc);
-    let first = next_release(alloc, &mut fresh)?;
+    let first = next_release(alloc, &mut fresh).expect(&rt, "memory");
     assert!(rt; !store.fits(&first));
     // from another document
-    let other = database.release(alloc, "4 5 | 5 c/a=3")?;
+    let other = database
+        .release(alloc, "4 5 | 5 c/a=3")
+        .expect(&rt, "memory");
     assert!(rt; !store.fits(&other));
-    Ok(())
 }
 
 #[test]
-fn changes_in_another_order(rt: HostRuntime) -> Result<(), Fail> {
+fn changes_in_another_order(rt: HostRuntime) {
     let alloc = rt.alloc();
-    let (mut database, store) = store_after(alloc, 1)?;
-    let next = next_release(alloc, &mut database)?;
-    let mut changes = changes_of(alloc, &next)?;
+    let (mut database, store) = store_after(alloc, 1).expect(&rt, "memory");
+    let next = next_release(alloc, &mut database).expect(&rt, "memory");
+    let mut changes = changes_of(alloc, &next).expect(&rt, "memory");
     changes.reverse();
-    assert!(rt; !fits(alloc, &store, changes)?);
-    Ok(())
+    assert!(rt; !fits(alloc, &store, changes).expect(&rt, "memory"));
 }
 
 #[test]
-fn changes_to_another_name(rt: HostRuntime) -> Result<(), Fail> {
+fn changes_to_another_name(rt: HostRuntime) {
     let alloc = rt.alloc();
-    let (mut database, store) = store_after(alloc, 1)?;
-    let next = next_release(alloc, &mut database)?;
-    assert!(rt; fits(alloc, &store, changes_of(alloc, &next)?)?);
-    assert!(rt; !fits(alloc, &store, renamed(alloc, &next)?)?);
-    Ok(())
+    let (mut database, store) = store_after(alloc, 1).expect(&rt, "memory");
+    let next = next_release(alloc, &mut database).expect(&rt, "memory");
+    assert!(rt;
+        fits(
+            alloc,
+            &store,
+            changes_of(alloc, &next).expect(&rt, "memory")
+        )
+        .expect(&rt, "memory")
+    );
+    assert!(rt;
+        !fits(alloc, &store, renamed(alloc, &next).expect(&rt, "memory")).expect(&rt, "memory")
+    );
 }

@@ -5,7 +5,6 @@ use crate::versions::tables::{
 };
 use fs_versions::Versions;
 use std::alloc::{AllocError, Global};
-use std::test::Fail;
 
 fn database(alloc: Global, batches: &str) -> Result<Database, AllocError> {
     let mut database = Database::new(alloc)?;
@@ -122,61 +121,75 @@ fn first_unlike<'a>(alloc: Global, batches: &str, scopes: &'a str) -> Result<&'a
 }
 
 #[test]
-fn documents_of_collections_and_groups(rt: HostRuntime) -> Result<(), Fail> {
+fn documents_of_collections_and_groups(rt: HostRuntime) {
     let alloc = rt.alloc();
-    assert_eq!(rt; first_unlike(alloc, ONE_DATABASE, COLLECTIONS)?, "");
-    assert_eq!(rt; first_unlike(alloc, TWO_DATABASES, SCOPES)?, "");
-    Ok(())
+    assert_eq!(rt;
+        first_unlike(alloc, ONE_DATABASE, COLLECTIONS).expect(&rt, "memory"),
+        ""
+    );
+    assert_eq!(rt;
+        first_unlike(alloc, TWO_DATABASES, SCOPES).expect(&rt, "memory"),
+        ""
+    );
 }
 
 #[test]
-fn documents_at_each_time(rt: HostRuntime) -> Result<(), Fail> {
+fn documents_at_each_time(rt: HostRuntime) {
     let alloc = rt.alloc();
-    let database = database(alloc, BATCHES)?;
-    assert!(rt; shows_all(alloc, &database.versions)?);
+    let database = database(alloc, BATCHES).expect(&rt, "memory");
+    assert!(rt; shows_all(alloc, &database.versions).expect(&rt, "memory"));
     assert_eq!(rt; database.versions.floor().get(), 0);
     assert_eq!(rt; database.versions.last().get(), 15);
     for id in &IDS {
-        let name = name_of(alloc, id)?;
-        let newest = told(alloc, database.versions.latest(&name))?;
-        let wanted = told(alloc, database.now.get(&name))?;
+        let name = name_of(alloc, id).expect(&rt, "memory");
+        let newest = told(alloc, database.versions.latest(&name)).expect(&rt, "memory");
+        let wanted = told(alloc, database.now.get(&name)).expect(&rt, "memory");
         assert!(rt; newest.as_str() == wanted.as_str(), "{id}");
     }
-    let other = name_of(alloc, "d")?;
+    let other = name_of(alloc, "d").expect(&rt, "memory");
     assert!(rt;
         database.versions.latest(&other).is_none() && database.versions.chain(&other).is_none()
     );
-    Ok(())
 }
 
 #[test]
-fn the_same_after_each_compaction(rt: HostRuntime) -> Result<(), Fail> {
+fn the_same_after_each_compaction(rt: HostRuntime) {
     let alloc = rt.alloc();
     for line in CHAINS.split("\n") {
         let (floor, _) = line.split_once(" | ").unwrap_or((line, ""));
-        let mut database = database(alloc, BATCHES)?;
-        let floor = moment(floor)?;
+        let mut database = database(alloc, BATCHES).expect(&rt, "memory");
+        let floor = moment(floor).expect(&rt, "memory");
         if database.versions.floor() <= floor {
             database.versions.compact(floor);
         }
-        assert!(rt; has_chains(alloc, &database.versions, line)?, "{line}");
-        assert!(rt; shows_all(alloc, &database.versions)?, "{line}");
+        assert!(rt;
+            has_chains(alloc, &database.versions, line).expect(&rt, "memory"),
+            "{line}"
+        );
+        assert!(rt;
+            shows_all(alloc, &database.versions).expect(&rt, "memory"),
+            "{line}"
+        );
     }
-    Ok(())
 }
 
 #[test]
-fn compacted_again_and_again(rt: HostRuntime) -> Result<(), Fail> {
+fn compacted_again_and_again(rt: HostRuntime) {
     let alloc = rt.alloc();
-    let mut database = database(alloc, BATCHES)?;
+    let mut database = database(alloc, BATCHES).expect(&rt, "memory");
     for line in CHAINS.split("\n") {
         let (floor, _) = line.split_once(" | ").unwrap_or((line, ""));
-        let floor = moment(floor)?;
+        let floor = moment(floor).expect(&rt, "memory");
         if database.versions.floor() <= floor {
             database.versions.compact(floor);
         }
-        assert!(rt; has_chains(alloc, &database.versions, line)?, "{line}");
-        assert!(rt; shows_all(alloc, &database.versions)?, "{line}");
+        assert!(rt;
+            has_chains(alloc, &database.versions, line).expect(&rt, "memory"),
+            "{line}"
+        );
+        assert!(rt;
+            shows_all(alloc, &database.versions).expect(&rt, "memory"),
+            "{line}"
+        );
     }
-    Ok(())
 }

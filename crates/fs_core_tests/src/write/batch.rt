@@ -9,7 +9,6 @@ use fs_write::{
     batches_are_lawful, writes_are_lawful,
 };
 use std::alloc::{AllocError, Global};
-use std::test::Fail;
 
 // When the documents of before were created and updated, and the time of the commit, in microseconds.
 const CREATED: i64 = 3;
@@ -217,16 +216,15 @@ fn cell(text: &str) -> (&str, &str) {
 }
 
 #[test]
-fn commits(rt: HostRuntime) -> Result<(), Fail> {
+fn commits(rt: HostRuntime) {
     let mut rows: u32 = 0;
     for line in COMMITS.split("\n") {
         if !line.starts_with("//") {
-            assert!(rt; is_so(rt.alloc(), line)?, "{line}");
+            assert!(rt; is_so(rt.alloc(), line).expect(&rt, "memory"), "{line}");
             rows = rows.saturating_add(1);
         }
     }
     assert!(rt; rows == 81, "{rows} rows");
-    Ok(())
 }
 
 // Sets a document whose text makes it count so many bytes: 55 beside the text, as `c/a {s: ..}` does.
@@ -285,12 +283,11 @@ fn is_taken_in(
 }
 
 #[test]
-fn the_largest_document(rt: HostRuntime) -> Result<(), Fail> {
+fn the_largest_document(rt: HostRuntime) {
     let alloc = rt.alloc();
     let told = "write 0: document has 1048577 bytes";
-    assert!(rt; is_refused(alloc, 1_048_577, told)?);
-    assert!(rt; is_taken(alloc, 1_048_576)?);
+    assert!(rt; is_refused(alloc, 1_048_577, told).expect(&rt, "memory"));
+    assert!(rt; is_taken(alloc, 1_048_576).expect(&rt, "memory"));
     writes_are_lawful();
     batches_are_lawful();
-    Ok(())
 }

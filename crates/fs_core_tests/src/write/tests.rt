@@ -4,7 +4,6 @@ use crate::write::tables::{CHECKED, SERVER_TIMES, TRANSFORMED};
 use fs_value::{Document, Fields, Value, Values, fields_same, same};
 use fs_write::*;
 use std::alloc::{AllocError, Global};
-use std::test::Fail;
 
 // 2024-01-01T00:00:00.123456Z
 const TIME: i64 = 1_704_067_200_123_456;
@@ -71,23 +70,22 @@ fn is_array(alloc: Global, found: &Value, text: &str) -> Result<bool, AllocError
 }
 
 #[test]
-fn transforms_of_fields(rt: HostRuntime) -> Result<(), Fail> {
+fn transforms_of_fields(rt: HostRuntime) {
     let alloc = rt.alloc();
     for (before, changes, after, results) in &TRANSFORMED {
         assert!(rt;
-            is_transformed(alloc, before, changes, TIME, after, results)?,
+            is_transformed(alloc, before, changes, TIME, after, results).expect(&rt, "memory"),
             "{before}: {changes}"
         );
     }
     for (time, rounded) in &SERVER_TIMES {
-        let result = format!(in alloc; "@{rounded}")?;
-        let after = format!(in alloc; "t: @{rounded}")?;
+        let result = format!(in alloc; "@{rounded}").expect(&rt, "memory");
+        let after = format!(in alloc; "t: @{rounded}").expect(&rt, "memory");
         assert!(rt;
-            is_transformed(alloc, "", "t time", *time, &after, &result)?,
+            is_transformed(alloc, "", "t time", *time, &after, &result).expect(&rt, "memory"),
             "at {time}"
         );
     }
-    Ok(())
 }
 
 fn overlaps(alloc: Global, write: &Write) -> Result<bool, AllocError> {
@@ -132,10 +130,10 @@ fn break_rule(
 }
 
 #[test]
-fn the_least_rule_that_is_broken(rt: HostRuntime) -> Result<(), Fail> {
+fn the_least_rule_that_is_broken(rt: HostRuntime) {
     for row in &CHECKED {
         assert!(rt;
-            is_checked(rt.alloc(), row)?,
+            is_checked(rt.alloc(), row).expect(&rt, "memory"),
             "{} {}: {}",
             row.0,
             row.1,
@@ -143,7 +141,6 @@ fn the_least_rule_that_is_broken(rt: HostRuntime) -> Result<(), Fail> {
         );
     }
     operations_are_lawful();
-    Ok(())
 }
 
 fn result(alloc: Global) -> Result<WriteResult, AllocError> {
@@ -250,9 +247,8 @@ fn change_is_copied(alloc: Global, changes: &mut Changes) -> Result<bool, AllocE
 }
 
 #[test]
-fn results_and_changes_are_copied(rt: HostRuntime) -> Result<(), Fail> {
+fn results_and_changes_are_copied(rt: HostRuntime) {
     let alloc = rt.alloc();
-    assert!(rt; results_are_copied(alloc)?);
-    assert!(rt; changes_are_copied(alloc)?);
-    Ok(())
+    assert!(rt; results_are_copied(alloc).expect(&rt, "memory"));
+    assert!(rt; changes_are_copied(alloc).expect(&rt, "memory"));
 }
