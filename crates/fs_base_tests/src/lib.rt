@@ -8,6 +8,8 @@ mod edit;
 #[cfg(test)]
 mod path;
 #[cfg(test)]
+mod short;
+#[cfg(test)]
 mod status;
 #[cfg(test)]
 mod time;

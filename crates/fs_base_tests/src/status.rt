@@ -210,21 +210,24 @@ fn want_of_memory_is_a_refusal_too(rt: HostRuntime) {
 }
 
 #[test]
-fn a_copy_names_the_same(rt: HostRuntime) -> Result<(), Fail> {
+fn a_copy_names_the_same(rt: HostRuntime) {
     let refusal = Refusal {
         code: Code::ResourceExhausted,
         reason: Reason::Line(LineFault::DoesNotApply),
         index: Some(2),
         conflict: Some(Id::new(7)),
         limit: Some(Limit {
-            name: Text::from_str(rt.alloc(), "writes")?,
+            name: Text::from_str(rt.alloc(), "writes").expect(&rt, "memory"),
             number: 500,
         }),
     };
     let copy = refusal.copy(rt.alloc()).expect(&rt, "memory");
-    assert!(rt; copy.index == Some(2));
-    assert!(rt; copy.conflict.expect(&rt, "a commit").get() == 7);
-    let limit = copy.limit.expect(&rt, "a limit");
-    assert!(rt; limit.name.as_str() == "writes" && limit.number == 500);
-    Ok(())
+    assert!(rt; copy.index == Some(2) && copy.conflict == Some(Id::new(7)) && has_limit(&copy));
+}
+
+fn has_limit(refusal: &Refusal) -> bool {
+    match &refusal.limit {
+        Some(limit) => limit.name.as_str() == "writes" && limit.number == 500,
+        None => false,
+    }
 }

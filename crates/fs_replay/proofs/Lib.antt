@@ -4,6 +4,7 @@ mod Written
 mod Ending
 pub mod Floats
 mod Json
+mod Tokens
 mod Places
 mod Reading
 mod Plain

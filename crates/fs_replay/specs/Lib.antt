@@ -9,3 +9,4 @@ pub mod Run
 pub mod Moved
 pub mod Laws
 pub mod Gathering
+pub mod Tokens

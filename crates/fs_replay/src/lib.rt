@@ -4,6 +4,7 @@
 mod ask;
 mod calls;
 mod close;
+mod commit_line;
 mod directory;
 mod gather;
 mod laws;

@@ -6,6 +6,7 @@ ghost use Rattle.fs_rpc.specs.MessageJson.{error_json, refused};
 ghost use Rattle.fs_replay.specs.Outboxes.{message_line, message_lines};
 ghost use Rattle.fs_replay.specs.Reply.{json_line, line_error, refusal_json, refused_json};
 
+use crate::commit_line::{are_plain, push_commit};
 use fs_path::Text;
 use fs_rpc::{Message, error_json, message_json_on};
 use fs_status::{Reason, Refusal, message};
@@ -77,6 +78,11 @@ pub fn say(
 ) -> Result<(), AllocError>
     ensures { OnOk result (out.new.items ≡ out.old.items ++ message_line session.now message.now) }
 {
+    if let Message::Commit { id, time, results } = message
+        && are_plain(results.as_slice())
+    {
+        return push_commit(alloc, session, id, *time, results.as_slice(), out);
+    }
     push_line(alloc, out, &message_json_on(alloc, session, message)?)
 }
 

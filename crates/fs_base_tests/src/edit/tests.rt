@@ -1,46 +1,9 @@
 //! Changes of opened fields, by tables.
 use crate::edit::tables::{CHANGED, FOUND};
+use crate::short::{path, read};
 use fs_edit::OpenFields;
-use fs_path::{FieldPath, Text, parse_field};
-use fs_value::{Fields, Value, Values, fields_same};
+use fs_value::{Value, Values, fields_same};
 use std::alloc::{AllocError, Global};
-use std::mem::replace;
-
-fn key(alloc: Global, c: char) -> Result<Text, AllocError> {
-    let mut string = String::new(alloc);
-    string.push(c)?;
-    Ok(Text::of(string))
-}
-
-fn read(alloc: Global, text: &str) -> Result<Fields, AllocError> {
-    let mut outer: Vec<(Text, Fields)> = Vec::new(alloc);
-    let mut fields = Fields::new(alloc);
-    let mut elements = None;
-    let mut last = 'a';
-    for c in text.trim().chars() {
-        match c {
-            '{' => outer.push((key(alloc, last)?, replace(&mut fields, Fields::new(alloc))))?,
-            '}' => {
-                if let Some((name, above)) = outer.pop() {
-                    let inner = replace(&mut fields, above);
-                    fields.put(name, Value::Map(inner))?;
-                }
-            }
-            '[' => elements = Some(Values::new(alloc)),
-            ']' => {
-                if let Some(values) = elements.take() {
-                    fields.put(key(alloc, last)?, Value::Array(values))?;
-                }
-            }
-            _ => match (c.to_digit(10), &mut elements) {
-                (Some(n), Some(values)) => values.push(Value::Integer(i64::from(n)))?,
-                (Some(n), None) => fields.put(key(alloc, last)?, Value::Integer(i64::from(n)))?,
-                (None, _) => last = c,
-            },
-        }
-    }
-    Ok(fields)
-}
 
 // A value in short, as it stands behind a key, or none.
 fn value(alloc: Global, text: &str) -> Result<Option<Value>, AllocError> {
@@ -48,13 +11,6 @@ fn value(alloc: Global, text: &str) -> Result<Option<Value>, AllocError> {
     match fields.find("x") {
         Some(value) => Ok(Some(value.copy(alloc)?)),
         None => Ok(None),
-    }
-}
-
-fn path(alloc: Global, text: &str) -> Result<FieldPath, AllocError> {
-    match parse_field(alloc, text.trim()) {
-        Ok(path) => Ok(path),
-        Err(_) => Err(AllocError),
     }
 }
 
@@ -69,22 +25,60 @@ fn numbers(alloc: Global, text: &str) -> Result<Values, AllocError> {
     Ok(values)
 }
 
+fn without(alloc: Global, fields: OpenFields, at: &str) -> Result<OpenFields, AllocError> {
+    let path = path(alloc, at)?;
+    fields.unset(alloc, &path)
+}
+
+fn with_more(
+    alloc: Global,
+    fields: OpenFields,
+    at: &str,
+    given: &str,
+) -> Result<OpenFields, AllocError> {
+    let path = path(alloc, at)?;
+    let numbers = numbers(alloc, given)?;
+    fields.append_missing(alloc, &path, &numbers)
+}
+
+fn with_fewer(
+    alloc: Global,
+    fields: OpenFields,
+    at: &str,
+    given: &str,
+) -> Result<OpenFields, AllocError> {
+    let path = path(alloc, at)?;
+    let numbers = numbers(alloc, given)?;
+    fields.remove_all(alloc, &path, &numbers)
+}
+
+fn with_value(
+    alloc: Global,
+    fields: OpenFields,
+    at: &str,
+    given: &str,
+) -> Result<OpenFields, AllocError> {
+    let path = path(alloc, at)?;
+    match value(alloc, given)? {
+        Some(v) => fields.set(alloc, &path, v),
+        None => Err(AllocError),
+    }
+}
+
 fn changed(alloc: Global, fields: OpenFields, change: &str) -> Result<OpenFields, AllocError> {
-    if let Some(taken) = change.trim().strip_prefix('-') {
-        return fields.unset(alloc, &path(alloc, taken)?);
+    let change = change.trim();
+    if let Some(at) = change.strip_prefix('-') {
+        return without(alloc, fields, at);
     }
     if let Some((at, given)) = change.split_once('+') {
-        return fields.append_missing(alloc, &path(alloc, at)?, &numbers(alloc, given)?);
+        return with_more(alloc, fields, at, given);
     }
-    if let Some((at, given)) = change.split_once('~') {
-        return fields.remove_all(alloc, &path(alloc, at)?, &numbers(alloc, given)?);
-    }
-    match change.split_once('=') {
-        Some((at, given)) => match value(alloc, given)? {
-            Some(v) => fields.set(alloc, &path(alloc, at)?, v),
-            None => Err(AllocError),
-        },
-        None => Err(AllocError),
+    match change.split_once('~') {
+        Some((at, given)) => with_fewer(alloc, fields, at, given),
+        None => {
+            let (at, given) = change.split_once('=').unwrap_or(("", ""));
+            with_value(alloc, fields, at, given)
+        }
     }
 }
 

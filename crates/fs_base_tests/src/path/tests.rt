@@ -160,11 +160,15 @@ fn covered(alloc: Global, kind: &str, text: &str) -> Result<String, PathError> {
     let (path, rest) = text.split_once(" ").unwrap_or(("", text));
     let (id, document) = rest.split_once(" ").unwrap_or((rest, ""));
     let scope = scope(alloc, kind, path, id)?;
-    let name = name_of(alloc, document)?;
-    if !is_copied(alloc, &scope)? {
+    covered_by(alloc, &scope, document)
+}
+
+fn covered_by(alloc: Global, scope: &Scope, document: &str) -> Result<String, PathError> {
+    if !is_copied(alloc, scope)? {
         return Ok(String::from_str(alloc, "another copy")?);
     }
-    Ok(covers(&scope, &name).to_string(alloc)?)
+    let name = name_of(alloc, document)?;
+    Ok(covers(scope, &name).to_string(alloc)?)
 }
 
 fn shard(alloc: Global, text: &str) -> Result<String, AllocError> {

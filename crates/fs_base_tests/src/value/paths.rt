@@ -1,38 +1,8 @@
 //! Values at paths, by a table.
-use fs_path::{FieldPath, Text, parse_field};
-use fs_value::{Fields, Value, Values, fields_same, get, same, set, unset};
+use crate::short::{path, read};
+use fs_path::FieldPath;
+use fs_value::{Fields, Value, fields_same, get, same, set, unset};
 use std::alloc::{AllocError, Global};
-use std::mem::replace;
-
-// A document's fields, in short: `a{b1c2}d3` has the map `a` and the number 3 at `d`, and `a[` is an empty array at `a`.
-fn read(alloc: Global, text: &str) -> Result<Fields, AllocError> {
-    let mut open: Vec<(Text, Fields)> = Vec::new(alloc);
-    let mut fields = Fields::new(alloc);
-    let mut key = 'a';
-    for c in text.chars() {
-        match c {
-            '{' => open.push((one(alloc, key)?, replace(&mut fields, Fields::new(alloc))))?,
-            '}' => {
-                if let Some((name, outer)) = open.pop() {
-                    let inner = replace(&mut fields, outer);
-                    fields.put(name, Value::Map(inner))?;
-                }
-            }
-            '[' => fields.put(one(alloc, key)?, Value::Array(Values::new(alloc)))?,
-            _ => match c.to_digit(10) {
-                Some(n) => fields.put(one(alloc, key)?, Value::Integer(i64::from(n)))?,
-                None => key = c,
-            },
-        }
-    }
-    Ok(fields)
-}
-
-fn one(alloc: Global, c: char) -> Result<Text, AllocError> {
-    let mut string = String::new(alloc);
-    string.push(c)?;
-    Ok(Text::of(string))
-}
 
 fn alike(a: Option<&Value>, b: Option<&Value>) -> bool {
     match a {
@@ -41,13 +11,6 @@ fn alike(a: Option<&Value>, b: Option<&Value>) -> bool {
             None => false,
         },
         None => b.is_none(),
-    }
-}
-
-fn path_of(alloc: Global, text: &str) -> Result<FieldPath, AllocError> {
-    match parse_field(alloc, text) {
-        Ok(path) => Ok(path),
-        Err(_) => Err(AllocError),
     }
 }
 
@@ -83,8 +46,8 @@ const CHANGES: [(&str, &str, &str, &str, &str); 26] = [
     ("a1d3", "d.e", "", "", "a1d3"),
     ("a{b1c2}", "a.b.c", "", "x4", "a{b{c4}c2}"),
     ("a{b1c2}", "a.b.c", "", "", "a{b1c2}"),
-    ("a[", "a.b.c", "", "x4", "a{b{c4}}"),
-    ("a[", "a.b.c", "", "", "a["),
+    ("a[]", "a.b.c", "", "x4", "a{b{c4}}"),
+    ("a[]", "a.b.c", "", "", "a[]"),
     // no value on the way
     ("", "a.b.c", "", "x1", "a{b{c1}}"),
     ("", "a.b.c", "", "", ""),
@@ -105,15 +68,34 @@ const CHANGES: [(&str, &str, &str, &str, &str); 26] = [
 
 fn is_changed(alloc: Global, row: &(&str, &str, &str, &str, &str)) -> Result<bool, AllocError> {
     let mut fields = read(alloc, row.0)?;
-    let path = path_of(alloc, row.1)?;
+    let path = path(alloc, row.1)?;
+    is_changed_at(alloc, &mut fields, &path, row)
+}
+
+fn is_changed_at(
+    alloc: Global,
+    fields: &mut Fields,
+    path: &FieldPath,
+    row: &(&str, &str, &str, &str, &str),
+) -> Result<bool, AllocError> {
     let found = read(alloc, row.2)?;
+    Ok(alike(get(fields, path), found.find("x")) && is_set(alloc, fields, path, row)?)
+}
+
+fn is_set(
+    alloc: Global,
+    fields: &mut Fields,
+    path: &FieldPath,
+    row: &(&str, &str, &str, &str, &str),
+) -> Result<bool, AllocError> {
     let given = read(alloc, row.3)?;
-    let after = read(alloc, row.4)?;
-    if !alike(get(&fields, &path), found.find("x")) {
-        return Ok(false);
-    }
-    change(alloc, &mut fields, &path, given.find("x"))?;
-    Ok(fields_same(&fields, &after) && alike(get(&fields, &path), given.find("x")))
+    change(alloc, fields, path, given.find("x"))?;
+    Ok(alike(get(fields, path), given.find("x")) && are_fields(alloc, fields, row.4)?)
+}
+
+fn are_fields(alloc: Global, fields: &Fields, text: &str) -> Result<bool, AllocError> {
+    let expected = read(alloc, text)?;
+    Ok(fields_same(fields, &expected))
 }
 
 #[test]

@@ -249,15 +249,24 @@ fn values_of_depth_100_are_compared(rt: HostRuntime) {
 
 // `demo/(default)/c/{id}` with the field `n`.
 fn document(alloc: Global, id: &str, n: Value) -> Result<Document, AllocError> {
-    let t = Micros::new(1).ok_or(AllocError)?;
+    let fields = shared_of(alloc, n)?;
+    let name = name(alloc, &format!(in alloc; "demo/(default)/c/{id}")?)?;
+    match Micros::new(1) {
+        Some(t) => Ok(Document {
+            name,
+            fields,
+            created: t,
+            updated: t,
+        }),
+        None => Err(AllocError),
+    }
+}
+
+// One field `n`.
+fn shared_of(alloc: Global, n: Value) -> Result<SharedFields, AllocError> {
     let mut fields = Fields::with_capacity(alloc, 1)?;
     fields.put(Text::from_str(alloc, "n")?, n)?;
-    Ok(Document {
-        name: name(alloc, &format!(in alloc; "demo/(default)/c/{id}")?)?,
-        fields: SharedFields::of(alloc, fields)?,
-        created: t,
-        updated: t,
-    })
+    SharedFields::of(alloc, fields)
 }
 
 fn long_text(alloc: Global, n: u32) -> Result<Value, AllocError> {

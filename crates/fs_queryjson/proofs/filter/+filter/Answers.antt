@@ -17,7 +17,7 @@ pub read_filter-read_kind-requires : goal.read_filter-read_kind-requires
 read_filter-read_kind-requires t c =
     let d = json c.args.v.now in
     let place = place_of c.args.place.now in
-    let both : the_filter d place ≡ Ok (c.in_ok-name.name.now, json c.in_ok-name.content.now) = search rules in
+    let both : the_filter d place ≡ Ok (c.in_ok-name.name.now, json c.in_ok-name.content.now) = c.in_ok-name.ensures in
     let found = last_ok (only_at filter_kinds d place) (one_of_at filter_kinds d place) _ both in
     (omega (arith, one_of_falls filter_kinds d place _ found), tt)
 
@@ -54,6 +54,6 @@ read_items-loop-i-preserved t c =
     let i = c.loop-i.i in
     let x = c.index-items-i.result in
     let here : drop i items ≡ x ∷ drop (i + 1) items = drop_more items i x (omega arith) ∙ ap (λ y. y ∷ drop (i + 1) items) (sym c.index-items-i.is) in
-    let read : filter_at (json x) (item_place place i) ≡ Ok (view c.in_ok-filter.filter) = search rules in
+    let read : filter_at (json x) (item_place place i) ≡ Ok (view c.in_ok-filter.filter) = ap (filter_at (json x)) (sym c.item.ensures) ∙ c.in_ok-filter.ensures in
     let step = next_filter c.loop-i.filters (json x) (items_view (drop (i + 1) items)) i place (view c.in_ok-filter.filter) read in
     rw c.in_ok-push.ensures.ok (sym step ∙ ap (λ ys. behind c.loop-i.filters (each_filter_at (items_view ys) i place)) (sym here) ∙ c.loop-i.invariant)

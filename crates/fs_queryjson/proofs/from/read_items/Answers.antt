@@ -15,6 +15,6 @@ loop-i-preserved c =
     let i = c.loop-i.i in
     let x = c.index-items-i.result in
     let here : drop i items ≡ x ∷ drop (i + 1) items = drop_more items i x (omega arith) ∙ ap (λ y. y ∷ drop (i + 1) items) (sym c.index-items-i.is) in
-    let read : scope_at c.args.parent.now (view x) (item_place place i) ≡ Ok c.in_ok-scope.scope = search rules in
+    let read : scope_at c.args.parent.now (view x) (item_place place i) ≡ Ok c.in_ok-scope.scope = ap (scope_at c.args.parent.now (view x)) (sym c.item.ensures) ∙ c.in_ok-scope.ensures in
     let step = next_one (scope_at c.args.parent.now) c.loop-i.scopes.items (view x) (items_view (drop (i + 1) items)) i place c.in_ok-scope.scope read in
     rw c.in_ok-push.ensures.items (sym step ∙ ap (λ ys. behind c.loop-i.scopes.items (each_at (scope_at c.args.parent.now) (items_view ys) i place)) (sym here) ∙ c.loop-i.invariant)

@@ -15,6 +15,6 @@ loop-i-preserved c =
     let i = c.loop-i.i in
     let x = c.index-items-i.result in
     let here : drop i items ≡ x ∷ drop (i + 1) items = drop_more items i x (omega arith) ∙ ap (λ y. y ∷ drop (i + 1) items) (sym c.index-items-i.is) in
-    let read : order_at (view x) (item_place place i) ≡ Ok c.in_ok-order.order = search rules in
+    let read : order_at (view x) (item_place place i) ≡ Ok c.in_ok-order.order = ap (order_at (view x)) (sym c.item.ensures) ∙ c.in_ok-order.ensures in
     let step = next_one (order_at) c.loop-i.orders (view x) (items_view (drop (i + 1) items)) i place c.in_ok-order.order read in
     rw c.in_ok-push.ensures.ok (sym step ∙ ap (λ ys. behind c.loop-i.orders (each_at (order_at) (items_view ys) i place)) (sym here) ∙ c.loop-i.invariant)
