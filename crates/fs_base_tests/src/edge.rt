@@ -192,11 +192,7 @@ fn push_word(text: &mut String, word: &str) -> Result<(), AllocError> {
     text.push_str(word)
 }
 
-fn push_heard(
-    alloc: Global,
-    link: &mut MemoryLink,
-    text: &mut String,
-) -> Result<(), AllocError> {
+fn push_heard(alloc: Global, link: &mut MemoryLink, text: &mut String) -> Result<(), AllocError> {
     let word = heard(alloc, link)?;
     push_word(text, word.as_str())
 }
@@ -236,10 +232,7 @@ fn push_link_told(alloc: Global, text: &mut String) -> Result<(), AllocError> {
 #[test]
 fn a_link_in_memory_hears_and_sends_in_order(rt: HostRuntime) {
     let told = link_told(rt.alloc()).expect(&rt, "memory");
-    assert!(rt;
-        told.trim() == "one Failed Done quiet closed two",
-        "{told}"
-    );
+    assert!(rt; told.trim() == "one Failed Done quiet closed two", "{told}");
 }
 
 #[test]
