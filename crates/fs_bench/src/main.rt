@@ -32,18 +32,33 @@ fn main(rt: HostRuntime) -> io::Result<()> {
 }
 
 fn measure(rt: &HostRuntime) -> io::Result<()> {
-    let alloc = rt.alloc();
-    let one = a_name(alloc, "m000001")?;
-    let other = a_name(alloc, "m000002")?;
+    measure_names(rt)?;
+    measure_documents(rt)
+}
+
+fn measure_names(rt: &HostRuntime) -> io::Result<()> {
+    let one = a_name(rt.alloc(), "m000001")?;
+    let other = a_name(rt.alloc(), "m000002")?;
+    compare(rt, &one, &other)
+}
+
+fn compare(rt: &HostRuntime, one: &DocName, other: &DocName) -> io::Result<()> {
     let start = Instant::now(rt)?;
-    let less = times_less(&one, &other);
+    let less = times_less(one, other);
     let compared = start.elapsed(rt)?.as_nanos() / ROUNDS as u128;
     println!(rt;
         "comparing two names that differ in the last id: {compared} ns ({less} times less)"
-    )?;
-    let document = a_document(alloc)?;
+    )
+}
+
+fn measure_documents(rt: &HostRuntime) -> io::Result<()> {
+    let document = a_document(rt.alloc())?;
+    copy(rt, &document)
+}
+
+fn copy(rt: &HostRuntime, document: &Document) -> io::Result<()> {
     let start = Instant::now(rt)?;
-    let copies = copies_of(alloc, &document)?;
+    let copies = copies_of(rt.alloc(), document)?;
     let copied = start.elapsed(rt)?.as_nanos() / ROUNDS as u128;
     println!(rt; "copying a document of ten fields, and dropping it: {copied} ns ({copies} copies)")
 }
@@ -92,46 +107,61 @@ fn put(alloc: Global, fields: &mut Fields, key: &str, value: Value) -> Result<()
     fields.put(Text::from_str(alloc, key)?, value)
 }
 
-fn some_fields(alloc: Global) -> Result<Fields, AllocError> {
-    let mut fields = Fields::new(alloc);
-    put(alloc, &mut fields, "name", text(alloc, 24)?)?;
-    put(alloc, &mut fields, "text", text(alloc, 120)?)?;
-    put(alloc, &mut fields, "count", Value::Integer(4_611_686_018))?;
-    put(alloc, &mut fields, "open", Value::Boolean(true))?;
-    put(alloc, &mut fields, "none", Value::Null)?;
-    put(
-        alloc,
-        &mut fields,
-        "at",
-        Value::Timestamp(Micros::new(1_704_067_200_000_001).unwrap()),
-    )?;
-    let data = Bytes::from_slice(alloc, b"ABCDEFGHIJKLMNOPQRSTUVWXYZabc")?;
-    put(alloc, &mut fields, "data", Value::Bytes(data))?;
-    put(
-        alloc,
-        &mut fields,
-        "owner",
-        Value::Reference(a_name(alloc, "u000001")?),
-    )?;
-    Ok(fields)
+fn put_text(alloc: Global, fields: &mut Fields, key: &str, bytes: usize) -> Result<(), AllocError> {
+    put(alloc, fields, key, text(alloc, bytes)?)
 }
 
-fn a_document(alloc: Global) -> Result<Document, AllocError> {
-    let mut fields = some_fields(alloc)?;
+fn put_scalars(alloc: Global, fields: &mut Fields) -> Result<(), AllocError> {
+    put_text(alloc, fields, "name", 24)?;
+    put_text(alloc, fields, "text", 120)?;
+    put(alloc, fields, "count", Value::Integer(4_611_686_018))?;
+    put(alloc, fields, "open", Value::Boolean(true))?;
+    put(alloc, fields, "none", Value::Null)?;
+    put(alloc, fields, "at", Value::Timestamp(now()))?;
+    let data = Bytes::from_slice(alloc, b"ABCDEFGHIJKLMNOPQRSTUVWXYZabc")?;
+    put(alloc, fields, "data", Value::Bytes(data))?;
+    let owner = a_name(alloc, "u000001")?;
+    put(alloc, fields, "owner", Value::Reference(owner))
+}
+
+fn put_tags(alloc: Global, fields: &mut Fields) -> Result<(), AllocError> {
     let mut tags = Values::new(alloc);
     for _ in 0..4 {
         tags.push(text(alloc, 6)?)?;
     }
-    put(alloc, &mut fields, "tags", Value::Array(tags))?;
+    put(alloc, fields, "tags", Value::Array(tags))
+}
+
+fn put_place(alloc: Global, fields: &mut Fields) -> Result<(), AllocError> {
     let mut place = Fields::new(alloc);
-    put(alloc, &mut place, "city", text(alloc, 10)?)?;
+    put_text(alloc, &mut place, "city", 10)?;
     put(alloc, &mut place, "zip", Value::Integer(12_345))?;
-    put(alloc, &mut fields, "place", Value::Map(place))?;
-    let now = Micros::new(1_704_067_200_000_001).unwrap();
+    put(alloc, fields, "place", Value::Map(place))
+}
+
+fn put_all(alloc: Global, fields: &mut Fields) -> Result<(), AllocError> {
+    put_scalars(alloc, fields)?;
+    put_tags(alloc, fields)?;
+    put_place(alloc, fields)
+}
+
+fn some_fields(alloc: Global) -> Result<SharedFields, AllocError> {
+    let mut fields = Fields::new(alloc);
+    put_all(alloc, &mut fields)?;
+    SharedFields::of(alloc, fields)
+}
+
+fn now() -> Micros {
+    Micros::new(1_704_067_200_000_001).unwrap()
+}
+
+fn a_document(alloc: Global) -> Result<Document, AllocError> {
+    let name = a_name(alloc, "m000001")?;
+    let fields = some_fields(alloc)?;
     Ok(Document {
-        name: a_name(alloc, "m000001")?,
-        fields: SharedFields::of(alloc, fields)?,
-        created: now,
-        updated: now,
+        name,
+        fields,
+        created: now(),
+        updated: now(),
     })
 }

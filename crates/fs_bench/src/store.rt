@@ -22,13 +22,16 @@ const ROUNDS: u32 = 20;
 
 /// Prints what a query over the collection costs beside so many other documents.
 pub fn measure(rt: &HostRuntime, others: u32) -> io::Result<()> {
-    let alloc = rt.alloc();
-    let mut store = Store::new(alloc, moment(0));
-    let absorbed = fill(alloc, &mut store, others)?;
+    let mut store = Store::new(rt.alloc(), moment(0));
+    let absorbed = fill(rt.alloc(), &mut store, others)?;
+    measure_queries(rt, &store, others, absorbed)
+}
+
+fn measure_queries(rt: &HostRuntime, store: &Store, others: u32, absorbed: bool) -> io::Result<()> {
     let start = Instant::now(rt)?;
     let mut answered = 0usize;
     for _ in 0..ROUNDS {
-        answered = answered.saturating_add(ask(alloc, &store)?);
+        answered = answered.saturating_add(ask(rt.alloc(), store)?);
     }
     let asking = start.elapsed(rt)?.as_micros() / ROUNDS as u128;
     println!(rt;
@@ -76,27 +79,39 @@ fn created(
 ) -> Result<TimedChange, AllocError> {
     let mut changes = Changes::new(alloc);
     for i in 0..count {
-        let path = format!(in alloc; "demo/(default)/{collection}/d{i:07}")?;
-        let name = DocName::of_path(path).ok_or(AllocError)?;
-        let mut fields = Fields::new(alloc);
-        fields.put(Text::from_str(alloc, "n")?, Value::Integer(i as i64))?;
-        let after = Document {
-            name: name.copy(alloc)?,
-            fields: SharedFields::of(alloc, fields)?,
-            created: moment(time),
-            updated: moment(time),
-        };
-        changes.push(Change {
-            name,
-            before: None,
-            after: Some(after),
-        })?;
+        changes.push(creation(alloc, collection, i, time)?)?;
     }
     Ok(TimedChange {
         time: moment(time),
         id: Id::new(time.unsigned_abs()),
         changes,
     })
+}
+
+fn creation(alloc: Global, collection: &str, i: u32, time: i64) -> Result<Change, AllocError> {
+    let name = a_name(alloc, collection, i)?;
+    let after = Document {
+        name: a_name(alloc, collection, i)?,
+        fields: a_field(alloc, i)?,
+        created: moment(time),
+        updated: moment(time),
+    };
+    Ok(Change {
+        name,
+        before: None,
+        after: Some(after),
+    })
+}
+
+fn a_name(alloc: Global, collection: &str, i: u32) -> Result<DocName, AllocError> {
+    let path = format!(in alloc; "demo/(default)/{collection}/d{i:07}")?;
+    DocName::of_path(path).ok_or(AllocError)
+}
+
+fn a_field(alloc: Global, i: u32) -> Result<SharedFields, AllocError> {
+    let mut fields = Fields::new(alloc);
+    fields.put(Text::from_str(alloc, "n")?, Value::Integer(i as i64))?;
+    SharedFields::of(alloc, fields)
 }
 
 fn ask(alloc: Global, store: &Store) -> Result<usize, AllocError> {
@@ -114,11 +129,13 @@ fn answered<L: Ledger>(alloc: Global, store: &Store, blank: Blank) -> Result<usi
     if time < store.floor() || store.absorbed() < time {
         return Ok(0);
     }
-    let query = Query {
-        scope: Scope::Collection {
-            parent: Ids::new(alloc),
-            id: Text::from_str(alloc, "asked")?,
-        },
+    let query = ten_of(Ids::new(alloc), Text::from_str(alloc, "asked")?, alloc);
+    Ok(store.run(alloc, &query, time, &mut steps)?.len())
+}
+
+fn ten_of(parent: Ids, id: Text, alloc: Global) -> Query {
+    Query {
+        scope: Scope::Collection { parent, id },
         filter: Filter::All,
         orders: Orders::new(alloc),
         start: None,
@@ -126,6 +143,5 @@ fn answered<L: Ledger>(alloc: Global, store: &Store, blank: Blank) -> Result<usi
         offset: 0,
         limit: Some(10),
         select: None,
-    };
-    Ok(store.run(alloc, &query, time, &mut steps)?.len())
+    }
 }

@@ -15,28 +15,65 @@ const STRIDE: u64 = 611_953;
 
 /// Prints what a version costs where there are so many documents.
 pub fn measure(rt: &HostRuntime, count: u64) -> io::Result<()> {
-    let alloc = rt.alloc();
-    let names = names(alloc, count)?;
-    let fields = some_fields(alloc)?;
+    let names = names(rt.alloc(), count)?;
+    measure_names(rt, &names)
+}
+
+fn measure_names(rt: &HostRuntime, names: &[DocName]) -> io::Result<()> {
+    let mut versions = Versions::new(rt.alloc(), moment(0));
+    measure_versions(rt, &mut versions, names)
+}
+
+fn measure_versions(
+    rt: &HostRuntime,
+    versions: &mut Versions,
+    names: &[DocName],
+) -> io::Result<()> {
+    measure_installs(rt, versions, names)?;
+    measure_reads(rt, versions, names)?;
+    measure_compaction(rt, versions)
+}
+
+fn measure_installs(
+    rt: &HostRuntime,
+    versions: &mut Versions,
+    names: &[DocName],
+) -> io::Result<()> {
+    let fields = some_fields(rt.alloc())?;
+    time_installs(rt, versions, names, &fields)
+}
+
+fn time_installs(
+    rt: &HostRuntime,
+    versions: &mut Versions,
+    names: &[DocName],
+    fields: &SharedFields,
+) -> io::Result<()> {
     let start = Instant::now(rt)?;
-    let made = make(alloc, &names, &fields)?;
+    let made = make(rt.alloc(), names, fields)?;
     let making = start.elapsed(rt)?.as_nanos() / ROUNDS as u128;
-    let mut versions = Versions::new(alloc, moment(0));
     let start = Instant::now(rt)?;
-    let installed = install(alloc, &mut versions, &names, &fields)?;
+    let installed = install(rt.alloc(), versions, names, fields)?;
     let installing = start.elapsed(rt)?.as_nanos() / ROUNDS as u128;
+    let count = names.len();
     println!(rt; "{count} documents, {made} changes made, {installed} versions put in")?;
     println!(rt;
         "making a change: {making} ns; making it and putting its version in: {installing} ns"
-    )?;
+    )
+}
+
+fn measure_reads(rt: &HostRuntime, versions: &Versions, names: &[DocName]) -> io::Result<()> {
     let start = Instant::now(rt)?;
-    let found = look_up(&versions, &names);
+    let found = look_up(versions, names);
     let looking = start.elapsed(rt)?.as_nanos() / ROUNDS as u128;
     println!(rt; "a document at a time: {looking} ns ({found} found)")?;
     let start = Instant::now(rt)?;
-    let found = look_up_latest(&versions, &names);
+    let found = look_up_latest(versions, names);
     let looking = start.elapsed(rt)?.as_nanos() / ROUNDS as u128;
-    println!(rt; "the newest of a document: {looking} ns ({found} found)")?;
+    println!(rt; "the newest of a document: {looking} ns ({found} found)")
+}
+
+fn measure_compaction(rt: &HostRuntime, versions: &mut Versions) -> io::Result<()> {
     let start = Instant::now(rt)?;
     let half = moment(ROUNDS / 2);
     if versions.floor() <= half {
