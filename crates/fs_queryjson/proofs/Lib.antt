@@ -5,4 +5,5 @@ pub mod Floats
 pub mod Lists
 pub mod Put
 pub mod Rows
+pub mod Walked
 pub mod Written

@@ -4,6 +4,7 @@ ghost use Rattle.fs_path.specs.Way.{place_of};
 ghost use Rattle.serde_json.specs.View.{view as json};
 ghost use Rattle.fs_json.specs.Answer.{Gives};
 ghost use Rattle.fs_queryjson.specs.Query.{offset_in, permitted_at, query_at, walked_at};
+ghost use Rattle.fs_queryjson.specs.Steps.{ordered_at};
 
 use crate::cursor::read_cursor_of;
 use crate::filter::read_where_of;
@@ -14,7 +15,7 @@ use crate::order::read_orders_of;
 use crate::select::read_select_of;
 use fs_json::{Bad, only};
 use fs_path::{Ids, Rule, Way};
-use fs_query::{Query, check};
+use fs_query::{Cursor, Orders, Query, check};
 use serde_json::Value;
 use std::alloc::Global;
 
@@ -39,14 +40,17 @@ pub fn walk_query(alloc: Global, parent: &Ids, v: &Value, place: &Way<'_>) -> Re
     only(alloc, v, &QUERY_MEMBERS, place)?;
     let select = read_select_of(alloc, v, place)?;
     let scopes = read_scopes_of(alloc, parent, v, place)?;
+    let scope = the_scope(alloc, parent, scopes)?;
     let filter = read_where_of(alloc, v, place)?;
-    let orders = read_orders_of(alloc, v, place)?;
-    let start = read_cursor_of(alloc, v, START_AT, place)?;
-    let end = read_cursor_of(alloc, v, END_AT, place)?;
-    let offset = read_offset_of(alloc, v, place)?;
-    let limit = read_small_of(alloc, v, LIMIT, place)?;
+    let Ordered {
+        orders,
+        start,
+        end,
+        offset,
+        limit,
+    } = read_ordered(alloc, v, place)?;
     Ok(Query {
-        scope: the_scope(alloc, parent, scopes)?,
+        scope,
         filter,
         orders,
         start,
@@ -54,6 +58,33 @@ pub fn walk_query(alloc: Global, parent: &Ids, v: &Value, place: &Way<'_>) -> Re
         offset,
         limit,
         select,
+    })
+}
+
+/// The order of a query's documents, and the part of them in that order that it asks for.
+#[derive(Drop)]
+struct Ordered {
+    orders: Orders,
+    start: Option<Cursor>,
+    end: Option<Cursor>,
+    offset: i32,
+    limit: Option<i32>,
+}
+
+fn read_ordered(alloc: Global, v: &Value, place: &Way<'_>) -> Result<Ordered, Bad>
+    ensures { Gives (λ o. o) result (ordered_at (json v.now) (place_of place.now)) }
+{
+    let orders = read_orders_of(alloc, v, place)?;
+    let start = read_cursor_of(alloc, v, START_AT, place)?;
+    let end = read_cursor_of(alloc, v, END_AT, place)?;
+    let offset = read_offset_of(alloc, v, place)?;
+    let limit = read_small_of(alloc, v, LIMIT, place)?;
+    Ok(Ordered {
+        orders,
+        start,
+        end,
+        offset,
+        limit,
     })
 }
 
