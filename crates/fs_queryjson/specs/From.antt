@@ -3,7 +3,7 @@
 --
 --     the collection notes of the parent         [{"collectionId":"notes"}]
 --     all collections notes below the parent     [{"allDescendants":true,"collectionId":"notes"}]
-use Rattle.std.specs.Prelude.{ℕ, Bool, true, false, List, [], ◌∷◌, None, Result, Ok, Err, codes, if◌then◌else◌}
+use Rattle.std.specs.Prelude.{ℕ, Bool, true, false, List, [], ◌∷◌, Result, Ok, codes, if◌then◌else◌}
 use Rattle.fs_path.specs.declared.scope.Scope.{Scope}
 use Rattle.fs_path.specs.declared.scope.Scope.TheVariants.{Collection, Group}
 use Rattle.serde_json.specs.Data as json
