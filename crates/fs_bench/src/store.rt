@@ -125,12 +125,26 @@ fn answered<L: Ledger>(alloc: Global, store: &Store, blank: Blank) -> Result<usi
     requires some { 0 < blank.parts }
 {
     let mut steps: Steps<L> = Steps::new(blank);
+    let query = ten_asked(alloc)?;
+    count_of(alloc, store, &query, &mut steps)
+}
+
+fn count_of<L: Ledger>(
+    alloc: Global,
+    store: &Store,
+    query: &Query,
+    steps: &mut Steps<L>,
+) -> Result<usize, AllocError> {
     let time = moment(2);
     if time < store.floor() || store.absorbed() < time {
         return Ok(0);
     }
-    let query = ten_of(Ids::new(alloc), Text::from_str(alloc, "asked")?, alloc);
-    Ok(store.run(alloc, &query, time, &mut steps)?.len())
+    Ok(store.run(alloc, query, time, steps)?.len())
+}
+
+fn ten_asked(alloc: Global) -> Result<Query, AllocError> {
+    let id = Text::from_str(alloc, "asked")?;
+    Ok(ten_of(Ids::new(alloc), id, alloc))
 }
 
 fn ten_of(parent: Ids, id: Text, alloc: Global) -> Query {
