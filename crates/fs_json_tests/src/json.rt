@@ -1,86 +1,143 @@
 //! Scalars and members that are read, and what is written, by tables.
+use crate::made::{Make, demo, json, printed};
+use crate::table::holds;
 use fs_json::{
     Bad, at_most_one_of, base64_forms, bytes, document_name, field_path, integer, list, member,
     one_of, only, reference, refuse_unbuilt, required, small, text, time, truth, write_bytes,
     write_integer, write_text, write_time,
 };
-use fs_path::{Bytes, Root, Text, Way, print_document, print_field};
+use fs_path::{Bytes, DocName, FieldPath, Text, Way, print_document, print_field};
 use fs_time::Micros;
 use serde_json::Value;
-use std::alloc::{AllocError, Global};
-use std::test::Fail;
+use std::alloc::Global;
 
-// What was read, or the refusal with its place.
-fn shown(alloc: Global, read: Result<String, Bad>) -> Result<String, Fail> {
-    match read {
-        Ok(value) => Ok(value),
-        Err(Bad::At(rule, place)) => {
-            let place = place.as_str();
-            Ok(format!(in alloc; "{rule:?} at {place}")?)
-        }
-        Err(Bad::Method(name)) => {
-            let name = name.as_str();
-            Ok(format!(in alloc; "{name} isn't built")?)
-        }
-        Err(bad) => Err(Fail::from(bad)),
-    }
+/// What the reader gives that a text names, of the JSON behind its name.
+pub(crate) fn read(alloc: Global, text: &str) -> Result<String, Bad> {
+    let (reader, text) = text.split_once(" ").unwrap_or((text, ""));
+    let v = json(alloc, text)?;
+    scalar(alloc, reader, &v, &Way::method("x"))
 }
 
-// What the reader of this name gives.
 fn scalar(alloc: Global, reader: &str, v: &Value, here: &Way<'_>) -> Result<String, Bad> {
     match reader {
-        "integer" => Ok(integer(alloc, v, here)?.to_string(alloc)?),
-        "small" => Ok(small(alloc, v, here)?.to_string(alloc)?),
-        "truth" => Ok(truth(alloc, v, here)?.to_string(alloc)?),
-        "text" => Ok(text(alloc, v, here)?.into_string()),
-        "bytes" => Ok(format!(in alloc; "{:?}", bytes(alloc, v, here)?.as_slice())?),
-        "time" => Ok(time(alloc, v, here)?.get().to_string(alloc)?),
-        "list" => Ok(list(alloc, v, here)?.len().to_string(alloc)?),
-        "field_path" => Ok(print_field(alloc, &field_path(alloc, v, here)?)?.into_string()),
-        _ => name(alloc, reader, v, here),
+        "integer" | "small" | "time" => number_shown(alloc, number(alloc, reader, v, here)),
+        "truth" => truth_shown(alloc, truth(alloc, v, here)),
+        "list" => list_shown(alloc, list(alloc, v, here)),
+        "text" => text_shown(text(alloc, v, here)),
+        "bytes" => bytes_shown(alloc, bytes(alloc, v, here)),
+        "field_path" => path_shown(alloc, field_path(alloc, v, here)),
+        "reference" => name_shown(alloc, reference(alloc, v, here)),
+        "document_name" => name_shown(alloc, name(alloc, v, here)),
+        _ => members(alloc, reader, v, here),
     }
 }
 
-fn name(alloc: Global, reader: &str, v: &Value, here: &Way<'_>) -> Result<String, Bad> {
-    let root = Root {
-        project: Text::from_str(alloc, "demo")?,
-        database: Text::from_str(alloc, "(default)")?,
-    };
-    let name = if reader == "reference" {
-        reference(alloc, v, here)?
-    } else {
-        document_name(alloc, &root, v, here)?
-    };
+fn number(alloc: Global, reader: &str, v: &Value, here: &Way<'_>) -> Result<i64, Bad> {
+    match reader {
+        "integer" => integer(alloc, v, here),
+        "small" => Ok(i64::from(small(alloc, v, here)?)),
+        _ => Ok(time(alloc, v, here)?.get()),
+    }
+}
+
+fn number_shown(alloc: Global, read: Result<i64, Bad>) -> Result<String, Bad> {
+    Ok(read?.to_string(alloc)?)
+}
+
+fn truth_shown(alloc: Global, read: Result<bool, Bad>) -> Result<String, Bad> {
+    word(alloc, if read? { "true" } else { "false" })
+}
+
+fn list_shown(alloc: Global, read: Result<&Vec<Value>, Bad>) -> Result<String, Bad> {
+    Ok(read?.len().to_string(alloc)?)
+}
+
+fn text_shown(read: Result<Text, Bad>) -> Result<String, Bad> {
+    Ok(read?.into_string())
+}
+
+fn bytes_shown(alloc: Global, read: Result<Bytes, Bad>) -> Result<String, Bad> {
+    let bytes = read?;
+    let bytes = bytes.as_slice();
+    Ok(format!(in alloc; "{bytes:?}")?)
+}
+
+fn path_shown(alloc: Global, read: Result<FieldPath, Bad>) -> Result<String, Bad> {
+    let path = read?;
+    Ok(print_field(alloc, &path)?.into_string())
+}
+
+fn name_shown(alloc: Global, read: Result<DocName, Bad>) -> Result<String, Bad> {
+    let name = read?;
     Ok(print_document(alloc, &name)?.into_string())
 }
 
+fn name(alloc: Global, v: &Value, here: &Way<'_>) -> Result<DocName, Bad> {
+    let root = demo(alloc)?;
+    document_name(alloc, &root, v, here)
+}
+
+fn word(alloc: Global, word: &str) -> Result<String, Bad> {
+    Ok(String::from_str(alloc, word)?)
+}
+
+const NAMES: [&str; 4] = ["delete", "readTime", "updateTime", "nullValue"];
+
 // The same of a reader of members, with the names that it is given.
 fn members(alloc: Global, reader: &str, v: &Value, here: &Way<'_>) -> Result<String, Bad> {
-    let names = ["delete", "readTime", "updateTime", "nullValue"];
     match reader {
-        "member" => match member(alloc, v, "readTime", here)? {
-            Some(found) => Ok(found.to_string(alloc)?),
-            None => Ok(String::from_str(alloc, "none")?),
-        },
-        "required" => Ok(required(alloc, v, "readTime", here)?.to_string(alloc)?),
-        "only" => {
-            only(alloc, v, &names, here)?;
-            Ok(String::from_str(alloc, "only these")?)
-        }
-        "refuse_unbuilt" => {
-            refuse_unbuilt(alloc, v, &names, here)?;
-            Ok(String::from_str(alloc, "none of these")?)
-        }
-        "one_of" => {
-            let (name, found) = one_of(alloc, v, &names, here)?;
-            let found = found.to_string(alloc)?;
-            Ok(format!(in alloc; "{name} {found}")?)
-        }
-        _ => match at_most_one_of(alloc, v, &names, here)? {
-            Some((name, _)) => Ok(String::from_str(alloc, name)?),
-            None => Ok(String::from_str(alloc, "none")?),
-        },
+        "member" => member_shown(alloc, member(alloc, v, "readTime", here)),
+        "required" => required_shown(alloc, required(alloc, v, "readTime", here)),
+        "only" => only_shown(alloc, only(alloc, v, &NAMES, here)),
+        "refuse_unbuilt" => unbuilt(alloc, refuse_unbuilt(alloc, v, &NAMES, here)),
+        "one_of" => one_shown(alloc, one_of(alloc, v, &NAMES, here)),
+        _ => most_shown(alloc, at_most_one_of(alloc, v, &NAMES, here)),
     }
+}
+
+fn member_shown(alloc: Global, read: Result<Option<&Value>, Bad>) -> Result<String, Bad> {
+    match read? {
+        Some(found) => text_of(alloc, found),
+        None => word(alloc, "none"),
+    }
+}
+
+fn required_shown(alloc: Global, read: Result<&Value, Bad>) -> Result<String, Bad> {
+    text_of(alloc, read?)
+}
+
+fn text_of(alloc: Global, v: &Value) -> Result<String, Bad> {
+    Ok(v.to_string(alloc)?)
+}
+
+fn only_shown(alloc: Global, read: Result<(), Bad>) -> Result<String, Bad> {
+    read?;
+    word(alloc, "only these")
+}
+
+fn unbuilt(alloc: Global, read: Result<(), Bad>) -> Result<String, Bad> {
+    match read {
+        Ok(()) => word(alloc, "none of these"),
+        Err(Bad::Method(name)) => not_built(alloc, name.as_str()),
+        Err(bad) => Err(bad),
+    }
+}
+
+fn one_shown(alloc: Global, read: Result<(&str, &Value), Bad>) -> Result<String, Bad> {
+    let (name, found) = read?;
+    let found = text_of(alloc, found)?;
+    Ok(format!(in alloc; "{name} {found}")?)
+}
+
+fn most_shown(alloc: Global, read: Result<Option<(&str, &Value)>, Bad>) -> Result<String, Bad> {
+    match read? {
+        Some((name, _)) => word(alloc, name),
+        None => word(alloc, "none"),
+    }
+}
+
+fn not_built(alloc: Global, name: &str) -> Result<String, Bad> {
+    Ok(format!(in alloc; "{name} isn't built")?)
 }
 
 const SCALARS: &str = r#"integer "0" => 0
@@ -208,75 +265,41 @@ at_most_one_of {"read_time":1} => readTime
 at_most_one_of {"delete":1,"readTime":1} => G at x
 at_most_one_of [] => G at x"#;
 
-// A line's reader, its value and the answer.
-fn parts(line: &str) -> Option<(&str, &str, &str)> {
-    let (asked, want) = line.split_once(" => ")?;
-    let (reader, json) = asked.split_once(" ")?;
-    Some((reader, json, want))
-}
-
 #[test]
-fn scalars_are_read(rt: HostRuntime) -> Result<(), Fail> {
-    let alloc = rt.alloc();
-    for line in SCALARS.lines() {
-        let Some((reader, json, want)) = parts(line) else {
-            return Err(Fail::new("no such line"));
-        };
-        let v = Value::from_str(alloc, json)?;
-        let read = shown(alloc, scalar(alloc, reader, &v, &Way::method("x")))?;
-        assert!(rt; read.as_str() == want, "{line} gives {read}");
-    }
+fn scalars_are_read(rt: HostRuntime) {
+    holds(&rt, rt.alloc(), Make::Read, &[], SCALARS);
     base64_forms();
-    Ok(())
 }
 
 #[test]
-fn members_are_found(rt: HostRuntime) -> Result<(), Fail> {
-    let alloc = rt.alloc();
-    for line in MEMBERS.lines() {
-        let Some((reader, json, want)) = parts(line) else {
-            return Err(Fail::new("no such line"));
-        };
-        let v = Value::from_str(alloc, json)?;
-        let read = shown(alloc, members(alloc, reader, &v, &Way::method("x")))?;
-        assert!(rt; read.as_str() == want, "{line} gives {read}");
-    }
-    Ok(())
+fn members_are_found(rt: HostRuntime) {
+    holds(&rt, rt.alloc(), Make::Read, &[], MEMBERS);
 }
 
-fn written(alloc: Global, made: Result<Value, AllocError>) -> Result<String, AllocError> {
-    made?.to_string(alloc)
+/// What is written of an integer, a text, bytes and a time.
+pub(crate) fn scalar_written(alloc: Global, kind: &str) -> Result<String, Bad> {
+    match kind {
+        "most" => printed(alloc, write_integer(alloc, i64::MAX)),
+        "least" => printed(alloc, write_integer(alloc, i64::MIN)),
+        "text" => printed(alloc, write_text(alloc, &Text::from_str(alloc, r#"a"é"#)?)),
+        "bytes" => printed(
+            alloc,
+            write_bytes(alloc, &Bytes::from_slice(alloc, b"\xff\xef")?),
+        ),
+        _ => match Micros::new(1_704_067_200_123_000) {
+            Some(t) => printed(alloc, write_time(alloc, t)),
+            None => word(alloc, "no moment"),
+        },
+    }
 }
+
+const WRITTEN: &str = r#"most => "9223372036854775807"
+least => "-9223372036854775808"
+text => "a\"é"
+bytes => "/+8="
+time => "2024-01-01T00:00:00.123Z""#;
 
 #[test]
 fn what_is_written(rt: HostRuntime) {
-    let alloc = rt.alloc();
-    for (n, want) in &[
-        (i64::MAX, r#""9223372036854775807""#),
-        (i64::MIN, r#""-9223372036854775808""#),
-    ] {
-        assert_eq!(rt;
-            written(alloc, write_integer(alloc, *n))
-                .expect(&rt, "memory")
-                .as_str(),
-            *want
-        );
-    }
-    let text = Text::from_str(alloc, r#"a"é"#).expect(&rt, "memory");
-    assert_eq!(rt;
-        written(alloc, write_text(alloc, &text))
-            .expect(&rt, "memory")
-            .as_str(),
-        r#""a\"é""#
-    );
-    let bytes = Bytes::from_slice(alloc, b"\xff\xef").expect(&rt, "memory");
-    assert_eq!(rt;
-        written(alloc, write_bytes(alloc, &bytes))
-            .expect(&rt, "memory")
-            .as_str(),
-        r#""/+8=""#
-    );
-    let t = Micros::new(1_704_067_200_123_000).expect(&rt, "a moment");
-    let shortest = written(alloc, write_time(alloc, t)).expect(&rt, "memory");
-    assert_eq!(rt; shortest.as_str(), r#""2024-01-01T00:00:00.123Z""#);
+    holds(&rt, rt.alloc(), Make::Scalar, &[], WRITTEN);
 }

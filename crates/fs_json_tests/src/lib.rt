@@ -4,11 +4,15 @@
 #[cfg(test)]
 mod json;
 #[cfg(test)]
+mod made;
+#[cfg(test)]
 mod query;
 #[cfg(test)]
 mod queryjson;
 #[cfg(test)]
 mod rpc;
+#[cfg(test)]
+mod table;
 #[cfg(test)]
 mod valjson;
 #[cfg(test)]

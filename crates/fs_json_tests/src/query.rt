@@ -1,4 +1,4 @@
 //! Tests of what fs_query gives, by its public calls. Queries and documents stand as the JSON that clients send.
 
 mod tables;
-mod tests;
+pub(crate) mod tests;

@@ -1,9 +1,7 @@
 //! Tests of what fs_rpc gives, by its public calls.
 
-mod given;
-mod lines;
 mod message_tables;
-mod messages;
+pub(crate) mod messages;
 mod request_tables;
-mod requests;
+pub(crate) mod requests;
 mod tests;

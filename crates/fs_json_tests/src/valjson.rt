@@ -1,41 +1,32 @@
 //! Values, documents and arrays, read and written again, by tables.
+use crate::made::{Form, Make, demo, printed};
+use crate::table::holds;
 use fs_json::Bad;
-use fs_path::{Root, Text, Way};
+use fs_path::Way;
 use fs_valjson::{read_array, read_document, read_list, read_value, write_document, write_value};
+use fs_value::Document;
 use serde_json::Value;
 use std::alloc::Global;
-use std::test::Fail;
 
-// What was written, or the refusal with its place.
-fn shown(alloc: Global, written: Result<String, Bad>) -> Result<String, Fail> {
-    match written {
-        Ok(json) => Ok(json),
-        Err(Bad::At(rule, place)) => {
-            let place = place.as_str();
-            Ok(format!(in alloc; "{rule:?} at {place}")?)
-        }
-        Err(bad) => Err(Fail::from(bad)),
-    }
-}
-
-// What is written of the value that is read.
-fn value_again(alloc: Global, v: &Value) -> Result<String, Bad> {
+/// What is written of the value that is read.
+pub(crate) fn value_again(alloc: Global, v: &Value) -> Result<String, Bad> {
     let value = read_value(alloc, v, &Way::method("x"))?;
-    Ok(write_value(alloc, &value)?.to_string(alloc)?)
+    printed(alloc, write_value(alloc, &value))
 }
 
-// What is written of the document that is read.
-fn document_again(alloc: Global, v: &Value) -> Result<String, Bad> {
-    let root = Root {
-        project: Text::from_str(alloc, "demo")?,
-        database: Text::from_str(alloc, "(default)")?,
-    };
-    let document = read_document(alloc, &root, v, &Way::method("x"))?;
-    Ok(write_document(alloc, &document)?.to_string(alloc)?)
+/// What is written of the document that is read.
+pub(crate) fn document_again(alloc: Global, v: &Value) -> Result<String, Bad> {
+    let document = document_of(alloc, v)?;
+    printed(alloc, write_document(alloc, &document))
 }
 
-// How many values are read.
-fn array_len(alloc: Global, v: &Value) -> Result<String, Bad> {
+pub(crate) fn document_of(alloc: Global, v: &Value) -> Result<Document, Bad> {
+    let root = demo(alloc)?;
+    read_document(alloc, &root, v, &Way::method("x"))
+}
+
+/// How many values are read.
+pub(crate) fn array_len(alloc: Global, v: &Value) -> Result<String, Bad> {
     let here = Way::method("x");
     let values = if v.as_array().is_some() {
         read_list(alloc, v, &here)?
@@ -127,51 +118,26 @@ const ARRAYS: &str = r#"{} => 0
 [{"integerValue":"1"},{"integerValue":"y"}] => G at x[1].integerValue
 1 => G at x"#;
 
-// A line's JSON, and what is written of it.
-fn parts(line: &str) -> Option<(&str, &str)> {
-    let (json, want) = line.split_once(" =>")?;
-    Some((json, if want.is_empty() { json } else { want.trim() }))
+// What `~` stands for.
+pub(crate) const SHORT: [(&str, &str); 1] = [("~", "projects/demo/databases/(default)/documents")];
+
+#[test]
+fn values_are_read_and_written(rt: HostRuntime) {
+    holds(&rt, rt.alloc(), Make::Json(Form::Value), &[], VALUES);
 }
 
 #[test]
-fn values_are_read_and_written(rt: HostRuntime) -> Result<(), Fail> {
-    let alloc = rt.alloc();
-    for line in VALUES.lines() {
-        let Some((json, want)) = parts(line) else {
-            return Err(Fail::new("a line without an answer"));
-        };
-        let v = Value::from_str(alloc, json)?;
-        let again = shown(alloc, value_again(alloc, &v))?;
-        assert!(rt; again.as_str() == want, "{line} gives {again}");
-    }
-    Ok(())
+fn documents_are_read_and_written(rt: HostRuntime) {
+    holds(
+        &rt,
+        rt.alloc(),
+        Make::Json(Form::Document),
+        &SHORT,
+        DOCUMENTS,
+    );
 }
 
 #[test]
-fn documents_are_read_and_written(rt: HostRuntime) -> Result<(), Fail> {
-    let alloc = rt.alloc();
-    for line in DOCUMENTS.lines() {
-        let line = line.replace(alloc, "~", "projects/demo/databases/(default)/documents")?;
-        let Some((json, want)) = parts(&line) else {
-            return Err(Fail::new("a line without an answer"));
-        };
-        let v = Value::from_str(alloc, json)?;
-        let again = shown(alloc, document_again(alloc, &v))?;
-        assert!(rt; again.as_str() == want, "{line} gives {again}");
-    }
-    Ok(())
-}
-
-#[test]
-fn arrays_are_read(rt: HostRuntime) -> Result<(), Fail> {
-    let alloc = rt.alloc();
-    for line in ARRAYS.lines() {
-        let Some((json, want)) = parts(line) else {
-            return Err(Fail::new("a line without an answer"));
-        };
-        let v = Value::from_str(alloc, json)?;
-        let len = shown(alloc, array_len(alloc, &v))?;
-        assert!(rt; len.as_str() == want, "{line} gives {len}");
-    }
-    Ok(())
+fn arrays_are_read(rt: HostRuntime) {
+    holds(&rt, rt.alloc(), Make::Json(Form::Array), &[], ARRAYS);
 }

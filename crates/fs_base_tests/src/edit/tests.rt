@@ -1,17 +1,34 @@
 //! Changes of opened fields, by tables.
 use crate::edit::tables::{CHANGED, FOUND};
-use crate::short::{path, read};
+use crate::short::{are, path, read, read_behind};
 use fs_edit::OpenFields;
-use fs_value::{Value, Values, fields_same};
+use fs_path::FieldPath;
+use fs_value::{Fields, Value, Values};
 use std::alloc::{AllocError, Global};
 
-// A value in short, as it stands behind a key, or none.
-fn value(alloc: Global, text: &str) -> Result<Option<Value>, AllocError> {
-    let fields = read(alloc, &format!(in alloc; "x{}", text.trim())?)?;
+/// What is done at a path.
+#[derive(Drop)]
+enum Change {
+    /// The value is taken out.
+    Unset,
+    Set(Value),
+    /// These are appended to an array, each unless it is there.
+    Append(Values),
+    /// These are taken out of an array.
+    Remove(Values),
+}
+
+fn x_of(alloc: Global, fields: &Fields) -> Result<Value, AllocError> {
     match fields.find("x") {
-        Some(value) => Ok(Some(value.copy(alloc)?)),
-        None => Ok(None),
+        Some(value) => value.copy(alloc),
+        None => Err(AllocError),
     }
+}
+
+// A value in short, as it stands behind a key.
+fn value(alloc: Global, text: &str) -> Result<Value, AllocError> {
+    let fields = read_behind(alloc, 'x', text)?;
+    x_of(alloc, &fields)
 }
 
 // Numbers of one digit.
@@ -25,61 +42,47 @@ fn numbers(alloc: Global, text: &str) -> Result<Values, AllocError> {
     Ok(values)
 }
 
-fn without(alloc: Global, fields: OpenFields, at: &str) -> Result<OpenFields, AllocError> {
-    let path = path(alloc, at)?;
-    fields.unset(alloc, &path)
-}
-
-fn with_more(
-    alloc: Global,
-    fields: OpenFields,
-    at: &str,
-    given: &str,
-) -> Result<OpenFields, AllocError> {
-    let path = path(alloc, at)?;
-    let numbers = numbers(alloc, given)?;
-    fields.append_missing(alloc, &path, &numbers)
-}
-
-fn with_fewer(
-    alloc: Global,
-    fields: OpenFields,
-    at: &str,
-    given: &str,
-) -> Result<OpenFields, AllocError> {
-    let path = path(alloc, at)?;
-    let numbers = numbers(alloc, given)?;
-    fields.remove_all(alloc, &path, &numbers)
-}
-
-fn with_value(
-    alloc: Global,
-    fields: OpenFields,
-    at: &str,
-    given: &str,
-) -> Result<OpenFields, AllocError> {
-    let path = path(alloc, at)?;
-    match value(alloc, given)? {
-        Some(v) => fields.set(alloc, &path, v),
-        None => Err(AllocError),
+// A change's sign, its path, and what it gives.
+fn parts(change: &str) -> (char, &str, &str) {
+    if let Some(taken) = change.trim().strip_prefix('-') {
+        return ('-', taken, "");
     }
-}
-
-fn changed(alloc: Global, fields: OpenFields, change: &str) -> Result<OpenFields, AllocError> {
-    let change = change.trim();
-    if let Some(at) = change.strip_prefix('-') {
-        return without(alloc, fields, at);
-    }
-    if let Some((at, given)) = change.split_once('+') {
-        return with_more(alloc, fields, at, given);
-    }
-    match change.split_once('~') {
-        Some((at, given)) => with_fewer(alloc, fields, at, given),
-        None => {
-            let (at, given) = change.split_once('=').unwrap_or(("", ""));
-            with_value(alloc, fields, at, given)
+    for sign in &['+', '~'] {
+        if let Some((at, given)) = change.split_once(*sign) {
+            return (*sign, at, given);
         }
     }
+    let (at, given) = change.split_once('=').unwrap_or((change, ""));
+    ('=', at, given)
+}
+
+fn change_of(alloc: Global, sign: char, text: &str) -> Result<Change, AllocError> {
+    match sign {
+        '-' => Ok(Change::Unset),
+        '+' => Ok(Change::Append(numbers(alloc, text)?)),
+        '~' => Ok(Change::Remove(numbers(alloc, text)?)),
+        _ => Ok(Change::Set(value(alloc, text)?)),
+    }
+}
+
+fn changed(
+    alloc: Global,
+    fields: OpenFields,
+    path: &FieldPath,
+    change: Change,
+) -> Result<OpenFields, AllocError> {
+    match change {
+        Change::Unset => fields.unset(alloc, path),
+        Change::Set(value) => fields.set(alloc, path, value),
+        Change::Append(values) => fields.append_missing(alloc, path, &values),
+        Change::Remove(values) => fields.remove_all(alloc, path, &values),
+    }
+}
+
+fn next(alloc: Global, fields: OpenFields, change: &str) -> Result<OpenFields, AllocError> {
+    let (sign, at, text) = parts(change);
+    let path = path(alloc, at)?;
+    changed(alloc, fields, &path, change_of(alloc, sign, text)?)
 }
 
 // The fields of the first text, opened, after the changes of the second.
@@ -88,7 +91,7 @@ fn after(alloc: Global, text: &str) -> Result<OpenFields, AllocError> {
     let mut fields = OpenFields::open(alloc, read(alloc, first)?)?;
     for change in changes.split(',') {
         if !change.trim().is_empty() {
-            fields = changed(alloc, fields, change)?;
+            fields = next(alloc, fields, change)?;
         }
     }
     Ok(fields)
@@ -97,36 +100,50 @@ fn after(alloc: Global, text: &str) -> Result<OpenFields, AllocError> {
 fn is_changed(alloc: Global, line: &str) -> Result<bool, AllocError> {
     let (given, wanted) = line.split_once("=>").unwrap_or((line, ""));
     let closed = after(alloc, given)?.close(alloc)?;
-    Ok(fields_same(&closed, &read(alloc, wanted)?))
+    are(alloc, &closed, wanted)
+}
+
+fn integer_after(alloc: Global, text: &str, path: &FieldPath) -> Result<Option<i64>, AllocError> {
+    let fields = after(alloc, text)?;
+    Ok(fields.integer_at(path))
+}
+
+fn integer_at(alloc: Global, text: &str) -> Result<Option<i64>, AllocError> {
+    let (fields, at) = text.split_once('?').unwrap_or((text, "a"));
+    let path = path(alloc, at)?;
+    integer_after(alloc, fields, &path)
+}
+
+fn integer(alloc: Global, text: &str) -> Result<Option<i64>, AllocError> {
+    let fields = read_behind(alloc, 'x', text)?;
+    match fields.find("x") {
+        Some(Value::Integer(n)) => Ok(Some(*n)),
+        _ => Ok(None),
+    }
 }
 
 fn is_found(alloc: Global, line: &str) -> Result<bool, AllocError> {
     let (given, wanted) = line.split_once("=>").unwrap_or((line, ""));
-    let (fields, at) = given.split_once('?').unwrap_or((given, "a"));
-    let found = after(alloc, fields)?.integer_at(&path(alloc, at)?);
-    let wanted = match value(alloc, wanted)? {
-        Some(Value::Integer(n)) => Some(n),
-        _ => None,
-    };
+    let found = integer_at(alloc, given)?;
+    let wanted = integer(alloc, wanted)?;
     Ok(found == wanted)
 }
 
-#[test]
-fn changes_of_opened_fields(rt: HostRuntime) {
-    for line in CHANGED.lines() {
-        assert!(rt;
-            line.is_empty() || is_changed(rt.alloc(), line).expect(&rt, "memory"),
-            "{line}"
-        );
+fn holds(alloc: Global, line: &str) -> Result<bool, AllocError> {
+    if line.is_empty() {
+        Ok(true)
+    } else if line.contains('?') {
+        is_found(alloc, line)
+    } else {
+        is_changed(alloc, line)
     }
 }
 
 #[test]
-fn integers_in_opened_fields(rt: HostRuntime) {
-    for line in FOUND.lines() {
-        assert!(rt;
-            line.is_empty() || is_found(rt.alloc(), line).expect(&rt, "memory"),
-            "{line}"
-        );
+fn opened_fields_after_changes(rt: HostRuntime) {
+    for table in &[CHANGED, FOUND] {
+        for line in table.lines() {
+            assert!(rt; holds(rt.alloc(), line).expect(&rt, "memory"), "{line}");
+        }
     }
 }

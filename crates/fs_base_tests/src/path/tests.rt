@@ -43,8 +43,13 @@ fn joined(alloc: Global, ids: &Ids, between: &str) -> Result<String, AllocError>
     Ok(text)
 }
 
+fn parsed(alloc: Global, text: &str) -> Result<DocName, PathError> {
+    let root = demo(alloc)?;
+    parse_document(alloc, &root, text)
+}
+
 fn document(alloc: Global, text: &str) -> Result<String, PathError> {
-    let name = parse_document(alloc, &demo(alloc)?, text)?;
+    let name = parsed(alloc, text)?;
     Ok(String::from_str(alloc, name.ids().unwrap_or(""))?)
 }
 
@@ -79,7 +84,11 @@ fn printed(alloc: Global, text: &str) -> Result<String, PathError> {
 // Whether the name is read, which is told in pieces.
 fn long_document(alloc: Global, pieces: &str) -> Result<String, PathError> {
     let text = long(alloc, pieces)?;
-    parse_document(alloc, &demo(alloc)?, &text)?;
+    is_read(alloc, &text)
+}
+
+fn is_read(alloc: Global, text: &str) -> Result<String, PathError> {
+    parsed(alloc, text)?;
     Ok(String::from_str(alloc, "read")?)
 }
 
@@ -103,16 +112,24 @@ fn refusal(alloc: Global, e: PathError) -> Result<String, AllocError> {
     }
 }
 
+fn read_or_refused(alloc: Global, kind: &str, text: &str) -> Result<String, AllocError> {
+    match read(alloc, kind, text) {
+        Ok(told) => Ok(told),
+        Err(e) => refusal(alloc, e),
+    }
+}
+
+fn answer(alloc: Global, kind: &str, text: &str) -> Result<String, AllocError> {
+    let text = text.replace(alloc, "~", ROOT)?;
+    read_or_refused(alloc, kind, &text)
+}
+
 #[test]
 fn texts_are_read_or_refused(rt: HostRuntime) -> Result<(), Fail> {
     let alloc = rt.alloc();
     for line in TEXTS.lines() {
         let (kind, text, want) = cells(line)?;
-        let text = text.replace(alloc, "~", ROOT)?;
-        let told = match read(alloc, kind, &text) {
-            Ok(told) => told,
-            Err(e) => refusal(alloc, e)?,
-        };
+        let told = answer(alloc, kind, text)?;
         assert!(rt; told.as_str() == want, "{line} gives {told}");
     }
     Ok(())
@@ -160,14 +177,15 @@ fn covered(alloc: Global, kind: &str, text: &str) -> Result<String, PathError> {
     let (path, rest) = text.split_once(" ").unwrap_or(("", text));
     let (id, document) = rest.split_once(" ").unwrap_or((rest, ""));
     let scope = scope(alloc, kind, path, id)?;
-    covered_by(alloc, &scope, document)
+    if is_copied(alloc, &scope)? {
+        document_covered(alloc, &scope, document)
+    } else {
+        Ok(String::from_str(alloc, "another copy")?)
+    }
 }
 
-fn covered_by(alloc: Global, scope: &Scope, document: &str) -> Result<String, PathError> {
-    if !is_copied(alloc, scope)? {
-        return Ok(String::from_str(alloc, "another copy")?);
-    }
-    let name = name_of(alloc, document)?;
+fn document_covered(alloc: Global, scope: &Scope, path: &str) -> Result<String, PathError> {
+    let name = name_of(alloc, path)?;
     Ok(covers(scope, &name).to_string(alloc)?)
 }
 
@@ -302,10 +320,8 @@ fn root_alone(alloc: Global) -> Result<DocName, AllocError> {
 fn a_name_of_a_root_alone_is_printed(rt: HostRuntime) {
     let alloc = rt.alloc();
     let name = root_alone(alloc).expect(&rt, "memory");
-    assert_eq!(rt;
-        print_document(alloc, &name).expect(&rt, "memory").as_str(),
-        ROOT
-    );
+    let printed = print_document(alloc, &name).expect(&rt, "memory");
+    assert!(rt; printed.as_str() == ROOT);
     assert!(rt; name_of(alloc, "demo").is_err());
 }
 
@@ -316,20 +332,27 @@ fn rising(alloc: Global, line: &str) -> Result<DocName, PathError> {
     name_of(alloc, &path)
 }
 
+fn is_below(alloc: Global, lower: &DocName, upper: &DocName) -> Result<bool, AllocError> {
+    let copy = lower.copy(alloc)?;
+    Ok(
+        lower.cmp(upper) == Ordering::Less
+            && upper.cmp(lower) == Ordering::Greater
+            && *lower != *upper
+            && *lower == copy,
+    )
+}
+
+fn rise(alloc: Global, lower: &str, upper: &str) -> Result<bool, PathError> {
+    let lower = rising(alloc, lower)?;
+    let upper = rising(alloc, upper)?;
+    Ok(is_below(alloc, &lower, &upper)?)
+}
+
 #[test]
 fn names_go_segment_by_segment(rt: HostRuntime) {
-    let alloc = rt.alloc();
     for (lower, upper) in RISING.lines().zip(RISING.lines().skip(1)) {
-        let a = rising(alloc, lower).expect(&rt, "memory");
-        let b = rising(alloc, upper).expect(&rt, "memory");
-        let orders = (
-            a.cmp(&b),
-            b.cmp(&a),
-            a == b,
-            a == a.copy(alloc).expect(&rt, "memory"),
-        );
-        let rise = (Ordering::Less, Ordering::Greater, false, true);
-        assert_eq!(rt; orders, rise, "{lower} before {upper}");
+        let rise = rise(rt.alloc(), lower, upper).expect(&rt, "memory");
+        assert!(rt; rise, "{lower} before {upper}");
     }
 }
 
@@ -343,5 +366,5 @@ fn equal_names_hash_alike(rt: HostRuntime) {
             .expect(&rt, "memory");
         assert!(rt; seen.contains(&name), "{line}");
     }
-    assert_eq!(rt; seen.len(), 41);
+    assert!(rt; seen.len() == 41);
 }

@@ -1,7 +1,7 @@
 //! Values at paths, by a table.
-use crate::short::{path, read};
+use crate::short::{are, path, read};
 use fs_path::FieldPath;
-use fs_value::{Fields, Value, fields_same, get, same, set, unset};
+use fs_value::{Fields, Value, get, same, set, unset};
 use std::alloc::{AllocError, Global};
 
 fn alike(a: Option<&Value>, b: Option<&Value>) -> bool {
@@ -66,10 +66,20 @@ const CHANGES: [(&str, &str, &str, &str, &str); 26] = [
     ("b2", "b", "x2", "", ""),
 ];
 
-fn is_changed(alloc: Global, row: &(&str, &str, &str, &str, &str)) -> Result<bool, AllocError> {
-    let mut fields = read(alloc, row.0)?;
-    let path = path(alloc, row.1)?;
-    is_changed_at(alloc, &mut fields, &path, row)
+// Whether the value is that of `x`, or none where `x` has none.
+fn is_of_x(alloc: Global, v: Option<&Value>, text: &str) -> Result<bool, AllocError> {
+    let wanted = read(alloc, text)?;
+    Ok(alike(v, wanted.find("x")))
+}
+
+fn change_to(
+    alloc: Global,
+    fields: &mut Fields,
+    path: &FieldPath,
+    text: &str,
+) -> Result<(), AllocError> {
+    let given = read(alloc, text)?;
+    change(alloc, fields, path, given.find("x"))
 }
 
 fn is_changed_at(
@@ -78,24 +88,17 @@ fn is_changed_at(
     path: &FieldPath,
     row: &(&str, &str, &str, &str, &str),
 ) -> Result<bool, AllocError> {
-    let found = read(alloc, row.2)?;
-    Ok(alike(get(fields, path), found.find("x")) && is_set(alloc, fields, path, row)?)
+    if !is_of_x(alloc, get(fields, path), row.2)? {
+        return Ok(false);
+    }
+    change_to(alloc, fields, path, row.3)?;
+    Ok(are(alloc, fields, row.4)? && is_of_x(alloc, get(fields, path), row.3)?)
 }
 
-fn is_set(
-    alloc: Global,
-    fields: &mut Fields,
-    path: &FieldPath,
-    row: &(&str, &str, &str, &str, &str),
-) -> Result<bool, AllocError> {
-    let given = read(alloc, row.3)?;
-    change(alloc, fields, path, given.find("x"))?;
-    Ok(alike(get(fields, path), given.find("x")) && are_fields(alloc, fields, row.4)?)
-}
-
-fn are_fields(alloc: Global, fields: &Fields, text: &str) -> Result<bool, AllocError> {
-    let expected = read(alloc, text)?;
-    Ok(fields_same(fields, &expected))
+fn is_changed(alloc: Global, row: &(&str, &str, &str, &str, &str)) -> Result<bool, AllocError> {
+    let mut fields = read(alloc, row.0)?;
+    let path = path(alloc, row.1)?;
+    is_changed_at(alloc, &mut fields, &path, row)
 }
 
 #[test]

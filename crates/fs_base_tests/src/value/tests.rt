@@ -184,17 +184,21 @@ fn rising(alloc: Global) -> Result<Values, AllocError> {
     Ok(values)
 }
 
+fn copied_rising(alloc: Global) -> Result<Values, AllocError> {
+    let values = rising(alloc)?;
+    values.copy(alloc)
+}
+
 #[test]
 fn values_of_all_kinds_in_their_order(rt: HostRuntime) {
     let alloc = rt.alloc();
-    let values = rising(alloc)
-        .expect(&rt, "memory")
-        .copy(alloc)
-        .expect(&rt, "memory");
+    let values = copied_rising(alloc).expect(&rt, "memory");
     for (i, line) in RISING.iter().enumerate() {
         let some = value(alloc, line).expect(&rt, "memory");
-        assert!(rt; is_of_kind(&some, line));
-        assert!(rt; stands_at(&some, i, &values));
+        assert!(rt;
+            is_of_kind(&some, line) && stands_at(&some, i, &values),
+            "{line}"
+        );
     }
 }
 
@@ -221,17 +225,20 @@ fn nested(alloc: Global, levels: u32, bottom: bool) -> Result<Value, AllocError>
 }
 
 fn depth_of(alloc: Global, levels: u32) -> Result<u32, AllocError> {
-    Ok(depth(&nested(alloc, levels, true)?))
+    let value = nested(alloc, levels, true)?;
+    Ok(depth(&value))
 }
 
 #[test]
 fn depth_from_1_to_21(rt: HostRuntime) {
     let alloc = rt.alloc();
     for levels in 1..DEEPEST_VALUE + 2 {
-        assert_eq!(rt; depth_of(alloc, levels).expect(&rt, "memory"), levels);
+        let depth = depth_of(alloc, levels).expect(&rt, "memory");
+        assert!(rt; depth == levels, "{levels}");
     }
     for empty in &["array ", "map "] {
-        assert_eq!(rt; depth(&value(alloc, empty).expect(&rt, "memory")), 1);
+        let value = value(alloc, empty).expect(&rt, "memory");
+        assert!(rt; depth(&value) == 1, "{empty}");
     }
 }
 
@@ -247,26 +254,34 @@ fn values_of_depth_100_are_compared(rt: HostRuntime) {
     assert!(rt; compare(&deep, &other) == Ordering::Greater);
 }
 
-// `demo/(default)/c/{id}` with the field `n`.
-fn document(alloc: Global, id: &str, n: Value) -> Result<Document, AllocError> {
-    let fields = shared_of(alloc, n)?;
-    let name = name(alloc, &format!(in alloc; "demo/(default)/c/{id}")?)?;
-    match Micros::new(1) {
-        Some(t) => Ok(Document {
-            name,
-            fields,
-            created: t,
-            updated: t,
-        }),
-        None => Err(AllocError),
-    }
+// `demo/(default)/c/{id}`.
+fn name_in_c(alloc: Global, id: &str) -> Result<DocName, AllocError> {
+    let path = format!(in alloc; "demo/(default)/c/{id}")?;
+    name(alloc, path.as_str())
 }
 
-// One field `n`.
-fn shared_of(alloc: Global, n: Value) -> Result<SharedFields, AllocError> {
+fn put_n(alloc: Global, fields: &mut Fields, n: Value) -> Result<(), AllocError> {
+    let key = Text::from_str(alloc, "n")?;
+    fields.put(key, n)
+}
+
+// The field `n` alone.
+fn with_n(alloc: Global, n: Value) -> Result<SharedFields, AllocError> {
     let mut fields = Fields::with_capacity(alloc, 1)?;
-    fields.put(Text::from_str(alloc, "n")?, n)?;
+    put_n(alloc, &mut fields, n)?;
     SharedFields::of(alloc, fields)
+}
+
+// `demo/(default)/c/{id}` with the field `n`.
+fn document(alloc: Global, id: &str, n: Value) -> Result<Document, AllocError> {
+    let t = Micros::new(1).ok_or(AllocError)?;
+    let fields = with_n(alloc, n)?;
+    Ok(Document {
+        name: name_in_c(alloc, id)?,
+        fields,
+        created: t,
+        updated: t,
+    })
 }
 
 fn long_text(alloc: Global, n: u32) -> Result<Value, AllocError> {
@@ -278,30 +293,36 @@ fn long_text(alloc: Global, n: u32) -> Result<Value, AllocError> {
 }
 
 fn counted(alloc: Global, n: Value) -> Result<u128, AllocError> {
-    Ok(size(&document(alloc, "a", n)?))
+    let document = document(alloc, "a", n)?;
+    Ok(size(&document))
+}
+
+fn value_counted(alloc: Global, line: &str) -> Result<u128, AllocError> {
+    counted(alloc, value(alloc, line)?)
+}
+
+fn all_counted(alloc: Global) -> Result<u128, AllocError> {
+    let mut all = Values::new(alloc);
+    for (line, _) in &COUNTED {
+        all.push(value(alloc, line)?)?;
+    }
+    counted(alloc, Value::Array(all))
+}
+
+fn long_counted(alloc: Global, n: u32) -> Result<u128, AllocError> {
+    counted(alloc, long_text(alloc, n)?)
 }
 
 // The values of the table are 82 together. 1,048,576 is the greatest size that is stored.
 #[test]
 fn counted_size_of_a_document(rt: HostRuntime) {
     let alloc = rt.alloc();
-    let mut all = Values::new(alloc);
     for (line, count) in &COUNTED {
-        all.push(value(alloc, line).expect(&rt, "memory"))
-            .expect(&rt, "memory");
-        assert_eq!(rt;
-            counted(alloc, value(alloc, line).expect(&rt, "memory")).expect(&rt, "memory"),
-            *count
-        );
+        let counted = value_counted(alloc, line).expect(&rt, "memory");
+        assert!(rt; counted == *count, "{line}");
     }
-    assert_eq!(rt;
-        counted(alloc, Value::Array(all)).expect(&rt, "memory"),
-        136
-    );
-    assert_eq!(rt;
-        counted(alloc, long_text(alloc, 1_048_521).expect(&rt, "memory")).expect(&rt, "memory"),
-        1_048_576
-    );
+    assert!(rt; all_counted(alloc).expect(&rt, "memory") == 136);
+    assert!(rt; long_counted(alloc, 1_048_521).expect(&rt, "memory") == 1_048_576);
 }
 
 fn has_keys(some: &Fields, keys: &str) -> bool {
@@ -323,7 +344,7 @@ fn fields_stand_in_the_order_of_their_keys(rt: HostRuntime) {
     assert!(rt; has_keys(&some, "a b c é"));
     assert!(rt; some.find("aa").is_none() && some.find("z").is_none() && some.find("").is_none());
     assert!(rt; fields_same(&some, &other));
-    assert_eq!(rt; Fields::of(other.into_vec()).len(), 4);
+    assert!(rt; Fields::of(other.into_vec()).len() == 4);
     let mut one = Fields::new(alloc);
     one.push_last(
         Text::from_str(alloc, "a").expect(&rt, "memory"),
@@ -350,37 +371,50 @@ fn of_two(alloc: Global) -> Result<DocumentMap, AllocError> {
     Ok(documents)
 }
 
+fn documents_copied(alloc: Global, map: &DocumentMap) -> Result<Documents, AllocError> {
+    let documents = map.documents(alloc)?;
+    documents.copy(alloc)
+}
+
+fn both_documents(alloc: Global) -> Result<Documents, AllocError> {
+    let map = of_two(alloc)?;
+    documents_copied(alloc, &map)
+}
+
 #[test]
 fn documents_stand_in_the_order_of_their_names(rt: HostRuntime) {
-    let alloc = rt.alloc();
-    let all = of_two(alloc)
-        .expect(&rt, "memory")
-        .documents(alloc)
-        .expect(&rt, "memory")
-        .copy(alloc)
-        .expect(&rt, "memory");
-    assert_eq!(rt; all.len(), 2);
+    let all = both_documents(rt.alloc()).expect(&rt, "memory");
+    assert!(rt; all.len() == 2);
     for (d, (id, n)) in all.as_slice().iter().zip(&[("a", 2), ("b", 3)]) {
         assert!(rt; d.name.len() == 2 && d.name.id(1) == *id);
         assert!(rt; has_integer(d.fields.as_fields(), *n));
     }
 }
 
+fn lent_count(alloc: Global, map: &DocumentMap) -> Result<usize, AllocError> {
+    Ok(map.lent(alloc)?.len())
+}
+
+fn copied_count(alloc: Global, map: &DocumentMap) -> Result<usize, AllocError> {
+    let copy = map.copy(alloc)?;
+    Ok(copy.len())
+}
+
 #[test]
 fn documents_by_their_names(rt: HostRuntime) {
     let alloc = rt.alloc();
-    let b = name(alloc, "demo/(default)/c/b").expect(&rt, "memory");
+    let b = name_in_c(alloc, "b").expect(&rt, "memory");
     let mut documents = of_two(alloc).expect(&rt, "memory");
     assert!(rt; documents.get(&b).is_some());
-    assert_eq!(rt; documents.lent(alloc).expect(&rt, "memory").len(), 2);
+    assert!(rt; lent_count(alloc, &documents).expect(&rt, "memory") == 2);
     assert!(rt; documents.remove(&b).is_some());
     assert!(rt; documents.get(&b).is_none());
-    assert_eq!(rt; documents.copy(alloc).expect(&rt, "memory").len(), 1);
+    assert!(rt; copied_count(alloc, &documents).expect(&rt, "memory") == 1);
 }
 
 fn put(alloc: Global, d: &mut Document, n: i64) -> Result<(), AllocError> {
-    d.fields
-        .put(alloc, Text::from_str(alloc, "n")?, Value::Integer(n))
+    let key = Text::from_str(alloc, "n")?;
+    d.fields.put(alloc, key, Value::Integer(n))
 }
 
 // The first change copies the fields, and the others are made in place.
@@ -397,6 +431,11 @@ fn a_change_of_a_document_or_its_copy_leaves_the_other(rt: HostRuntime) {
     assert!(rt; has_integer(first.fields.as_fields(), 4));
 }
 
+fn has_taken(alloc: Global, shared: SharedFields, n: i64) -> Result<bool, AllocError> {
+    let fields = shared.into_fields(alloc)?;
+    Ok(has_integer(&fields, n))
+}
+
 #[test]
 fn shared_fields_are_taken_out_whole(rt: HostRuntime) {
     let alloc = rt.alloc();
@@ -404,7 +443,7 @@ fn shared_fields_are_taken_out_whole(rt: HostRuntime) {
     let again = first.fields.copy().expect(&rt, "memory");
     put(alloc, &mut first, 5).expect(&rt, "memory");
     let shared = again.copy().expect(&rt, "memory");
-    assert!(rt; has_integer(&again.into_fields(alloc).expect(&rt, "memory"), 4));
-    assert!(rt; has_integer(&shared.into_fields(alloc).expect(&rt, "memory"), 4));
+    assert!(rt; has_taken(alloc, again, 4).expect(&rt, "memory"));
+    assert!(rt; has_taken(alloc, shared, 4).expect(&rt, "memory"));
     assert!(rt; has_integer(first.fields.as_fields(), 5));
 }

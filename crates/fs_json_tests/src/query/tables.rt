@@ -82,3 +82,11 @@ pub const KEPT: &str = r#"{"a":{"integerValue":"1"}} | a => {"a":{"integerValue"
 {"a":{"mapValue":{"fields":{"b":{"mapValue":{}}}}}} | a.b.c => {}
 {"a":{"integerValue":"1"}} | __name__ => {}
 {"a":{"integerValue":"1"}} |  => {}"#;
+
+/// Queries that break no rule with the limit 0.
+pub const BREAK_NONE: &str = r#"{"from":[{"collectionId":"t"}]} => none
+{"from":[{"collectionId":"t"}],"orderBy":[{"field":{"fieldPath":"a"}}]} => none"#;
+
+/// The same, and the rule that they break with the limit -1.
+pub const BREAK_ONE: &str = r#"{"from":[{"collectionId":"t"}]} => 12
+{"from":[{"collectionId":"t"}],"orderBy":[{"field":{"fieldPath":"a"}}]} => 12"#;

@@ -1,14 +1,13 @@
 //! What is made of messages.
-use crate::rpc::requests::demo;
-use fs_json::{Bad, time};
-use fs_path::{Text, Way, parse_document};
+use crate::made::{both, demo, moment, printed};
+use fs_json::Bad;
+use fs_path::{Text, parse_document};
 use fs_rpc::{
     Answers, BatchAnswer, Message, error_json, message_json, message_json_on, read_message,
     write_message,
 };
 use fs_status::{Code, Reason, Refusal};
 use fs_time::Micros;
-use serde_json::Value;
 use std::alloc::{AllocError, Global};
 
 fn read(alloc: Global, json: &str) -> Result<Message, Bad> {
@@ -16,30 +15,31 @@ fn read(alloc: Global, json: &str) -> Result<Message, Bad> {
     read_message(alloc, &root, json)
 }
 
-// What both writers write of a message.
-fn written(alloc: Global, message: &Message) -> Result<String, AllocError> {
-    let text = write_message(alloc, message)?;
-    let whole = message_json(alloc, message)?.to_string(alloc)?;
-    if text.as_str() == whole.as_str() {
-        Ok(whole)
+// What both writers write of a message, or what is written on the session `s`.
+fn written(alloc: Global, is_on: bool, message: Message) -> Result<String, Bad> {
+    if is_on {
+        printed(alloc, message_json_on(alloc, "s", &message))
     } else {
-        String::from_str(alloc, "two texts")
+        written_twice(alloc, &message)
     }
 }
 
+fn written_twice(alloc: Global, message: &Message) -> Result<String, Bad> {
+    let text = write_message(alloc, message)?;
+    let whole = printed(alloc, message_json(alloc, message))?;
+    both(alloc, text.as_str(), whole.as_str())
+}
+
 pub(crate) fn message_again(alloc: Global, json: &str) -> Result<String, Bad> {
-    let message = read(alloc, json)?;
-    Ok(written(alloc, &message)?)
+    written(alloc, false, read(alloc, json)?)
 }
 
 pub(crate) fn message_on(alloc: Global, json: &str) -> Result<String, Bad> {
-    let message = read(alloc, json)?;
-    Ok(message_json_on(alloc, "s", &message)?.to_string(alloc)?)
+    written(alloc, true, read(alloc, json)?)
 }
 
 fn start(alloc: Global) -> Result<Micros, Bad> {
-    let text = Value::try_from_str(alloc, "2024-01-01T00:00:00Z")?;
-    time(alloc, &text, &Way::method("x"))
+    moment(alloc, "2024-01-01T00:00:00Z")
 }
 
 fn reason(alloc: Global, name: &str) -> Result<Reason, Bad> {
@@ -51,13 +51,16 @@ fn reason(alloc: Global, name: &str) -> Result<Reason, Bad> {
 
 pub(crate) fn refused(alloc: Global, name: &str) -> Result<String, Bad> {
     let refusal = Refusal::of(reason(alloc, name)?);
+    written(alloc, false, refusal_of(alloc, &refusal)?)
+}
+
+fn refusal_of(alloc: Global, refusal: &Refusal) -> Result<Message, Bad> {
     let id = Text::from_str(alloc, "7")?;
-    let message = Message::refused(alloc, Some(id), &refusal)?;
-    Ok(written(alloc, &message)?)
+    Ok(Message::refused(alloc, Some(id), refusal)?)
 }
 
 pub(crate) fn error(alloc: Global, message: &str) -> Result<String, Bad> {
-    Ok(error_json(alloc, Code::Aborted, message)?.to_string(alloc)?)
+    printed(alloc, error_json(alloc, Code::Aborted, message))
 }
 
 fn answer(alloc: Global, name: &str) -> Result<BatchAnswer, Bad> {
@@ -78,6 +81,9 @@ fn answers(alloc: Global, names: &str) -> Result<Answers, Bad> {
 
 pub(crate) fn missing(alloc: Global, names: &str) -> Result<String, Bad> {
     let answers = answers(alloc, names)?;
-    let message = Message::BatchGetDocuments { id: None, answers };
-    Ok(written(alloc, &message)?)
+    written(
+        alloc,
+        false,
+        Message::BatchGetDocuments { id: None, answers },
+    )
 }

@@ -1,6 +1,7 @@
 //! What is made of requests.
+use crate::made::{both, demo, printed};
 use fs_json::Bad;
-use fs_path::{Root, Text};
+use fs_path::Text;
 use fs_rpc::{
     Envelope, SessionRequest, read_request, read_session_request, request_json, request_json_on,
     write_request,
@@ -8,65 +9,62 @@ use fs_rpc::{
 use serde_json::Value;
 use std::alloc::{AllocError, Global};
 
-pub(crate) fn demo(alloc: Global) -> Result<Root, AllocError> {
-    Ok(Root {
-        project: Text::from_str(alloc, "demo")?,
-        database: Text::from_str(alloc, "(default)")?,
-    })
-}
-
 fn read(alloc: Global, json: &str) -> Result<Envelope, Bad> {
     let root = demo(alloc)?;
     read_request(alloc, &root, json)
 }
 
 // What both writers write of a request.
-fn written(alloc: Global, envelope: &Envelope) -> Result<String, AllocError> {
+fn written(alloc: Global, envelope: &Envelope) -> Result<String, Bad> {
     let text = write_request(alloc, envelope)?;
-    let whole = request_json(alloc, envelope)?.to_string(alloc)?;
-    if text.as_str() == whole.as_str() {
-        Ok(whole)
-    } else {
-        String::from_str(alloc, "two texts")
-    }
+    let whole = printed(alloc, request_json(alloc, envelope))?;
+    both(alloc, text.as_str(), whole.as_str())
 }
 
 pub(crate) fn request_again(alloc: Global, json: &str) -> Result<String, Bad> {
     let envelope = read(alloc, json)?;
-    Ok(written(alloc, &envelope)?)
+    written(alloc, &envelope)
+}
+
+fn session_request(alloc: Global, line: &Value) -> Result<SessionRequest, Bad> {
+    let root = demo(alloc)?;
+    read_session_request(alloc, &root, line)
+}
+
+fn line_of(alloc: Global, session: &Text, envelope: Envelope) -> Result<Value, AllocError> {
+    request_json_on(alloc, session, &envelope)
 }
 
 // What is written of the request that a line of a script is read as.
-fn line_again(alloc: Global, line: &Value) -> Result<Value, Bad> {
-    let root = demo(alloc)?;
+fn line_again(alloc: Global, read: SessionRequest) -> Result<Value, Bad> {
     let SessionRequest {
         session,
         id,
         request,
-    } = read_session_request(alloc, &root, line)?;
+    } = read;
     match request {
-        Ok(request) => line_of(alloc, &session, &Envelope { id, request }),
+        Ok(request) => Ok(line_of(alloc, &session, Envelope { id, request })?),
         Err(bad) => Err(bad),
     }
 }
 
-fn line_of(alloc: Global, session: &Text, envelope: &Envelope) -> Result<Value, Bad> {
-    Ok(request_json_on(alloc, session, envelope)?)
-}
-
 fn line(alloc: Global, json: &str) -> Result<Value, Bad> {
     let session = Text::from_str(alloc, "s")?;
-    let envelope = read(alloc, json)?;
-    line_of(alloc, &session, &envelope)
+    Ok(line_of(alloc, &session, read(alloc, json)?)?)
 }
 
 pub(crate) fn request_on(alloc: Global, json: &str) -> Result<String, Bad> {
     let line = line(alloc, json)?;
-    let again = line_again(alloc, &line)?.to_string(alloc)?;
+    on_again(alloc, &line)
+}
+
+fn on_again(alloc: Global, line: &Value) -> Result<String, Bad> {
+    let again = line_again(alloc, session_request(alloc, line)?)?;
+    same(alloc, line, &again)
+}
+
+fn same(alloc: Global, line: &Value, again: &Value) -> Result<String, Bad> {
     let line = line.to_string(alloc)?;
-    if line.as_str() == again.as_str() {
-        Ok(again)
-    } else {
-        Ok(String::from_str(alloc, "another line")?)
-    }
+    let again = again.to_string(alloc)?;
+    both(alloc, line.as_str(), again.as_str())
 }

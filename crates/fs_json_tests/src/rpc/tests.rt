@@ -1,65 +1,66 @@
 //! The tables, line by line.
-use crate::rpc::given::{Make, first_wrong};
+use crate::made::Make;
 use crate::rpc::{message_tables as messages, request_tables as requests};
-use std::test::Fail;
+use crate::table::holds;
+
+// What the short forms of a line stand for, in the order in which they are spelled out.
+const SHORT: [(&str, &str); 5] = [
+    ("~", "@/documents"),
+    ("@", "projects/demo/databases/(default)"),
+    ("1us", "2024-01-01T00:00:00.000001Z"),
+    ("2us", "2024-01-01T00:00:00.000002Z"),
+    ("0s", "2024-01-01T00:00:00Z"),
+];
 
 #[test]
-fn messages_are_read_and_written(rt: HostRuntime) -> Result<(), Fail> {
-    let wrong = first_wrong(rt.alloc(), Make::Message, messages::MESSAGES)?;
-    assert!(rt; wrong.is_empty(), "{wrong}");
-    Ok(())
+fn messages_are_read_and_written(rt: HostRuntime) {
+    holds(&rt, rt.alloc(), Make::Message, &SHORT, messages::MESSAGES);
 }
 
 #[test]
-fn the_first_fault_of_the_walk_is_told(rt: HostRuntime) -> Result<(), Fail> {
-    let wrong = first_wrong(rt.alloc(), Make::Message, messages::REFUSED)?;
-    assert!(rt; wrong.is_empty(), "{wrong}");
-    Ok(())
+fn the_first_fault_of_the_walk_is_told(rt: HostRuntime) {
+    holds(&rt, rt.alloc(), Make::Message, &SHORT, messages::REFUSED);
 }
 
 #[test]
-fn a_line_of_a_transcript_has_its_session(rt: HostRuntime) -> Result<(), Fail> {
-    let wrong = first_wrong(rt.alloc(), Make::MessageOn, messages::ON_A_SESSION)?;
-    assert!(rt; wrong.is_empty(), "{wrong}");
-    Ok(())
+fn a_line_of_a_transcript_has_its_session(rt: HostRuntime) {
+    holds(
+        &rt,
+        rt.alloc(),
+        Make::MessageOn,
+        &SHORT,
+        messages::ON_A_SESSION,
+    );
 }
 
 #[test]
-fn a_refusal_is_told_with_its_status(rt: HostRuntime) -> Result<(), Fail> {
-    for (make, table) in &[
-        (Make::Refusal, messages::REFUSALS),
-        (Make::Error, messages::ERROR),
-    ] {
-        let wrong = first_wrong(rt.alloc(), *make, table)?;
-        assert!(rt; wrong.is_empty(), "{wrong}");
-    }
-    Ok(())
+fn a_refusal_is_told_with_its_status(rt: HostRuntime) {
+    holds(&rt, rt.alloc(), Make::Refusal, &SHORT, messages::REFUSALS);
+    holds(&rt, rt.alloc(), Make::Error, &SHORT, messages::ERROR);
 }
 
 #[test]
-fn answers_stand_in_their_order(rt: HostRuntime) -> Result<(), Fail> {
-    let wrong = first_wrong(rt.alloc(), Make::Missing, messages::ANSWERS)?;
-    assert!(rt; wrong.is_empty(), "{wrong}");
-    Ok(())
+fn answers_stand_in_their_order(rt: HostRuntime) {
+    holds(&rt, rt.alloc(), Make::Missing, &SHORT, messages::ANSWERS);
 }
 
 #[test]
-fn requests_are_read_and_written(rt: HostRuntime) -> Result<(), Fail> {
-    let wrong = first_wrong(rt.alloc(), Make::Request, requests::REQUESTS)?;
-    assert!(rt; wrong.is_empty(), "{wrong}");
-    Ok(())
+fn requests_are_read_and_written(rt: HostRuntime) {
+    holds(&rt, rt.alloc(), Make::Request, &SHORT, requests::REQUESTS);
 }
 
 #[test]
-fn documents_are_read_as_of_a_time(rt: HostRuntime) -> Result<(), Fail> {
-    let wrong = first_wrong(rt.alloc(), Make::Request, requests::READ_TIMES)?;
-    assert!(rt; wrong.is_empty(), "{wrong}");
-    Ok(())
+fn documents_are_read_as_of_a_time(rt: HostRuntime) {
+    holds(&rt, rt.alloc(), Make::Request, &SHORT, requests::READ_TIMES);
 }
 
 #[test]
-fn a_line_of_a_script_has_its_session(rt: HostRuntime) -> Result<(), Fail> {
-    let wrong = first_wrong(rt.alloc(), Make::RequestOn, requests::ON_A_SESSION)?;
-    assert!(rt; wrong.is_empty(), "{wrong}");
-    Ok(())
+fn a_line_of_a_script_has_its_session(rt: HostRuntime) {
+    holds(
+        &rt,
+        rt.alloc(),
+        Make::RequestOn,
+        &SHORT,
+        requests::ON_A_SESSION,
+    );
 }
