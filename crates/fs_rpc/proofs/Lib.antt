@@ -2,9 +2,6 @@ pub mod Again
 pub mod Floats
 pub mod Named
 pub mod Put
-pub mod InTurn
-pub mod InParts
-pub mod Refusal
 pub mod Once
 pub mod Structured
 pub mod Parents

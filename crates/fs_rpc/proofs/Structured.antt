@@ -8,20 +8,19 @@ use Rattle.fs_json.specs.declared.bad.Bad.{Bad}
 use Rattle.fs_json.specs.declared.bad.Bad.TheVariants.{At, Method, Memory}
 use Rattle.fs_query.specs.Asked.{Asked}
 use Rattle.fs_queryjson.specs.Query.{permitted_at, walked_at}
-use Rattle.fs_rpc.specs.RequestSteps.{judged_in_time_at}
 use Rattle.fs_rpc.specs.Requests.{structured_at, when_at}
 
--- what comes after the walk
-pub structured_walked : (parent : List (List ℕ)) (d s : Data) (place : List ℕ) (q : Asked) → required_at (codes "structuredQuery") d place ≡ Ok s
-    → walked_at parent s (member_place place (codes "structuredQuery")) ≡ Ok q → structured_at parent d place ≡ judged_in_time_at q d place
+-- a fault of what comes after the walk
+pub structured_fails : (parent : List (List ℕ)) (d s : Data) (place : List ℕ) (q : Asked) (bad : Bad) → required_at (codes "structuredQuery") d place ≡ Ok s
+    → walked_at parent s (member_place place (codes "structuredQuery")) ≡ Ok q → when_at d place ≡ Err bad → structured_at parent d place ≡ Err bad
 unfolding structured_at
-structured_walked parent d s place q there walked = rw (there, walked) refl
+structured_fails parent d s place q bad there walked fails = rw (there, walked, fails) refl
 
 -- a query that is asked at this time
 abbrev pub with_time : Option ℤ → Result Asked Bad → Result (Asked × Option ℤ) Bad
 with_time time query = query >>= λ q. Ok (q, time)
 
--- a query whose walk is at no fault, and neither is when it is asked
+-- and none
 pub structured_gives : (parent : List (List ℕ)) (d s : Data) (place : List ℕ) (q : Asked) (time : Option ℤ) → required_at (codes "structuredQuery") d place ≡ Ok s
     → walked_at parent s (member_place place (codes "structuredQuery")) ≡ Ok q → when_at d place ≡ Ok time
     → structured_at parent d place ≡ with_time time (permitted_at q (member_place place (codes "structuredQuery")))

@@ -1,5 +1,5 @@
 //! Reads messages.
-ghost use Rattle.std.specs.Prelude.{◌≡◌, ◌↔◌, ℕ, ℤ, List, Some, []};
+ghost use Rattle.std.specs.Prelude.{◌≡◌, ◌↔◌, Some, []};
 ghost use Rattle.serde_json.specs.Read.{read};
 ghost use Rattle.serde_json.specs.View.{items_view, view as json};
 ghost use Rattle.fs_path.specs.Way.{place_of};
@@ -7,8 +7,6 @@ ghost use Rattle.fs_path.specs.declared.place.Rule.TheVariants.{G};
 ghost use Rattle.fs_json.specs.Answer.{Gives, or_fault};
 ghost use Rattle.fs_status.specs.Status.{status_text};
 ghost use Rattle.fs_status.specs.declared.code.Code.{Code};
-ghost use Rattle.fs_value.specs.declared.document.Document.{Document};
-ghost use Rattle.fs_rpc.specs.MessageSteps.{code_at, one_answer_at, one_outcome_at, refusal_at};
 ghost use Rattle.fs_rpc.specs.ReadMessage.{answers_commit, answers_names, code_named, commit_result_at, documents_result_at, error_at, has, if_numbered, list_result_at, message_at, message_of, object_result_at, outcome_at, query_result_at, required_integer_at, required_text_at, result_at};
 
 use crate::answers::{answered, read_answers, read_query_answers};
@@ -20,12 +18,10 @@ use crate::names::{
 };
 use crate::results::read_results;
 use crate::times::required_time;
-use fs_json::{Bad, one_of, only, required};
+use fs_json::{Bad, one_of, only, required, text};
 use fs_path::{Root, Rule, Text, Way};
 use fs_status::Code;
-use fs_time::Micros;
 use fs_valjson::read_document;
-use fs_value::Documents;
 use serde_json::Value;
 use std::alloc::{AllocError, Global};
 
@@ -58,15 +54,10 @@ fn json_of(alloc: Global, text: &str) -> Result<Value, Bad>
 fn read_members(alloc: Global, root: &Root, v: &Value) -> Result<Message, Bad>
     ensures { Gives (λ m. m) result (message_at root.now (json v.now)) }
 {
-    only(alloc, v, &MESSAGE_MEMBERS, &Way::method(""))?;
+    let here = Way::method("");
+    only(alloc, v, &MESSAGE_MEMBERS, &here)?;
     let id = id_of(alloc, v)?;
-    read_one_outcome(alloc, root, id, v)
-}
-
-fn read_one_outcome(alloc: Global, root: &Root, id: Option<Text>, v: &Value) -> Result<Message, Bad>
-    ensures { Gives (λ m. m) result (one_outcome_at root.now id (json v.now)) }
-{
-    let (name, content) = one_of(alloc, v, &OUTCOMES, &Way::method(""))?;
+    let (name, content) = one_of(alloc, v, &OUTCOMES, &here)?;
     read_outcome(alloc, root, id, name, content)
 }
 
@@ -86,35 +77,21 @@ fn read_outcome(
 }
 
 /// Reads an error, whose code has to be the number of its status in HTTP.
+#[tactic(auto, unfolding(crate::specs::ReadMessage::error_at))]
 fn read_error(alloc: Global, id: Option<Text>, v: &Value, place: &Way<'_>) -> Result<Message, Bad>
     ensures { Gives (λ m. m) result (error_at id (json v.now) (place_of place.now)) }
-{
-    let (code, message) = read_refusal(alloc, v, place)?;
-    Ok(Message::Error { id, code, message })
-}
-
-fn read_refusal(alloc: Global, v: &Value, place: &Way<'_>) -> Result<(Code, Text), Bad>
-    ensures { Gives {Y = Code × List ℕ} (λ r. r) result (refusal_at (json v.now) (place_of place.now)) }
 {
     only(alloc, v, &ERROR_MEMBERS, place)?;
     let number = required_integer(alloc, v, CODE, place)?;
     let message = required_text(alloc, v, MESSAGE, place)?;
-    let code = read_code(alloc, number, v, place)?;
-    Ok((code, Text::from_str(alloc, message)?))
-}
-
-/// The code of this number in HTTP, which the status names.
-fn read_code(alloc: Global, number: i64, v: &Value, place: &Way<'_>) -> Result<Code, Bad>
-    ensures { Gives (λ c. c) result (code_at number (json v.now) (place_of place.now)) }
-{
     let status = required_text(alloc, v, STATUS, place)?;
-    let Some(named) = code_named(status) else {
+    let Some(named) = code_named(status.as_str()) else {
         return Err(Bad::at(alloc, Rule::G, &place.member(STATUS)));
     };
-    match if_numbered(number, named) {
-        Some(code) => Ok(code),
-        None => Err(Bad::at(alloc, Rule::G, &place.member(CODE))),
-    }
+    let Some(code) = if_numbered(number, named) else {
+        return Err(Bad::at(alloc, Rule::G, &place.member(CODE)));
+    };
+    Ok(Message::Error { id, code, message })
 }
 
 fn required_integer(alloc: Global, v: &Value, name: &str, place: &Way<'_>) -> Result<i64, Bad>
@@ -126,18 +103,11 @@ fn required_integer(alloc: Global, v: &Value, name: &str, place: &Way<'_>) -> Re
     }
 }
 
-fn required_text<'a>(
-    alloc: Global,
-    v: &'a Value,
-    name: &str,
-    place: &Way<'_>,
-) -> Result<&'a str, Bad>
-    ensures { Gives (λ t. t.now) result (required_text_at name.now (json v.now) (place_of place.now)) }
+fn required_text(alloc: Global, v: &Value, name: &str, place: &Way<'_>) -> Result<Text, Bad>
+    ensures { Gives (λ t. t) result (required_text_at name.now (json v.now) (place_of place.now)) }
 {
-    match required(alloc, v, name, place)?.as_str() {
-        Some(text) => Ok(text),
-        None => Err(Bad::at(alloc, Rule::G, &place.member(name))),
-    }
+    let found = required(alloc, v, name, place)?;
+    text(alloc, found, &place.member(name))
 }
 
 /// The codes that refusals have.
@@ -231,26 +201,13 @@ fn read_query(
 ) -> Result<Message, Bad>
     ensures { Gives (λ m. m) result (query_result_at root.now id (items_view items.now) (place_of place.now)) }
 {
-    let (documents, time) = read_one_answer(alloc, root, items, place)?;
-    Ok(Message::RunQuery {
-        id,
-        documents,
-        time,
-    })
-}
-
-/// What a query is answered, by items that are one answer.
-fn read_one_answer(
-    alloc: Global,
-    root: &Root,
-    items: &[Value],
-    place: &Way<'_>,
-) -> Result<(Documents, Micros), Bad>
-    ensures { Gives {Y = List Document × ℤ} (λ one. one) result (one_answer_at root.now (items_view items.now) (place_of place.now)) }
-{
     let told = read_query_answers(alloc, root, items, place)?;
     match answered(alloc, told)? {
-        Some(one) => Ok(one),
+        Some((documents, time)) => Ok(Message::RunQuery {
+            id,
+            documents,
+            time,
+        }),
         None => Err(Bad::at(alloc, Rule::G, place)),
     }
 }

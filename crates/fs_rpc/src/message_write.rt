@@ -19,7 +19,7 @@ use crate::message::{BatchAnswer, Message};
 use crate::names::{
     COMMIT_TIME, DOCUMENT, ERROR, FOUND, MISSING, READ_TIME, RESULT, SESSION, WRITE_RESULTS,
 };
-use crate::times::put_time;
+use crate::times::moment;
 use fs_path::{Text, print_document};
 use fs_status::Code;
 use fs_time::Micros;
@@ -138,7 +138,7 @@ fn write_commit(alloc: Global, time: Micros, results: &[WriteResult]) -> Result<
     ensures held { OnOk result (IsTimeHeld time × AllByRecursion IsResultHeld results.now) }
 {
     let mut members = Map::new(alloc);
-    put_time(alloc, &mut members, COMMIT_TIME, time)?;
+    serde_json::put(&mut members, alloc, COMMIT_TIME, moment(alloc, time)?)?;
     let written = write_results(alloc, results)?;
     put_list(alloc, &mut members, WRITE_RESULTS, written)?;
     Ok(Value::Object(members))
@@ -205,7 +205,7 @@ fn write_none(alloc: Global, time: Micros) -> Result<Vec<Value>, AllocError>
     ensures held { OnOk result (IsTimeHeld time) }
 {
     let mut members = Map::new(alloc);
-    put_time(alloc, &mut members, READ_TIME, time)?;
+    serde_json::put(&mut members, alloc, READ_TIME, moment(alloc, time)?)?;
     let mut items = Vec::new(alloc);
     items.push(Value::Object(members))?;
     Ok(items)
@@ -217,18 +217,10 @@ fn write_some(alloc: Global, documents: &[Document], time: Micros) -> Result<Vec
 {
     let mut items = Vec::with_capacity(alloc, documents.len())?;
     for document in documents {
-        let item = write_query_answer(alloc, document, time)?;
-        items.push(item)?;
+        let document = write_document(alloc, document)?;
+        items.push(with_read_time(alloc, DOCUMENT, document, time)?)?;
     }
     Ok(items)
-}
-
-fn write_query_answer(alloc: Global, document: &Document, time: Micros) -> Result<Value, AllocError>
-    ensures value { IfOk result (λ j. json j ≡ query_answer_json time document.now) }
-    ensures held { OnOk result (IsTimeHeld time) }
-{
-    let document = write_document(alloc, document)?;
-    with_read_time(alloc, DOCUMENT, document, time)
 }
 
 /// An object of this member and the time of the read.
@@ -243,6 +235,6 @@ fn with_read_time(
 {
     let mut members = Map::new(alloc);
     serde_json::put(&mut members, alloc, name, content)?;
-    put_time(alloc, &mut members, READ_TIME, time)?;
+    serde_json::put(&mut members, alloc, READ_TIME, moment(alloc, time)?)?;
     Ok(Value::Object(members))
 }

@@ -4,7 +4,6 @@ ghost use Rattle.fs_query.specs.Asked.{Asked};
 ghost use Rattle.fs_path.specs.Way.{place_of};
 ghost use Rattle.serde_json.specs.View.{view};
 ghost use Rattle.fs_json.specs.Answer.{Gives};
-ghost use Rattle.fs_rpc.specs.RequestSteps.{asked_at, judged_in_time_at, writes_at};
 ghost use Rattle.fs_rpc.specs.Requests.{batch_get_at, commit_at, database_at, drafts_in, get_at, mask_in, parent_at, request_at, run_query_at, structured_at, when_at};
 
 use crate::distinct::read_names;
@@ -22,7 +21,6 @@ use fs_path::{Ids, Paths, Root, Rule, Text, Way, check_database, parse_parent};
 use fs_query::Query;
 use fs_queryjson::{judge_query, walk_query};
 use fs_time::Micros;
-use fs_write::Writes;
 use fs_writejson::{Drafts, judge, read_drafts, read_mask};
 use serde_json::Value;
 use std::alloc::Global;
@@ -48,18 +46,13 @@ fn read_commit(alloc: Global, root: &Root, v: &Value, place: &Way<'_>) -> Result
 {
     only(alloc, v, &COMMIT_MEMBERS, place)?;
     read_database(alloc, root, v, place)?;
-    let database = root.copy(alloc)?;
-    let writes = read_writes(alloc, root, v, place)?;
-    Ok(Request::Commit { database, writes })
-}
-
-// The writes of a commit, whose rules are tested after the walk.
-fn read_writes(alloc: Global, root: &Root, v: &Value, place: &Way<'_>) -> Result<Writes, Bad>
-    ensures { Gives (λ ws. ws) result (writes_at root.now (view v.now) (place_of place.now)) }
-{
     let drafts = read_drafts_of(alloc, root, v, place)?;
     refuse_unbuilt(alloc, v, &UNBUILT_MEMBERS, place)?;
-    judge(alloc, drafts, &place.member(WRITES))
+    let writes = judge(alloc, drafts, &place.member(WRITES))?;
+    Ok(Request::Commit {
+        database: root.copy(alloc)?,
+        writes,
+    })
 }
 
 /// Reads a `GetDocumentRequest`.
@@ -104,28 +97,14 @@ fn read_run_query(alloc: Global, root: &Root, v: &Value, place: &Way<'_>) -> Res
     ensures { Gives (λ r. r) result (run_query_at root.now (view v.now) (place_of place.now)) }
 {
     only(alloc, v, &RUN_QUERY_MEMBERS, place)?;
-    let database = root.copy(alloc)?;
-    let (query, read_time) = read_asked(alloc, root, v, place)?;
+    let parent = required(alloc, v, PARENT, place)?;
+    let parent = read_parent(alloc, root, parent, &place.member(PARENT))?;
+    let (query, read_time) = read_structured(alloc, &parent, v, place)?;
     Ok(Request::RunQuery {
-        database,
+        database: root.copy(alloc)?,
         query,
         read_time,
     })
-}
-
-// The query below its parent, and when it is asked.
-fn read_asked(
-    alloc: Global,
-    root: &Root,
-    v: &Value,
-    place: &Way<'_>,
-) -> Result<(Query, Option<Micros>), Bad>
-    ensures { Gives {Y = Asked × Option ℤ} (λ asked. asked) result
-        (asked_at root.now (view v.now) (place_of place.now)) }
-{
-    let parent = required(alloc, v, PARENT, place)?;
-    let parent = read_parent(alloc, root, parent, &place.member(PARENT))?;
-    read_structured(alloc, &parent, v, place)
 }
 
 // The query, whose rules are tested after the walk of the whole request, and when it is asked.
@@ -141,18 +120,6 @@ fn read_structured(
 {
     let structured = required(alloc, v, STRUCTURED_QUERY, place)?;
     let walked = walk_query(alloc, parent, structured, &place.member(STRUCTURED_QUERY))?;
-    read_judged(alloc, walked, v, place)
-}
-
-fn read_judged(
-    alloc: Global,
-    walked: Query,
-    v: &Value,
-    place: &Way<'_>,
-) -> Result<(Query, Option<Micros>), Bad>
-    ensures { Gives {Y = Asked × Option ℤ} (λ asked. asked) result
-        (judged_in_time_at walked (view v.now) (place_of place.now)) }
-{
     let read_time = read_when(alloc, v, place)?;
     let query = judge_query(alloc, walked, &place.member(STRUCTURED_QUERY))?;
     Ok((query, read_time))

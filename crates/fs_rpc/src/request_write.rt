@@ -1,8 +1,8 @@
 //! Writes requests.
-ghost use Rattle.std.specs.Prelude.{◌≡◌, ◌≤◌, false, Some, Ok, IfOk, IfSome, OnOk, codes};
+ghost use Rattle.std.specs.Prelude.{◌≡◌, ◌≤◌, false, Some, Ok, IfOk, IfSome, OnOk};
 ghost use Rattle.std.specs.List.{AllByRecursion};
 ghost use Rattle.fs_path.specs.declared.name.Root.{Root};
-ghost use Rattle.serde_json.specs.Data.{depth, put};
+ghost use Rattle.serde_json.specs.Data.{depth};
 ghost use Rattle.serde_json.specs.Read.{max_depth};
 ghost use Rattle.serde_json.specs.View.{items_view, members_view, view};
 ghost use Rattle.serde_json.specs.Written.{compact_text, has_float};
@@ -12,8 +12,7 @@ ghost use Rattle.fs_writejson.specs.Mask.{mask_json};
 ghost use Rattle.fs_writejson.specs.Written.{write_json};
 ghost use Rattle.fs_rpc.specs.Envelope.{envelope_at, request_of, session_request_at};
 ghost use Rattle.fs_rpc.specs.RequestJson.{batch_get_json, commit_json, database_json, envelope_json, envelope_json_on, envelope_members, get_json, method_of, names_json, parent_json, request_json, run_query_json, writes_json};
-ghost use Rattle.fs_rpc.specs.RequestSteps.{ArePathsHeld, IsMaskHeld, IsQueryHeld, IsRequestHeld, IsWriteHeld, with_documents_put, with_mask_put, with_query_put, with_read_time_put};
-ghost use Rattle.fs_rpc.specs.Steps.{with_list_put};
+ghost use Rattle.fs_rpc.specs.RequestSteps.{ArePathsHeld, IsMaskHeld, IsQueryHeld, IsRequestHeld, IsWriteHeld, with_mask_put, with_read_time_put};
 ghost use Rattle.fs_rpc.specs.ValidRequest.{IsRequestOf};
 
 use crate::id::put_id;
@@ -24,7 +23,7 @@ use crate::names::{
 };
 use crate::print::{print_database, print_parent};
 use crate::request::{Envelope, Request};
-use crate::times::put_time;
+use crate::times::moment;
 use fs_json::write_text;
 use fs_path::{DocName, Paths, Root, Scope, Text, print_document};
 use fs_query::Query;
@@ -131,22 +130,15 @@ fn write_commit(alloc: Global, database: &Root, writes: &[Write]) -> Result<Valu
     ensures held { OnOk result (AllByRecursion IsWriteHeld writes.now) }
 {
     let mut members = Map::new(alloc);
-    put_database(alloc, &mut members, database)?;
-    put_writes(alloc, &mut members, writes)?;
-    Ok(Value::Object(members))
-}
-
-fn put_writes(
-    alloc: Global,
-    members: &mut Map<String, Value>,
-    writes: &[Write],
-) -> Result<(), AllocError>
-    ensures value { OnOk result (members_view members.new.entries
-        ≡ with_list_put (codes "writes") (writes_json writes.now) (members_view members.old.entries)) }
-    ensures held { OnOk result (AllByRecursion IsWriteHeld writes.now) }
-{
+    serde_json::put(
+        &mut members,
+        alloc,
+        DATABASE,
+        database_value(alloc, database)?,
+    )?;
     let written = write_writes(alloc, writes)?;
-    put_list(alloc, members, WRITES, written)
+    put_list(alloc, &mut members, WRITES, written)?;
+    Ok(Value::Object(members))
 }
 
 fn write_writes(alloc: Global, writes: &[Write]) -> Result<Vec<Value>, AllocError>
@@ -177,10 +169,11 @@ fn write_get(
     ensures value { IfOk result (λ v. view v ≡ get_json name.now mask.now read_time) }
     ensures held { OnOk result (IsMaskHeld mask.now × IfSome read_time IsTimeHeld) }
 {
-    let name = print_document(alloc, name)?.into_string();
     let mut members = Map::new(alloc);
+    let name = print_document(alloc, name)?.into_string();
     serde_json::put(&mut members, alloc, NAME, Value::String(name))?;
-    put_how(alloc, &mut members, mask, read_time)?;
+    put_mask(alloc, &mut members, mask)?;
+    put_read_time(alloc, &mut members, read_time)?;
     Ok(Value::Object(members))
 }
 
@@ -196,23 +189,17 @@ fn write_batch_get(
     ensures held { OnOk result (IsMaskHeld mask.now × IfSome read_time IsTimeHeld) }
 {
     let mut members = Map::new(alloc);
-    put_documents(alloc, &mut members, database, documents)?;
-    put_how(alloc, &mut members, mask, read_time)?;
-    Ok(Value::Object(members))
-}
-
-fn put_documents(
-    alloc: Global,
-    members: &mut Map<String, Value>,
-    database: &Root,
-    documents: &[DocName],
-) -> Result<(), AllocError>
-    ensures { OnOk result (members_view members.new.entries
-        ≡ with_documents_put database.now documents.now (members_view members.old.entries)) }
-{
-    put_database(alloc, members, database)?;
+    serde_json::put(
+        &mut members,
+        alloc,
+        DATABASE,
+        database_value(alloc, database)?,
+    )?;
     let names = write_names(alloc, documents)?;
-    serde_json::put(members, alloc, DOCUMENTS, Value::Array(names))
+    serde_json::put(&mut members, alloc, DOCUMENTS, Value::Array(names))?;
+    put_mask(alloc, &mut members, mask)?;
+    put_read_time(alloc, &mut members, read_time)?;
+    Ok(Value::Object(members))
 }
 
 fn write_names(alloc: Global, names: &[DocName]) -> Result<Vec<Value>, AllocError>
@@ -224,21 +211,6 @@ fn write_names(alloc: Global, names: &[DocName]) -> Result<Vec<Value>, AllocErro
         items.push(Value::String(text))?;
     }
     Ok(items)
-}
-
-/// Puts in how documents are read: by a mask, and as of a time.
-fn put_how(
-    alloc: Global,
-    members: &mut Map<String, Value>,
-    mask: &Option<Paths>,
-    read_time: Option<Micros>,
-) -> Result<(), AllocError>
-    ensures value { OnOk result (members_view members.new.entries
-        ≡ with_read_time_put read_time (with_mask_put mask.now (members_view members.old.entries))) }
-    ensures held { OnOk result (IsMaskHeld mask.now × IfSome read_time IsTimeHeld) }
-{
-    put_mask(alloc, members, mask)?;
-    put_read_time(alloc, members, read_time)
 }
 
 /// Puts in a mask, where there is one. One without paths is there too.
@@ -275,7 +247,7 @@ fn put_read_time(
     ensures held { OnOk result (IfSome read_time IsTimeHeld) }
 {
     match read_time {
-        Some(time) => put_time(alloc, members, READ_TIME, time),
+        Some(time) => serde_json::put(members, alloc, READ_TIME, moment(alloc, time)?),
         None => Ok(()),
     }
 }
@@ -291,25 +263,12 @@ fn write_run_query(
     ensures held { OnOk result (IsQueryHeld query.now × IfSome read_time IsTimeHeld) }
 {
     let mut members = Map::new(alloc);
-    put_query(alloc, &mut members, database, query)?;
+    let structured = query_value(alloc, query)?;
+    serde_json::put(&mut members, alloc, STRUCTURED_QUERY, structured)?;
+    let parent = parent_value(alloc, database, &query.scope)?;
+    serde_json::put(&mut members, alloc, PARENT, parent)?;
     put_read_time(alloc, &mut members, read_time)?;
     Ok(Value::Object(members))
-}
-
-fn put_query(
-    alloc: Global,
-    members: &mut Map<String, Value>,
-    database: &Root,
-    query: &Query,
-) -> Result<(), AllocError>
-    ensures value { OnOk result (members_view members.new.entries
-        ≡ with_query_put database.now query.now (members_view members.old.entries)) }
-    ensures held { OnOk result (IsQueryHeld query.now) }
-{
-    let structured = query_value(alloc, query)?;
-    serde_json::put(members, alloc, STRUCTURED_QUERY, structured)?;
-    let parent = parent_value(alloc, database, &query.scope)?;
-    serde_json::put(members, alloc, PARENT, parent)
 }
 
 fn query_value(alloc: Global, query: &Query) -> Result<Value, AllocError>
@@ -330,14 +289,8 @@ fn parent_value(alloc: Global, database: &Root, scope: &Scope) -> Result<Value, 
     Ok(Value::String(print_parent(alloc, database, parent)?.into_string()))
 }
 
-fn put_database(
-    alloc: Global,
-    members: &mut Map<String, Value>,
-    database: &Root,
-) -> Result<(), AllocError>
-    ensures { OnOk result (members_view members.new.entries
-        ≡ put (codes "database") (database_json database.now) (members_view members.old.entries)) }
+fn database_value(alloc: Global, database: &Root) -> Result<Value, AllocError>
+    ensures { IfOk result (λ v. view v ≡ database_json database.now) }
 {
-    let database = print_database(alloc, database)?.into_string();
-    serde_json::put(members, alloc, DATABASE, Value::String(database))
+    Ok(Value::String(print_database(alloc, database)?.into_string()))
 }

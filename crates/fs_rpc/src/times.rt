@@ -1,8 +1,7 @@
 //! Times that are members of an object.
 ghost use Rattle.std.specs.Prelude.{◌≡◌, ℤ, Option, IfOk, OnOk};
 ghost use Rattle.fs_path.specs.Way.{place_of};
-ghost use Rattle.serde_json.specs.Data.{put};
-ghost use Rattle.serde_json.specs.View.{members_view, view as json};
+ghost use Rattle.serde_json.specs.View.{view as json};
 ghost use Rattle.fs_json.specs.Answer.{Gives};
 ghost use Rattle.fs_json.specs.Time.{time_json};
 ghost use Rattle.fs_valjson.specs.Valid.{IsTimeHeld};
@@ -11,7 +10,7 @@ ghost use Rattle.fs_rpc.specs.Times.{optional_time_at, required_time_at};
 use fs_json::{Bad, member, required, time, write_time};
 use fs_path::Way;
 use fs_time::Micros;
-use serde_json::{Map, Value};
+use serde_json::Value;
 use std::alloc::{AllocError, Global};
 
 /// A time that has to be there.
@@ -48,19 +47,4 @@ pub(crate) fn moment(alloc: Global, time: Micros) -> Result<Value, AllocError>
     ensures held { OnOk result (IsTimeHeld time) }
 {
     write_time(alloc, time)
-}
-
-/// Puts in a time.
-pub(crate) fn put_time(
-    alloc: Global,
-    members: &mut Map<String, Value>,
-    name: &str,
-    time: Micros,
-) -> Result<(), AllocError>
-    ensures value { OnOk result (members_view members.new.entries
-        ≡ put name.now (time_json time) (members_view members.old.entries)) }
-    ensures held { OnOk result (IsTimeHeld time) }
-{
-    let written = moment(alloc, time)?;
-    serde_json::put(members, alloc, name, written)
 }

@@ -1,5 +1,8 @@
+use Rattle.std.proofs.Common.{◌≡◌, codes, ap, ◌∙◌}
+use Rattle.serde_json.specs.View.{view}
 use Rattle.fs_json.specs.WrittenLaws.{written_next}
 use Rattle.fs_rpc.specs.MessageJson.{query_answer_json}
+use Rattle.fs_rpc.specs.MessageSteps.{timed_put}
 use Rattle.fs_rpc.proofs.message_write.write_some.Goals as goal
 
 pub loop-document-preserved : goal.loop-document-preserved
@@ -8,8 +11,9 @@ loop-document-preserved c =
     let l = c.loop-document in
     let x = c.document-item.result in
     let time = c.args.time in
-    let item = c.in_ok-item in
+    let j = c.in_ok-with_read_time.field-0 in
+    let told : view j ≡ query_answer_json time x = c.in_ok-with_read_time.ensures.value ∙ ap (λ d. timed_put (codes "document") d time) c.in_ok-document.ensures.value in
     rw c.in_ok-push.ensures.items (record {
-      written = written_next (query_answer_json time) l.items.items item.item xs l.document-index x c.loop-document-test.true c.document-item.is l.invariant.written item.ensures.value;
-      held = λ _. item.ensures.held;
+      written = written_next (query_answer_json time) l.items.items j xs l.document-index x c.loop-document-test.true c.document-item.is l.invariant.written told;
+      held = λ _. c.in_ok-with_read_time.ensures.held;
     })

@@ -1,17 +1,50 @@
-use Rattle.std.proofs.Common.{◌≡◌, ℤ, Option, Ok, sym, subst}
+use Rattle.std.proofs.Common.{rules, ◌≡◌, ℤ, Option, Ok, Err, codes, sym, ap, subst, ◌∙◌}
+use Rattle.fs_path.specs.Place.{member_place}
 use Rattle.fs_path.specs.Way.{place_of}
 use Rattle.serde_json.specs.View.{view}
 use Rattle.fs_json.specs.Answer.{Gives}
 use Rattle.fs_query.specs.Asked.{Asked}
-use Rattle.fs_queryjson.specs.Query.{walked_at}
-use Rattle.fs_rpc.proofs.Structured.{structured_walked}
+use Rattle.fs_queryjson.specs.Query.{permitted_at, walked_at}
+use Rattle.fs_rpc.specs.Requests.{structured_at, when_at}
+use Rattle.fs_rpc.proofs.Structured.{structured_fails, structured_gives, passed_on, with_time}
 use Rattle.fs_rpc.proofs.read.read_structured.Goals as goal
+
+pub returns-in_err-read_time : goal.returns-in_err-read_time
+returns-in_err-read_time c =
+    let place = place_of c.args.place.now in
+    let d = view c.args.v.now in
+    let s = view c.in_ok-structured.structured.now in
+    let walked = subst (λ p. walked_at c.args.parent.now s p ≡ Ok c.in_ok-walked.walked) c.member.ensures c.in_ok-walked.ensures in
+    let bad = c.in_err-read_time.field-0.0 in
+    let result : c.from_residual-in_err-read_time.result ≡ Err bad = search rules in
+    subst (λ r. Gives {Y = Asked × Option ℤ} (λ asked. asked) r (structured_at c.args.parent.now d place)) (sym result)
+    (passed_on {X = Option ℤ} {Y = Option ℤ} (λ t. t) (λ asked. asked) bad (when_at d place) (structured_at c.args.parent.now d place) c.in_err-read_time.ensures
+    (λ b e. structured_fails c.args.parent.now d s place c.in_ok-walked.walked b c.in_ok-structured.ensures walked e))
+
+pub returns-in_err-query : goal.returns-in_err-query
+returns-in_err-query c =
+    let place = place_of c.args.place.now in
+    let d = view c.args.v.now in
+    let s = view c.in_ok-structured.structured.now in
+    let inside = member_place place (codes "structuredQuery") in
+    let time = c.in_ok-read_time.read_time in
+    let walked = subst (λ p. walked_at c.args.parent.now s p ≡ Ok c.in_ok-walked.walked) c.member.ensures c.in_ok-walked.ensures in
+    let gives = structured_gives c.args.parent.now d s place c.in_ok-walked.walked time c.in_ok-structured.ensures walked c.in_ok-read_time.ensures in
+    let bad = c.in_err-query.field-0.0 in
+    let result : c.from_residual-in_err-query.result ≡ Err bad = search rules in
+    let judged = subst (λ p. Gives {Y = Asked} (λ q. q) (Err bad) (permitted_at c.in_ok-walked.walked p)) c.member-2.ensures c.in_err-query.ensures in
+    subst (λ r. Gives {Y = Asked × Option ℤ} (λ asked. asked) r (structured_at c.args.parent.now d place)) (sym result)
+    (passed_on {X = Asked} {Y = Asked} (λ q. q) (λ asked. asked) bad (permitted_at c.in_ok-walked.walked inside) (structured_at c.args.parent.now d place) judged
+    (λ b e. gives ∙ ap (with_time time) e))
 
 pub returns : goal.returns
 returns c =
     let place = place_of c.args.place.now in
     let d = view c.args.v.now in
     let s = view c.in_ok-structured.structured.now in
-    let parent = c.args.parent.now in
-    let walked = subst (λ p. walked_at parent s p ≡ Ok c.in_ok-walked.walked) c.member.ensures c.in_ok-walked.ensures in
-    subst (λ r. Gives {Y = Asked × Option ℤ} (λ asked. asked) c.read_judged.result r) (sym (structured_walked parent d s place c.in_ok-walked.walked c.in_ok-structured.ensures walked)) c.read_judged.ensures
+    let time = c.in_ok-read_time.read_time in
+    let query = c.in_ok-query.query in
+    let walked = subst (λ p. walked_at c.args.parent.now s p ≡ Ok c.in_ok-walked.walked) c.member.ensures c.in_ok-walked.ensures in
+    let gives = structured_gives c.args.parent.now d s place c.in_ok-walked.walked time c.in_ok-structured.ensures walked c.in_ok-read_time.ensures in
+    let judged = subst (λ p. permitted_at c.in_ok-walked.walked p ≡ Ok query) c.member-2.ensures c.in_ok-query.ensures in
+    gives ∙ ap (with_time time) judged
