@@ -10,7 +10,7 @@ use Rattle.fs_path.specs.declared.stage.Stage.TheVariants.{Opening, Simple, Quot
 use Rattle.fs_path.specs.FieldReader.{Reading, stage_after, takes, is_opening, gathered, moved, goes_on, field_from}
 
 -- one byte is read
-pub read_on : (r : Reading) (next : Stage) (text : List ℕ) (at b : ℕ) → at < length text → b ≡ get_or text at 0 → Some next ≡ stage_after r.stage b → field_from r at (drop at text) ≡ field_from (moved r b next) (at + 1) (drop (at + 1) text)
+read_on : (r : Reading) (next : Stage) (text : List ℕ) (at b : ℕ) → at < length text → b ≡ get_or text at 0 → Some next ≡ stage_after r.stage b → field_from r at (drop at text) ≡ field_from (moved r b next) (at + 1) (drop (at + 1) text)
 read_on r next text at b within e h =
     let here : drop at text ≡ b ∷ drop (at + 1) text = drop_more text at 0 within ∙ ap (λ x. x ∷ drop (at + 1) text) (sym e) in
     let rest = drop (at + 1) text in
@@ -36,24 +36,17 @@ gathered_on Quoted names name h = refl
 gathered_on Escaped names name h = refl
 gathered_on Closed names name h = refl
 
-gathered_whole : (next : Stage) (names : List (List ℕ)) (name : List ℕ) → is_opening next ≡ true → gathered next names name ≡ record { stage = next; names = names ++ name ∷ []; name = [] }
-gathered_whole Opening names name h = refl
-gathered_whole Simple names name h = cc
-gathered_whole Quoted names name h = cc
-gathered_whole Escaped names name h = cc
-gathered_whole Closed names name h = cc
-
 -- a dot isn't part of a name
-pub never_both : (stage next : Stage) → takes stage next ≡ true → is_opening next ≡ true → ⊥
-never_both Opening Opening h k = cc
-never_both Simple Opening h k = cc
-never_both Quoted Opening h k = cc
-never_both Escaped Opening h k = cc
-never_both Closed Opening h k = cc
-never_both stage Simple h k = cc
-never_both stage Quoted h k = cc
-never_both stage Escaped h k = cc
-never_both stage Closed h k = cc
+no_dot : (stage next : Stage) → takes stage next ≡ true → is_opening next ≡ false
+no_dot Opening Opening h = cc
+no_dot Simple Opening h = cc
+no_dot Quoted Opening h = cc
+no_dot Escaped Opening h = cc
+no_dot Closed Opening h = cc
+no_dot stage Simple h = refl
+no_dot stage Quoted h = refl
+no_dot stage Escaped h = refl
+no_dot stage Closed h = refl
 
 -- what only marks a name is ASCII
 not_wide : (stage next : Stage) (b : ℕ) → 128 ≤ b → takes stage next ≡ false → Some next ≡ stage_after stage b → ⊥
@@ -87,26 +80,25 @@ not_wide Closed next b wide h k =
 pub marks_ascii : (stage next : Stage) (b : ℕ) → takes stage next ≡ false → Some next ≡ stage_after stage b → b < 128
 marks_ascii stage next b h k = elim (cases_lt b 128) [ inl narrow ↦ narrow | inr wide ↦ absurd (not_wide stage next b wide h k) ]
 
--- ---- what a reader has after a byte: the name is front, and the text from a place on
+-- ---- a reader goes on: the name is front, and the text from a place on
 
 -- the byte belongs to the name
-pub taken : (stage next : Stage) (names : List (List ℕ)) (front text : List ℕ) (from at b : ℕ) → from ≤ at → at < length text → b ≡ get_or text at 0 → takes stage next ≡ true → is_opening next ≡ false
-    → moved (record { stage = stage; names = names; name = front ++ take (at - from) (drop from text) }) b next ≡ record { stage = next; names = names; name = front ++ take (at + 1 - from) (drop from text) }
+pub taken : (stage next : Stage) (names : List (List ℕ)) (front text : List ℕ) (from at b : ℕ) → from ≤ at → at < length text → b ≡ get_or text at 0 → Some next ≡ stage_after stage b → takes stage next ≡ true
+    → field_from (record { stage = next; names = names; name = front ++ take (at + 1 - from) (drop from text) }) (at + 1) (drop (at + 1) text)
+    ≡ field_from (record { stage = stage; names = names; name = front ++ take (at - from) (drop from text) }) at (drop at text)
 taken stage next names front text from at b order within e h k =
+    let read : Reading = record { stage = stage; names = names; name = front ++ take (at - from) (drop from text) } in
     let name : (front ++ take (at - from) (drop from text)) ++ b ∷ [] ≡ front ++ take (at + 1 - from) (drop from text) = append_assoc front (take (at - from) (drop from text)) (b ∷ []) ∙ ap (λ x. front ++ x) (sym (longer text from at b order within e)) in
-    rw h (ap (gathered next names) name ∙ gathered_on next names _ k)
+    let is : moved read b next ≡ record { stage = next; names = names; name = front ++ take (at + 1 - from) (drop from text) } = rw k (ap (gathered next names) name ∙ gathered_on next names _ (no_dot stage next k)) in
+    sym (read_on read next text at b within e h ∙ ap (λ q. field_from q (at + 1) (drop (at + 1) text)) is)
 
--- it marks the name, and no name is whole
-pub marked : (stage next : Stage) (names : List (List ℕ)) (front text : List ℕ) (from at b : ℕ) → takes stage next ≡ false → is_opening next ≡ false
-    → moved (record { stage = stage; names = names; name = front ++ take (at - from) (drop from text) }) b next ≡ record { stage = next; names = names; name = (front ++ take (at - from) (drop from text)) ++ take (at + 1 - (at + 1)) (drop (at + 1) text) }
-marked stage next names front text from at b h k =
-    let whole = front ++ take (at - from) (drop from text) in
-    let name : whole ++ take (at + 1 - (at + 1)) (drop (at + 1) text) ≡ whole = ap (λ x. whole ++ x) (none_left text at) ∙ append-nil whole in
-    rw h (gathered_on next names whole k ∙ λ i. record { stage = next; names = names; name = sym name i })
-
--- a dot makes it whole
-pub dotted : (stage next : Stage) (names : List (List ℕ)) (front text : List ℕ) (from at b : ℕ) → takes stage next ≡ false → is_opening next ≡ true
-    → moved (record { stage = stage; names = names; name = front ++ take (at - from) (drop from text) }) b next ≡ record { stage = next; names = names ++ (front ++ take (at - from) (drop from text)) ∷ []; name = [] ++ take (at + 1 - (at + 1)) (drop (at + 1) text) }
-dotted stage next names front text from at b h k =
-    let whole = front ++ take (at - from) (drop from text) in
-    rw h (gathered_whole next names whole k ∙ λ i. record { stage = next; names = names ++ whole ∷ []; name = sym (none_left text at) i })
+-- it marks the name
+pub marked : (stage next : Stage) (names all : List (List ℕ)) (front text name : List ℕ) (from at b : ℕ) → at < length text → b ≡ get_or text at 0 → Some next ≡ stage_after stage b → takes stage next ≡ false
+    → gathered next names (front ++ take (at - from) (drop from text)) ≡ record { stage = next; names = all; name = name }
+    → field_from (record { stage = next; names = all; name = name ++ take (at + 1 - (at + 1)) (drop (at + 1) text) }) (at + 1) (drop (at + 1) text)
+    ≡ field_from (record { stage = stage; names = names; name = front ++ take (at - from) (drop from text) }) at (drop at text)
+marked stage next names all front text name from at b within e h k gather =
+    let read : Reading = record { stage = stage; names = names; name = front ++ take (at - from) (drop from text) } in
+    let same : name ++ take (at + 1 - (at + 1)) (drop (at + 1) text) ≡ name = ap (λ x. name ++ x) (none_left text at) ∙ append-nil name in
+    let is : moved read b next ≡ record { stage = next; names = all; name = name ++ take (at + 1 - (at + 1)) (drop (at + 1) text) } = rw k (gather ∙ λ i. record { stage = next; names = all; name = sym same i }) in
+    sym (read_on read next text at b within e h ∙ ap (λ q. field_from q (at + 1) (drop (at + 1) text)) is)

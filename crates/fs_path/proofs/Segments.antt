@@ -1,7 +1,8 @@
 -- Texts and their parts between slashes.
-use Rattle.std.proofs.Common.{◌≡◌, ℕ, ◌+◌, zero, suc, Bool, true, false, cond, eqb, Some, List, [], ◌∷◌, ◌++◌, length, drop, slice_get, refl, ap, sym, ◌∙◌, arith}
+use Rattle.std.proofs.Common.{◌≡◌, ℕ, ◌+◌, ◌<◌, zero, suc, Bool, true, false, cond, eqb, Some, List, [], ◌∷◌, ◌++◌, length, drop, slice_get, refl, ap, sym, ◌∙◌, subst, arith}
 use Rattle.std.proofs.lemmas.List.{append-nil}
-use Rattle.std.specs.List.{AllByRecursion, onto_first, join_with_byte, flat_map, slice_split, position_or_len}
+use Rattle.std.proofs.lemmas.List.Splits.{slice_split_first}
+use Rattle.std.specs.List.{AllByRecursion, onto_first, join_with_byte, flat_map, slice_split, position_or_len, before_first, after_first}
 use Rattle.fs_path.specs.Segment.{segments, has_slash}
 use Rattle.fs_path.specs.Spelling.{slashed}
 
@@ -37,6 +38,13 @@ whole_at p x xs false e more h = let rest : position_or_len p xs ≡ length xs =
 pub whole : (p : ℕ → Bool) (xs : List ℕ) → position_or_len p xs ≡ length xs → slice_split p xs ≡ xs ∷ []
 whole p [] h = refl
 whole p (x ∷ xs) h = whole_at p x xs (p x) refl (whole p xs) h
+
+-- a text that was cut at its first slash
+pub cut : (text first rest : List ℕ) → first ≡ before_first (λ b. eqb b 47) text → rest ≡ after_first (λ b. eqb b 47) text → position_or_len (λ b. eqb b 47) text < length text → segments text ≡ first ∷ segments rest
+cut text first rest front back there = slice_split_first (λ b. eqb b 47) text 0 there ∙ λ i. sym front i ∷ segments (sym back i)
+
+pub first_whole : (text first : List ℕ) (ids : List (List ℕ)) → segments text ≡ first ∷ ids → has_slash first ≡ false
+first_whole text first ids are = (subst (λ ps. AllByRecursion (λ id. has_slash id ≡ false) ps) are (whole_parts text)).0
 
 -- ---- what is left of segments behind the first so many
 

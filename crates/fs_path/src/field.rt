@@ -1,9 +1,9 @@
 //! Field paths, and how they are read.
-ghost use Rattle.std.specs.Prelude.{◌≡◌, ◌<◌, List, ℕ, IfOk, IfErr, Ok, Err, length};
+ghost use Rattle.std.specs.Prelude.{◌≡◌, ◌<◌, ◌++◌, List, ℕ, IfOk, IfErr, OnOk, Ok, Err, length, string_bytes};
 ghost use Rattle.fs_path.specs.Refusal.{IsMemory};
 ghost use Rattle.fs_path.specs.declared.error.PathError.TheVariants.{BadQuote};
 ghost use Rattle.fs_path.specs.Field.{field_of, IsFieldText, IsLongestFront};
-ghost use Rattle.fs_path.specs.FieldReader.{read_of};
+ghost use Rattle.fs_path.specs.FieldReader.{read_of, gathered};
 
 use crate::error::PathError;
 use crate::ids::Ids;
@@ -67,18 +67,33 @@ fn read_names(alloc: Global, text: &str) -> Result<Ids, PathError>
             return Err(PathError::BadQuote(at as u64));
         };
         if !takes(stage, next) {
-            name.push_str(&text[from..at])?;
+            gather(alloc, &mut names, &mut name, &text[from..at], next)?;
             from = at + 1;
-        }
-        if is_opening(next) {
-            names.push(Text::of(replace(&mut name, String::new(alloc))))?;
         }
         stage = next;
     }
     if stage != Stage::Simple && stage != Stage::Closed {
         return Err(PathError::BadQuote(bytes.len() as u64));
     }
-    name.push_str(&text[from..])?;
-    names.push(Text::of(name))?;
+    // The end of the text makes a name whole, as a dot does.
+    gather(alloc, &mut names, &mut name, &text[from..], Stage::Opening)?;
     Ok(names)
+}
+
+/// Adds a part to the name that is read, and that name to those before it where a dot makes it whole.
+fn gather(
+    alloc: Global,
+    names: &mut Ids,
+    name: &mut String,
+    part: &str,
+    next: Stage,
+) -> Result<(), AllocError>
+    ensures { OnOk result (gathered next names.old (string_bytes name.old ++ part.now)
+        ≡ record { stage = next; names = names.new; name = string_bytes name.new }) }
+{
+    name.push_str(part)?;
+    if is_opening(next) {
+        names.push(Text::of(replace(name, String::new(alloc))))?;
+    }
+    Ok(())
 }
