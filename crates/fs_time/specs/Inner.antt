@@ -4,8 +4,9 @@ use Rattle.std.specs.Borrow.{Bor}
 use Rattle.fs_time.specs.declared.parts.Parts.{Parts}
 use Rattle.fs_time.specs.declared.parts.Offset as code
 use Rattle.fs_time.specs.declared.parts.Offset.TheVariants.{Utc, Ahead, Behind}
-use Rattle.fs_time.specs.Pieces.{Read, ◌>>=◌, read, printed, Fit}
-use Rattle.fs_time.specs.Shown.{utc, ahead, behind, Offset, Shown, most_decimals, date_time, form, numbers, decimals_piece, offset_pieces}
+use Rattle.fs_time.specs.Pieces.{Numbers, Read, ◌>>=◌, read, printed, Fit}
+use Rattle.fs_time.specs.Shown as Shown
+use Rattle.fs_time.specs.Shown.{utc, ahead, behind, Offset, Shown, most_decimals, form, numbers, decimals_piece, offset_pieces}
 use Rattle.fs_time.specs.Rfc3339 as Rfc3339
 
 abbrev pub offset_by : code.Offset → Offset
@@ -42,9 +43,13 @@ offset_at text = do
   offset ← read (offset_pieces sign) text
   Some (record { sign = sign; hours = offset.0.0; minutes = offset.0.1.0 }, offset.1)
 
+-- the numbers of the date and the time of day
+abbrev pub date_time : Parts → Numbers Shown.date_time
+date_time p = (p.year, (p.month, (p.day, (p.hour, (p.minute, (p.second, tt))))))
+
 -- the text of the date and the time of day
 abbrev pub date_time_text : Parts → List ℕ
-date_time_text p = printed date_time (p.year, (p.month, (p.day, (p.hour, (p.minute, (p.second, tt))))))
+date_time_text p = printed Shown.date_time (date_time p)
 
 -- the text of the decimals
 abbrev pub decimals_text : Parts → List ℕ

@@ -4,7 +4,7 @@
 ///
 /// `2024-02-30T01:00:00.120+01:00` shows the year 2024, the month 2, the day 30, the time of day 1, 0, 0 with the 3 decimals
 /// 120, and a clock that is `Ahead(1, 0)`.
-#[derive(Clone, Copy, Debug)]
+#[derive(Clone, Copy)]
 pub struct Parts {
     pub year: u16,
     pub month: u8,
@@ -20,7 +20,7 @@ pub struct Parts {
 }
 
 /// How far the clock that a text shows is from UTC, in hours and minutes.
-#[derive(Clone, Copy, Debug)]
+#[derive(Clone, Copy)]
 pub enum Offset {
     /// `Z`
     Utc,

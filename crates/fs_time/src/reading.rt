@@ -136,28 +136,42 @@ fn minutes_of(hours: u8, minutes: u8) -> Option<i32>
 fn parts_in(text: &[u8]) -> Option<Parts>
     ensures value { option_map Inner.shown_by result ≡ shown_in text.now }
 {
-    let (year, rest) = number_at(text, 4)?;
-    let (month, rest) = number_after(b'-', rest)?;
-    let (day, rest) = number_after(b'-', rest)?;
-    let (hour, rest) = number_after(b'T', rest)?;
-    let (minute, rest) = number_after(b':', rest)?;
-    let (second, rest) = number_after(b':', rest)?;
+    let (whole, rest) = date_time_at(text)?;
     let ((places, fraction), rest) = decimals_at(rest)?;
     let (offset, rest) = offset_at(rest)?;
     if !rest.is_empty() {
         return None;
     }
     Some(Parts {
+        places,
+        fraction,
+        offset,
+        ..whole
+    })
+}
+
+// `2024-01-01T00:00:00`, as it is without decimals and in UTC.
+fn date_time_at(text: &[u8]) -> Option<(Parts, &[u8])>
+    ensures { Inner.read_by Inner.date_time result ≡ Pieces.read Shown.date_time text.now }
+{
+    let (year, rest) = number_at(text, 4)?;
+    let (month, rest) = number_after(b'-', rest)?;
+    let (day, rest) = number_after(b'-', rest)?;
+    let (hour, rest) = number_after(b'T', rest)?;
+    let (minute, rest) = number_after(b':', rest)?;
+    let (second, rest) = number_after(b':', rest)?;
+    let parts = Parts {
         year: year as u16,
         month,
         day,
         hour,
         minute,
         second,
-        places,
-        fraction,
-        offset,
-    })
+        places: 0,
+        fraction: 0,
+        offset: Offset::Utc,
+    };
+    Some((parts, rest))
 }
 
 // `.000001`, or nothing: how many decimals, and those as one number.
@@ -187,16 +201,13 @@ fn offset_at(text: &[u8]) -> Option<(Offset, &[u8])>
     ensures { Inner.read_by Inner.offset_by result ≡ Inner.offset_at text.now }
 {
     let (sign, rest) = text.split_first()?;
+    if *sign == b'Z' {
+        return Some((Offset::Utc, rest));
+    }
+    let ((hours, minutes), rest) = hours_and_minutes_at(rest)?;
     match sign {
-        b'Z' => Some((Offset::Utc, rest)),
-        b'+' => {
-            let ((hours, minutes), rest) = hours_and_minutes_at(rest)?;
-            Some((Offset::Ahead(hours, minutes), rest))
-        }
-        b'-' => {
-            let ((hours, minutes), rest) = hours_and_minutes_at(rest)?;
-            Some((Offset::Behind(hours, minutes), rest))
-        }
+        b'+' => Some((Offset::Ahead(hours, minutes), rest)),
+        b'-' => Some((Offset::Behind(hours, minutes), rest)),
         _ => None,
     }
 }
