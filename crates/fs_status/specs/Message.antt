@@ -8,25 +8,31 @@ use Rattle.fs_status.specs.declared.reason.LineFault.TheVariants.{NotAnObject, D
 use Rattle.fs_status.specs.declared.reason.Reason.{Reason}
 use Rattle.fs_status.specs.declared.reason.Reason.TheVariants as reasons
 
--- a rule by its letter and its number, and the number that it carries: `G`, `T1`, `P7 1501`
+-- a letter and its number, and the number that it carries: `T1`, `P7 1501`
+abbrev pub numbered_text : List ℕ → ℕ → Option ℕ → List ℕ
+numbered_text letter n None = letter ++ decimal n
+numbered_text letter n (Some carried) = letter ++ (decimal n ++ (codes " " ++ decimal carried))
+
 abbrev pub rule_text : Rule → List ℕ
 rule_text G = codes "G"
-rule_text (T n) = codes "T" ++ decimal n
-rule_text (P n None) = codes "P" ++ decimal n
-rule_text (P n (Some carried)) = codes "P" ++ decimal n ++ (codes " " ++ decimal carried)
-rule_text (E n) = codes "E" ++ decimal n
-rule_text (Q n None) = codes "Q" ++ decimal n
-rule_text (Q n (Some carried)) = codes "Q" ++ decimal n ++ (codes " " ++ decimal carried)
+rule_text (T n) = numbered_text (codes "T") n None
+rule_text (P n carried) = numbered_text (codes "P") n carried
+rule_text (E n) = numbered_text (codes "E") n None
+rule_text (Q n carried) = numbered_text (codes "Q") n carried
 
 abbrev pub line_text : LineFault → List ℕ
 line_text NotAnObject = codes "line is not a JSON object"
 line_text DoesNotApply = codes "line does not apply"
 line_text (HasBytes n) = codes "line has " ++ decimal n ++ codes " bytes"
 
+-- what is told of a write, which is named by its number
+abbrev pub write_text : ℕ → List ℕ → List ℕ
+write_text write what = codes "write " ++ decimal write ++ (codes ": " ++ what)
+
 -- the update time that a write found, or that there was none
 abbrev pub update_time_text : ℕ → Option ℤ → List ℕ
-update_time_text write (Some time) = codes "write " ++ decimal write ++ (codes ": update time is " ++ time_text time)
-update_time_text write None = codes "write " ++ decimal write ++ codes ": update time is none"
+update_time_text write (Some time) = write_text write (codes "update time is " ++ time_text time)
+update_time_text write None = write_text write (codes "update time is none")
 
 -- a time that was asked for, and the bound on whose wrong side it is
 abbrev pub read_time_text : ℤ → List ℕ → ℤ → List ℕ
@@ -34,11 +40,11 @@ read_time_text time side bound = codes "read time " ++ time_text time ++ (codes 
 
 abbrev pub message_text : Reason → List ℕ
 message_text (reasons.Rule rule place) = rule_text rule ++ (codes " at " ++ place)
-message_text (reasons.Missing write) = codes "write " ++ decimal write ++ codes ": document missing"
-message_text (reasons.Exists write) = codes "write " ++ decimal write ++ codes ": document exists"
+message_text (reasons.Missing write) = write_text write (codes "document missing")
+message_text (reasons.Exists write) = write_text write (codes "document exists")
 message_text (reasons.OtherTime write time) = update_time_text write time
-message_text (reasons.DeepAfter write) = codes "write " ++ decimal write ++ codes ": E6"
-message_text (reasons.LargeAfter write bytes) = codes "write " ++ decimal write ++ (codes ": document has " ++ decimal bytes ++ codes " bytes")
+message_text (reasons.DeepAfter write) = write_text write (codes "E6")
+message_text (reasons.LargeAfter write bytes) = write_text write (codes "document has " ++ decimal bytes ++ codes " bytes")
 message_text (reasons.NoDocument time) = codes "no document at " ++ time_text time
 message_text (reasons.TooOld time floor) = read_time_text time (codes "before") floor
 message_text (reasons.TooNew time released) = read_time_text time (codes "after") released

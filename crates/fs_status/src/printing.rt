@@ -1,6 +1,6 @@
 //! The messages of refusals.
 ghost use Rattle.std.specs.Prelude.{◌≡◌, IfOk, string_bytes};
-ghost use Rattle.fs_status.specs.Message.{message_text, line_text, read_time_text, rule_text, update_time_text};
+ghost use Rattle.fs_status.specs.Message.{message_text, line_text, numbered_text, read_time_text, rule_text, update_time_text, write_text};
 
 use crate::reason::{LineFault, Reason};
 use crate::refusal::Refusal;
@@ -24,10 +24,10 @@ fn reason_text(alloc: Global, reason: &Reason) -> Result<String, AllocError>
             let (rule, place) = (rule.as_str(), place.as_str());
             format!(in alloc; "{rule} at {place}")
         }
-        Reason::Missing(write) => format!(in alloc; "write {write}: document missing"),
-        Reason::Exists(write) => format!(in alloc; "write {write}: document exists"),
+        Reason::Missing(write) => write_text(alloc, *write, "document missing"),
+        Reason::Exists(write) => write_text(alloc, *write, "document exists"),
         Reason::OtherTime(write, time) => update_time_text(alloc, *write, *time),
-        Reason::DeepAfter(write) => format!(in alloc; "write {write}: E6"),
+        Reason::DeepAfter(write) => write_text(alloc, *write, "E6"),
         Reason::LargeAfter(write, bytes) => {
             format!(in alloc; "write {write}: document has {bytes} bytes")
         }
@@ -51,6 +51,13 @@ fn reason_text(alloc: Global, reason: &Reason) -> Result<String, AllocError>
     }
 }
 
+// What is told of a write, which is named by its number.
+fn write_text(alloc: Global, write: u32, what: &str) -> Result<String, AllocError>
+    ensures { IfOk result (λ s. string_bytes s ≡ write_text write what.now) }
+{
+    format!(in alloc; "write {write}: {what}")
+}
+
 // The update time that a write found, or that there was none.
 fn update_time_text(alloc: Global, write: u32, time: Option<Micros>) -> Result<String, AllocError>
     ensures { IfOk result (λ s. string_bytes s ≡ update_time_text write time) }
@@ -61,7 +68,7 @@ fn update_time_text(alloc: Global, write: u32, time: Option<Micros>) -> Result<S
             let time = time.as_str();
             format!(in alloc; "write {write}: update time is {time}")
         }
-        None => format!(in alloc; "write {write}: update time is none"),
+        None => write_text(alloc, write, "update time is none"),
     }
 }
 
@@ -86,12 +93,24 @@ fn rule_text(alloc: Global, rule: Rule) -> Result<String, AllocError>
 {
     match rule {
         Rule::G => String::from_str(alloc, "G"),
-        Rule::T(n) => format!(in alloc; "T{n}"),
-        Rule::P(n, None) => format!(in alloc; "P{n}"),
-        Rule::P(n, Some(carried)) => format!(in alloc; "P{n} {carried}"),
-        Rule::E(n) => format!(in alloc; "E{n}"),
-        Rule::Q(n, None) => format!(in alloc; "Q{n}"),
-        Rule::Q(n, Some(carried)) => format!(in alloc; "Q{n} {carried}"),
+        Rule::T(n) => numbered_text(alloc, "T", n, None),
+        Rule::P(n, carried) => numbered_text(alloc, "P", n, carried),
+        Rule::E(n) => numbered_text(alloc, "E", n, None),
+        Rule::Q(n, carried) => numbered_text(alloc, "Q", n, carried),
+    }
+}
+
+fn numbered_text(
+    alloc: Global,
+    letter: &str,
+    n: u8,
+    carried: Option<u64>,
+) -> Result<String, AllocError>
+    ensures { IfOk result (λ s. string_bytes s ≡ numbered_text letter.now n carried) }
+{
+    match carried {
+        None => format!(in alloc; "{letter}{n}"),
+        Some(carried) => format!(in alloc; "{letter}{n} {carried}"),
     }
 }
 
