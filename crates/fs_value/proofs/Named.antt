@@ -1,10 +1,10 @@
 -- Documents that stand at their own names in a tree.
-use Rattle.std.specs.Prelude.{◌≡◌, IsTrue, IfSome, T, Bool, true, false, cond, List, [], ◌∷◌, map, Option, Some, None, refl}
-use Rattle.std.proofs.Common.{sym, ap, ◌∙◌, subst}
+use Rattle.std.specs.Prelude.{◌≡◌, IsTrue, IfSome, T, Bool, true, false, cond, List, [], ◌∷◌, map, Option, Some, refl}
+use Rattle.std.proofs.Common.{sym, ◌∙◌, subst}
 use Rattle.std.specs.Ordering.{is_eq, match_ordering}
 use Rattle.std.specs.declared.cmp.Ordering.{Ordering}
 use Rattle.std.specs.declared.cmp.Ordering.TheVariants.{Less, Equal, Greater}
-use Rattle.std.specs.Map.{lookup, keys_of, remove_entry}
+use Rattle.std.specs.Map.{lookup, remove_entry}
 use Rattle.std.specs.BTreeMap.{is_at, insert_entry}
 use Rattle.std.specs.FinMap.{is_sorted, from_sorted, from_entries, same_entries_map, entries-from_sorted}
 use Rattle.fs_path.specs.declared.name.DocName.{DocName}

@@ -12,6 +12,7 @@ pub mod ViewOrder
 pub mod Falls
 pub mod FieldPlace
 pub mod FieldPaths
+pub mod SetBelow
 pub mod Rising
 pub mod Tree
 pub mod Search

@@ -1,13 +1,12 @@
 //! The value at a field path such as `address.city`: read, set and taken out, in the fields of a document.
 ghost use Rattle.std.specs.Prelude.{◌≡◌, ◌≢◌, ℕ, ◌<◌, ◌∷◌, ◌++◌, IfOk, OnOk, OnErr, IsTrue, List, Some, None, [], length, option_map};
-ghost use Rattle.std.specs.FinMap.{find, put};
-ghost use Rattle.fs_path.specs.TextOrder.{text_cmp};
 ghost use Rattle.fs_value.specs.Data.{Data};
 ghost use Rattle.fs_value.specs.Ordered.{is_ordered};
 ghost use Rattle.fs_value.specs.FieldPaths.{map_of, fields_below, get_fields, set_fields, unset_fields, unset_below, without, IsApart};
+ghost use Rattle.fs_value.specs.SetBelow.{set_below};
 ghost use Rattle.fs_value.specs.View.{view};
 
-use crate::fields::{Field, Fields};
+use crate::fields::Fields;
 use crate::value::Value;
 use fs_path::{FieldPath, Text};
 use std::alloc::{AllocError, Global};
@@ -52,55 +51,42 @@ fn set_at(alloc: Global, fields: &mut Fields, names: &[Text], v: Value) -> Resul
 {
     match names {
         [] => Ok(()),
-        [key] => put_at(alloc, fields, key, v),
         [key, rest @ ..] => match fields.place(key.as_str()) {
             Ok(i) => set_inside(alloc, &mut fields.items[i].value, rest, v),
             Err(_) => {
-                let made = map_with(alloc, rest, v)?;
+                let made = value_with(alloc, rest, v)?;
                 fields.put(key.copy(alloc)?, made)
             }
         },
     }
 }
 
-// Sets a value in a map, or in one that takes the place of a value that is no map.
+// Sets a value, or one in the map that it is or gives way to.
 #[cycle(set)]
 fn set_inside(alloc: Global, value: &mut Value, names: &[Text], v: Value) -> Result<(), AllocError>
-    ensures ok { OnOk result (view value.new
-        ≡ map_of (set_fields names.now (view v) (fields_below (Some (view value.old))))) }
+    ensures ok { OnOk result (view value.new ≡ set_below names.now (view v) (Some (view value.old))) }
     ensures err { OnErr result (view value.new ≡ view value.old) }
 {
-    match value {
-        Value::Map(fields) => set_at(alloc, fields, names, v),
-        _ => {
-            *value = map_with(alloc, names, v)?;
-            Ok(())
+    if let Value::Map(fields) = value {
+        if !names.is_empty() {
+            return set_at(alloc, fields, names, v);
         }
     }
+    *value = value_with(alloc, names, v)?;
+    Ok(())
 }
 
-// A map with nothing but a value at a path.
+// The value itself where no name is left, and else a map with nothing but it at the path.
 #[cycle(set)]
-fn map_with(alloc: Global, names: &[Text], v: Value) -> Result<Value, AllocError>
-    ensures { IfOk result (λ w. view w ≡ map_of (set_fields names.now (view v) [])) }
+fn value_with(alloc: Global, names: &[Text], v: Value) -> Result<Value, AllocError>
+    ensures { IfOk result (λ w. view w ≡ set_below names.now (view v) None) }
 {
+    if names.is_empty() {
+        return Ok(v);
+    }
     let mut fields = Fields::new(alloc);
     set_at(alloc, &mut fields, names, v)?;
     Ok(Value::Map(fields))
-}
-
-// Puts a value at a key, which is copied only where it isn't there yet.
-fn put_at(alloc: Global, fields: &mut Fields, key: &Text, v: Value) -> Result<(), AllocError>
-    ensures ok { OnOk result (fields.new ≡ put text_cmp key.now (view v) fields.old) }
-    ensures err { OnErr result (fields.new ≡ fields.old) }
-{
-    match fields.place(key.as_str()) {
-        Ok(i) => {
-            fields.items[i].value = v;
-            Ok(())
-        }
-        Err(_) => fields.put(key.copy(alloc)?, v),
-    }
 }
 
 /// Takes out the value at a path, in place. The maps on the way stay, even if they have no fields left. Where a value on
@@ -117,9 +103,7 @@ fn unset_at(fields: &mut Fields, names: &[Text])
 {
     match names {
         [] => {}
-        [key] => {
-            let _gone = remove(fields, key);
-        }
+        [key] => remove(fields, key),
         [key, rest @ ..] => {
             if let Ok(i) = fields.place(key.as_str()) {
                 unset_inside(&mut fields.items[i].value, rest);
@@ -138,13 +122,12 @@ fn unset_inside(value: &mut Value, names: &[Text])
 }
 
 // Takes out the field at a key, if there is one.
-fn remove(fields: &mut Fields, key: &Text) -> Option<Field>
-    ensures value { option_map (λ f. view f.value) result ≡ find text_cmp key.now fields.old }
-    ensures gone { fields.new ≡ without key.now fields.old }
+fn remove(fields: &mut Fields, key: &Text)
+    ensures { fields.new ≡ without key.now fields.old }
 {
     match fields.place(key.as_str()) {
-        Ok(i) => Some(fields.items.remove(i)),
-        Err(_) => None,
+        Ok(i) => drop(fields.items.remove(i)),
+        Err(_) => {}
     }
 }
 

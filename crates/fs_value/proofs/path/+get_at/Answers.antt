@@ -9,7 +9,7 @@ returns-in_err-there-in-len1-up t c =
     let key = c.as_str-in-len1-up.result.now in
     let names = c.args.names.now in
     let more : 1 < length names = omega arith in
-    let first = first_name names key c.key-item-2.result more c.as_str-in-len1-up.ensures.value c.key-item-2.is in
+    let first = first_name names key c.key-item-2.result c.as_str-in-len1-up.ensures.value c.key-item-2.is in
     ap (option_map (λ v. view v.now)) c.from_residual.ensures
     ∙ sym (get_missing names key c.args.fields.now more first (sym c.find-in-len1-up.ensures ∙ ap (option_map (λ v. view v.now)) c.in_err-there-in-len1-up.was))
 
@@ -18,7 +18,7 @@ returns-in-Map t c =
     let key = c.as_str-in-len1-up.result.now in
     let names = c.args.names.now in
     let more : 1 < length names = omega arith in
-    let first = first_name names key c.key-item-2.result more c.as_str-in-len1-up.ensures.value c.key-item-2.is in
+    let first = first_name names key c.key-item-2.result c.as_str-in-len1-up.ensures.value c.key-item-2.is in
     c.get_at.ensures
     ∙ get_map (rest names) (view c.in_ok-there-in-len1-up.there.now) c.in-Map.inner (ap view c.in-Map.is)
     ∙ sym (get_below names key (view c.in_ok-there-in-len1-up.there.now) c.args.fields.now more first (sym c.find-in-len1-up.ensures ∙ ap (option_map (λ v. view v.now)) c.in_ok-there-in-len1-up.was))
@@ -28,5 +28,5 @@ returns-in_default t c =
     let key = c.as_str-in-len1-up.result.now in
     let names = c.args.names.now in
     let more : 1 < length names = omega arith in
-    let first = first_name names key c.key-item-2.result more c.as_str-in-len1-up.ensures.value c.key-item-2.is in
+    let first = first_name names key c.key-item-2.result c.as_str-in-len1-up.ensures.value c.key-item-2.is in
     sym (get_no_map names key c.in_ok-there-in-len1-up.there.now c.args.fields.now more first (sym c.find-in-len1-up.ensures ∙ ap (option_map (λ v. view v.now)) c.in_ok-there-in-len1-up.was) c.in_default.not-Map)

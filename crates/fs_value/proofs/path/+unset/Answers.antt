@@ -17,7 +17,7 @@ unset_at-returns-in-Ok t c =
     let key = c.as_str.result.now in
     let names = c.args.names.now in
     let more : 1 < length names = omega arith in
-    let first = first_name names key c.key-item-2.result more c.as_str.ensures.value c.key-item-2.is in
+    let first = first_name names key c.key-item-2.result c.as_str.ensures.value c.key-item-2.is in
     let here = subst (λ fs. IsFoundAt key fs c.in-Ok.i) (sym c.fields.view_is) c.in-Ok.ensures in
     unset_there key names c.fields.inside.items.items c.in-Ok.i c.index_mut.result.now c.unset_inside.new.value more first here c.index_mut.ensures.value c.unset_inside.ensures
     ∙ ap (unset_fields names) c.fields.view_is

@@ -1,28 +1,18 @@
 use Rattle.std.proofs.Common.{ap, sym, ◌∙◌, subst, map}
-use Rattle.std.specs.FinMap.{find}
-use Rattle.fs_path.specs.TextOrder.{text_cmp}
 use Rattle.fs_value.specs.FieldPaths.{without}
 use Rattle.fs_value.specs.FieldPlace.{IsFoundAt}
 use Rattle.fs_value.specs.View.{field_view}
-use Rattle.fs_value.proofs.FieldPlaces.{found_there, removed, without_rises, without_missing}
+use Rattle.fs_value.proofs.FieldPlaces.{removed, without_rises, without_missing}
 use Rattle.fs_value.proofs.path.remove.Goals as goal
 
-pub returns-in-Ok-clause-gone : goal.returns-in-Ok-clause-gone
-returns-in-Ok-clause-gone c =
+pub returns-in-Ok : goal.returns-in-Ok
+returns-in-Ok c =
     let key = c.as_str.result.now in
     let here = subst (λ fs. IsFoundAt key fs c.in-Ok.i) (sym c.fields.view_is) c.in-Ok.ensures in
     ap (map field_view) c.remove.ensures.items
     ∙ removed key c.fields.inside.items.items c.in-Ok.i c.fields.invariant here
     ∙ ap (without key) c.fields.view_is
     ∙ ap (λ k. without k c.args.fields.now) c.as_str.ensures.value
-
-pub returns-in-Ok-clause-value : goal.returns-in-Ok-clause-value
-returns-in-Ok-clause-value c =
-    let key = c.as_str.result.now in
-    let here = subst (λ fs. IsFoundAt key fs c.in-Ok.i) (sym c.fields.view_is) c.in-Ok.ensures in
-    sym (found_there key c.fields.inside.items.items c.in-Ok.i c.remove.result here c.remove.ensures.value)
-    ∙ ap (find text_cmp key) c.fields.view_is
-    ∙ ap (λ k. find text_cmp k c.args.fields.now) c.as_str.ensures.value
 
 pub invariant_of-fields : goal.invariant_of-fields
 invariant_of-fields c =
@@ -31,5 +21,5 @@ invariant_of-fields c =
     without_rises key (map field_view c.fields.inside.items.items) _ c.fields.invariant
     (ap (map field_view) c.remove.ensures.items ∙ removed key c.fields.inside.items.items c.in-Ok.i c.fields.invariant here)
 
-pub returns-in-Err-clause-gone : goal.returns-in-Err-clause-gone
-returns-in-Err-clause-gone c = sym (ap (λ k. without k c.args.fields.now) (sym c.as_str.ensures.value) ∙ without_missing c.as_str.result.now c.args.fields.now c.in-Err.ensures.missing)
+pub returns-in-Err : goal.returns-in-Err
+returns-in-Err c = sym (ap (λ k. without k c.args.fields.now) (sym c.as_str.ensures.value) ∙ without_missing c.as_str.result.now c.args.fields.now c.in-Err.ensures.missing)

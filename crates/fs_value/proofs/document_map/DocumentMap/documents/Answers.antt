@@ -1,4 +1,4 @@
-use Rattle.std.proofs.Common.{◌≡◌, sym, ap, ◌∙◌, map, subst}
+use Rattle.std.proofs.Common.{sym, ap, ◌∙◌, map, subst}
 use Rattle.std.specs.Prelude.{IsTrue}
 use Rattle.std.specs.FinMap.{values, is_sorted, from_sorted}
 use Rattle.fs_path.specs.NameOrder.{name_cmp, name_cmp_total}

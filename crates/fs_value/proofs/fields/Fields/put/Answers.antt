@@ -1,23 +1,13 @@
-use Rattle.std.proofs.Common.{◌≡◌, ℕ, ◌<◌, List, length, map, get_or, set, ap, sym, ◌∙◌, subst}
+use Rattle.std.proofs.Common.{map, ap, sym, ◌∙◌, subst}
 use Rattle.std.specs.Prelude.{IsTrue, insert}
 use Rattle.std.specs.FinMap.{is_sorted, put}
-use Rattle.std.proofs.lemmas.List.{get_or-map, length-map, map-set}
-use Rattle.fs_path.specs.TextOrder.{text_cmp, text_cmp_total}
-use Rattle.fs_value.specs.Data.{Data}
+use Rattle.fs_path.specs.TextOrder.{text_cmp}
 use Rattle.fs_value.specs.FieldPlace.{IsFoundAt}
 use Rattle.fs_value.specs.View.{view, field_view}
-use Rattle.fs_value.specs.declared.value.Value.{Value}
 use Rattle.fs_value.specs.declared.fields.Field.{Field}
-use Rattle.fs_value.proofs.Places.{put_sorted, map-insert}
+use Rattle.fs_value.proofs.FieldPlaces.{replaced, put_rises}
+use Rattle.fs_value.proofs.Places.{map-insert}
 use Rattle.fs_value.proofs.fields.Fields.put.Goals as goal
-
--- a new value for the field at a key's place
-replaced : (key : List ℕ) (fs : List Field) (i : ℕ) (r : Field) (v : Value) → IsFoundAt key (map field_view fs) i → r ≡ get_or fs i r
-    → map field_view (set fs i (record { key = r.key; value = v })) ≡ put text_cmp key (view v) (map field_view fs)
-replaced key fs i r v at is =
-    let within : i < length fs = subst (λ (n : ℕ). i < n) (length-map fs field_view) at.within in
-    let old : r.key ≡ key = ap (λ f. f.key) is ∙ ap (λ p. p.0) (sym (get_or-map field_view fs i r (field_view r) within)) ∙ at.same (field_view r) in
-    map-set field_view fs i (record { key = r.key; value = v }) ∙ ap (λ k. set (map field_view fs) i (k, view v)) old ∙ sym (at.puts (view v))
 
 pub returns-in-Ok-clause-ok : goal.returns-in-Ok-clause-ok
 returns-in-Ok-clause-ok c =
@@ -37,10 +27,6 @@ returns-in_ok-insert-in-Err-clause-ok c =
     ∙ ap (λ k. insert c.args.self.now c.in-Err.i (k, view c.args.value)) (sym c.as_str.ensures.value)
     ∙ sym (c.in-Err.ensures.puts (view c.args.value))
     ∙ ap (λ k. put text_cmp k (view c.args.value) c.args.self.now) c.as_str.ensures.value
-
--- the keys rise still
-put_rises : (key : List ℕ) (d : Data) (fs gs : List (List ℕ × Data)) → IsTrue (is_sorted text_cmp fs) → gs ≡ put text_cmp key d fs → IsTrue (is_sorted text_cmp gs)
-put_rises key d fs gs rise is = subst (λ es. IsTrue (is_sorted text_cmp es)) (sym is) (put_sorted text_cmp text_cmp_total key d fs rise)
 
 pub invariant_of-self : goal.invariant_of-self
 invariant_of-self c = put_rises c.args.key (view c.args.value) c.args.self.now _ (subst (λ fs. IsTrue (is_sorted text_cmp fs)) c.self.view_is c.self.invariant) (returns-in-Ok-clause-ok c)
