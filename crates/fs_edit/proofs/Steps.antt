@@ -14,7 +14,7 @@ use Rattle.fs_value.specs.View.{view}
 use Rattle.fs_value.specs.declared.value.Value.{Value}
 use Rattle.fs_value.specs.declared.value.Value.TheVariants.{Null, Boolean, Integer, Timestamp, String, Bytes, Reference, Array, Map}
 use Rattle.fs_edit.specs.Below.{value_below}
-use Rattle.fs_edit.specs.FieldChange.{value_made}
+use Rattle.fs_edit.specs.FieldChange.{value_made, value_changed}
 use Rattle.fs_edit.specs.Numbers.{integer_in}
 use Rattle.fs_edit.specs.OpenView.{open_view, entry_view}
 use Rattle.fs_edit.specs.declared.field_change.FieldChange.{FieldChange}
@@ -106,21 +106,12 @@ within_other (n ∷ ks) v more h = ap (λ o. get_fields (n ∷ ks) (unwrap_or o 
 
 -- ---- what is set and taken out
 
-pub set_more : (names : List (List ℕ)) (k : List ℕ) (v : Data) (fs : List (List ℕ × Data)) → 1 < length names → k ≡ get_or names 0 k
-    → set_fields names v fs ≡ put text_cmp k (map_of (set_fields (rest names) v (fields_below (find text_cmp k fs)))) fs
-set_more [] k v fs more is = absurd (omega arith)
-set_more (n ∷ []) k v fs more is = absurd (omega arith)
-set_more (n ∷ l ∷ ks) k v fs more is = λ i. put text_cmp (sym is i) (map_of (set_fields (sym (rest_is n (l ∷ ks)) i) v (fields_below (find text_cmp (sym is i) fs)))) fs
-
 -- a change of a value, from its first name on
-pub change_more : (names : List (List ℕ)) (k : List ℕ) (c : FieldChange) (fs : List (List ℕ × Data)) → 1 < length names → k ≡ get_or names 0 k
-    → set_fields names (value_made c (get_fields names fs)) fs
-    ≡ put text_cmp k (map_of (set_fields (rest names) (value_made c (get_fields (rest names) (fields_below (find text_cmp k fs)))) (fields_below (find text_cmp k fs)))) fs
+change_more : (names : List (List ℕ)) (k : List ℕ) (c : FieldChange) (fs : List (List ℕ × Data)) → 0 < length names → k ≡ get_or names 0 k
+    → set_fields names (value_made c (get_fields names fs)) fs ≡ put text_cmp k (value_changed (rest names) c (find text_cmp k fs)) fs
 change_more [] k c fs more is = absurd (omega arith)
-change_more (n ∷ []) k c fs more is = absurd (omega arith)
-change_more (n ∷ l ∷ ks) k c fs more is =
-    set_more (n ∷ l ∷ ks) k (value_made c (get_fields (n ∷ l ∷ ks) fs)) fs more is
-    ∙ (λ i. put text_cmp k (map_of (set_fields (rest (n ∷ l ∷ ks)) (value_made c (get_fields (sym (rest_is n (l ∷ ks)) i) (fields_below (find text_cmp (sym is i) fs)))) (fields_below (find text_cmp k fs)))) fs)
+change_more (n ∷ []) k c fs more is = λ i. put text_cmp (sym is i) (value_made c (find text_cmp (sym is i) fs)) fs
+change_more (n ∷ l ∷ ks) k c fs more is = λ i. put text_cmp (sym is i) (value_changed (sym (rest_is n (l ∷ ks)) i) c (find text_cmp (sym is i) fs)) fs
 
 pub unset_more : (names : List (List ℕ)) (k : List ℕ) (fs : List (List ℕ × Data)) → 1 < length names → k ≡ get_or names 0 k
     → unset_fields names fs ≡ option_map_or (λ ms. put text_cmp k (map_of (unset_fields (rest names) ms)) fs) (fields_under k fs) fs
@@ -130,15 +121,15 @@ unset_more (n ∷ l ∷ ks) k fs more is = λ i. option_map_or (λ ms. put text_
 
 -- ---- at a key that is there
 
--- a value with a change below it
-pub change_there : (names : List (List ℕ)) (key : List ℕ) (c : FieldChange) (es fs : List (List ℕ × Open)) (was now : Open) → 1 < length names → key ≡ get_or names 0 key → Rise es → Rise fs
+-- a value with a change
+pub change_there : (names : List (List ℕ)) (key : List ℕ) (c : FieldChange) (es fs : List (List ℕ × Open)) (was now : Open) → 0 < length names → key ≡ get_or names 0 key → Rise es → Rise fs
     → lookup (is_at (text_cmp key)) es ≡ Some was → ((q : List ℕ) → lookup (is_at (text_cmp q)) fs ≡ cond (is_at (text_cmp key) q) (Some now) (lookup (is_at (text_cmp q)) es))
-    → open_view now ≡ map_of (set_fields (rest names) (value_made c (get_fields (rest names) (fields_below (Some (open_view was))))) (fields_below (Some (open_view was))))
+    → open_view now ≡ value_changed (rest names) c (Some (open_view was))
     → map entry_view fs ≡ set_fields names (value_made c (get_fields names (map entry_view es))) (map entry_view es)
 change_there names key c es fs was now more first old new there is set =
     changed es fs key now old new is
     ∙ ap (λ d. put text_cmp key d (map entry_view es)) set
-    ∙ ap (λ o. put text_cmp key (map_of (set_fields (rest names) (value_made c (get_fields (rest names) (fields_below o))) (fields_below o))) (map entry_view es)) (sym (found es key ∙ ap (option_map open_view) there))
+    ∙ ap (λ o. put text_cmp key (value_changed (rest names) c o) (map entry_view es)) (sym (found es key ∙ ap (option_map open_view) there))
     ∙ sym (change_more names key c (map entry_view es) more first)
 
 -- without what is below it, or as it was
@@ -162,20 +153,17 @@ unset_there names key es fs was now more first old new there is unset =
 
 -- ---- at a key that isn't there
 
--- a value put at a copy of the key, in the same fields
-pub put_alike : (key copy : List ℕ) (d : Data) (fs same new : List (List ℕ × Data)) → copy ≡ key → same ≡ fs → new ≡ put text_cmp copy d same → new ≡ put text_cmp key d fs
-put_alike key copy d fs same new copied are is = is ∙ (λ i. put text_cmp (copied i) d (are i))
-
 -- a change makes of null what it makes of no value
-pub made_of_null : (c : FieldChange) → value_made c (Some null) ≡ value_made c None
-made_of_null (Set v) = refl
-made_of_null (Elements c) = refl
+pub changed_of_null : (names : List (List ℕ)) (c : FieldChange) → value_changed names c (Some null) ≡ value_changed names c None
+changed_of_null [] (Set v) = refl
+changed_of_null [] (Elements c) = refl
+changed_of_null (k ∷ ks) c = refl
 
-pub change_missing : (names : List (List ℕ)) (key : List ℕ) (c : FieldChange) (made : Data) (fs : List (List ℕ × Data)) → 1 < length names → key ≡ get_or names 0 key → find text_cmp key fs ≡ None
-    → made ≡ map_of (set_fields (rest names) (value_made c (get_fields (rest names) [])) []) → put text_cmp key made fs ≡ set_fields names (value_made c (get_fields names fs)) fs
-change_missing names key c made fs more first missing is =
-    ap (λ d. put text_cmp key d fs) is
-    ∙ ap (λ o. put text_cmp key (map_of (set_fields (rest names) (value_made c (get_fields (rest names) (fields_below o))) (fields_below o))) fs) (sym missing)
+pub change_missing : (names : List (List ℕ)) (key : List ℕ) (c : FieldChange) (fs same new : List (List ℕ × Data)) → 0 < length names → key ≡ get_or names 0 key → find text_cmp key fs ≡ None
+    → same ≡ fs → new ≡ put text_cmp key (value_changed (rest names) c None) same → new ≡ set_fields names (value_made c (get_fields names fs)) fs
+change_missing names key c fs same new more first missing are is =
+    is
+    ∙ (λ i. put text_cmp key (value_changed (rest names) c (sym missing i)) (are i))
     ∙ sym (change_more names key c fs more first)
 
 pub unset_missing : (names : List (List ℕ)) (key : List ℕ) (fs : List (List ℕ × Data)) → 1 < length names → key ≡ get_or names 0 key → find text_cmp key fs ≡ None → fs ≡ unset_fields names fs

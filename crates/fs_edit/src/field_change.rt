@@ -3,7 +3,7 @@ use crate::array_change::ArrayChange;
 use fs_value::Value;
 
 /// What is done to a field.
-#[derive(Drop, Debug)]
+#[derive(Drop)]
 pub(crate) enum FieldChange {
     /// It becomes this value.
     Set(Value),

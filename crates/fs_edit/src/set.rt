@@ -1,19 +1,19 @@
 //! What stands at a field path in opened fields, set or changed.
 ghost use Rattle.std.specs.Prelude.{◌≡◌, IfOk, OnOk, Some, None};
-ghost use Rattle.std.specs.FinMap.{find, put};
+ghost use Rattle.std.specs.FinMap.{put};
 ghost use Rattle.fs_path.specs.TextOrder.{text_cmp};
 ghost use Rattle.fs_value.specs.Data.{array, items_of};
-ghost use Rattle.fs_value.specs.FieldPaths.{map_of, fields_below, get_fields, set_fields};
+ghost use Rattle.fs_value.specs.FieldPaths.{get_fields, set_fields};
 ghost use Rattle.fs_value.specs.View.{view};
 ghost use Rattle.fs_edit.specs.Arrays.{elements_in, append_missing, remove_all};
-ghost use Rattle.fs_edit.specs.FieldChange.{value_made};
+ghost use Rattle.fs_edit.specs.FieldChange.{value_made, value_changed};
 ghost use Rattle.fs_edit.specs.OpenView.{open_view};
 
 use crate::array_change::ArrayChange;
 use crate::field_change::FieldChange;
 use crate::open_fields::{Open, OpenFields};
 use fs_path::{FieldPath, Text};
-use fs_value::{Fields, Value, Values};
+use fs_value::{Value, Values};
 use std::alloc::{AllocError, Global};
 use std::mem::replace;
 
@@ -81,63 +81,46 @@ fn change_at(
 {
     match names {
         [] => Ok(()),
-        [key] => change_one(alloc, fields, key, change),
         [key, rest @ ..] => match fields.entries.get_mut(key) {
-            Some(place) => change_inside(alloc, place, rest, change),
-            None => {
-                let made = map_with(alloc, rest, change)?;
-                fields.put(key.copy(alloc)?, made)
+            Some(place) => {
+                let before = replace(place, Open::Whole(Value::Null));
+                drop(replace(place, changed_inside(alloc, before, rest, change)?));
+                Ok(())
             }
+            None => change_absent(alloc, fields, key, rest, change),
         },
     }
 }
 
-// Makes a change in a map, or in one that takes the place of a value that is no map.
+// Puts what a change makes of no value at a key, which is copied.
 #[cycle(change)]
-fn change_inside(
-    alloc: Global,
-    place: &mut Open,
-    names: &[Text],
-    change: FieldChange,
-) -> Result<(), AllocError>
-    ensures { OnOk result (let before = fields_below (Some (open_view place.old)) in
-        open_view place.new ≡ map_of (set_fields names.now (value_made change (get_fields names.now before)) before)) }
-{
-    let mut inner = replace(place, Open::Whole(Value::Null)).into_fields(alloc)?;
-    change_at(alloc, &mut inner, names, change)?;
-    *place = Open::Map(inner);
-    Ok(())
-}
-
-// A map with nothing but a change at a path.
-#[cycle(change)]
-fn map_with(alloc: Global, names: &[Text], change: FieldChange) -> Result<Open, AllocError>
-    ensures { IfOk result (λ o. let before = fields_below None in
-        open_view o ≡ map_of (set_fields names.now (value_made change (get_fields names.now before)) before)) }
-{
-    let mut inner = OpenFields::open(alloc, Fields::new(alloc))?;
-    change_at(alloc, &mut inner, names, change)?;
-    Ok(Open::Map(inner))
-}
-
-// Changes the value at a key, which is copied only where it isn't there yet.
-fn change_one(
+fn change_absent(
     alloc: Global,
     fields: &mut OpenFields,
     key: &Text,
+    names: &[Text],
     change: FieldChange,
 ) -> Result<(), AllocError>
-    ensures { OnOk result (fields.new ≡ put text_cmp key.now (value_made change (find text_cmp key.now fields.old)) fields.old) }
+    ensures { OnOk result (fields.new ≡ put text_cmp key.now (value_changed names.now change None) fields.old) }
 {
-    match fields.entries.get_mut(key) {
-        Some(there) => {
-            let before = replace(there, Open::Whole(Value::Null));
-            *there = before.changed(alloc, change)?;
-            Ok(())
-        }
-        None => {
-            let made = Open::Whole(Value::Null).changed(alloc, change)?;
-            fields.put(key.copy(alloc)?, made)
-        }
+    let made = changed_inside(alloc, Open::Whole(Value::Null), names, change)?;
+    fields.put(key.copy(alloc)?, made)
+}
+
+// What a change makes of a value, or of the map that it is or gives way to.
+#[cycle(change)]
+fn changed_inside(
+    alloc: Global,
+    before: Open,
+    names: &[Text],
+    change: FieldChange,
+) -> Result<Open, AllocError>
+    ensures { IfOk result (λ o. open_view o ≡ value_changed names.now change (Some (open_view before))) }
+{
+    if names.is_empty() {
+        return before.changed(alloc, change);
     }
+    let mut inner = before.into_fields(alloc)?;
+    change_at(alloc, &mut inner, names, change)?;
+    Ok(Open::Map(inner))
 }
