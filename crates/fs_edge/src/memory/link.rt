@@ -1,5 +1,5 @@
 //! A link in memory: messages to hear, and those that were sent.
-ghost use Rattle.std.specs.Prelude.{◌≡◌, ◌≢◌, ◌≤◌, ◌↔◌, [], List, drop, Some, IsTrue, IsOk, IfOk, OnErr};
+ghost use Rattle.std.specs.Prelude.{◌≡◌, ◌≢◌, ◌≤◌, ◌↔◌, [], List, drop, Some, IsTrue, IsOk, IfOk, OnErr, length};
 ghost use Rattle.fs_edge.specs.Count.{Rose};
 ghost use Rattle.fs_edge.specs.Link.{hearings_of, none_fails, Hears, Sends};
 ghost use Rattle.fs_edge.specs.Paces.{next_pace};
@@ -88,6 +88,29 @@ impl MemoryLink {
     }
 }
 
+// What is heard next, where so many were heard. It counts what it takes.
+fn heard_next(hearings: &mut Vec<Heard>, at: &mut usize) -> Heard
+    requires { at.old ≤ length hearings.old.items }
+    ensures hears { Hears result (Some (hearings_of (drop at.old hearings.old.items))) (Some (hearings_of (drop at.new hearings.new.items))) }
+    ensures within { at.new ≤ length hearings.new.items }
+    ensures no_fault { result ≢ Heard.Failed }
+{
+    if *at >= hearings.len() {
+        return Heard::Closed;
+    }
+    match mem::replace(&mut hearings[*at], Heard::Closed) {
+        Heard::Message(text) => {
+            *at += 1;
+            Heard::Message(text)
+        }
+        Heard::Quiet => {
+            *at += 1;
+            Heard::Quiet
+        }
+        Heard::Closed | Heard::Failed => Heard::Closed,
+    }
+}
+
 impl Link for MemoryLink {
     ghost to_hear = { λ l. Some l.to_hear };
 
@@ -112,20 +135,7 @@ impl Link for MemoryLink {
             count(&mut self.faults);
             return Ok(Heard::Failed);
         }
-        if self.at >= self.hearings.len() {
-            return Ok(Heard::Closed);
-        }
-        match mem::replace(&mut self.hearings[self.at], Heard::Closed) {
-            Heard::Message(text) => {
-                self.at += 1;
-                Ok(Heard::Message(text))
-            }
-            Heard::Quiet => {
-                self.at += 1;
-                Ok(Heard::Quiet)
-            }
-            Heard::Closed | Heard::Failed => Ok(Heard::Closed),
-        }
+        Ok(heard_next(&mut self.hearings, &mut self.at))
     }
 
     fn send(&mut self, text: &str) -> Result<Sent, AllocError>

@@ -1,5 +1,5 @@
 //! A source of bytes in memory.
-ghost use Rattle.std.specs.Prelude.{◌≡◌, ◌≢◌, ◌≤◌, drop, length, IsTrue, Some};
+ghost use Rattle.std.specs.Prelude.{◌≡◌, ◌≢◌, ◌≤◌, ◌+◌, ◌++◌, drop, take, length, IsTrue, Some};
 ghost use Rattle.fs_edge.specs.Count.{Rose};
 ghost use Rattle.fs_edge.specs.Paces.{all_let_through, moved_of, next_pace, paced_read};
 ghost use Rattle.fs_edge.specs.Source.{ReadGives, Fills};
@@ -64,6 +64,15 @@ pub(crate) fn moved(pace: Pace, there: usize) -> usize
     }
 }
 
+// Copies so many bytes from a place on to the front of a buffer.
+fn copy_part(bytes: &Bytes, at: usize, most: usize, into: &mut [u8])
+    requires there { at + most ≤ length bytes.now }
+    requires room { most ≤ length into.old }
+    ensures { drop at bytes.now ≡ take most into.new ++ drop (at + most) bytes.now }
+{
+    into[..most].copy_from_slice(&bytes.as_slice()[at..at + most]);
+}
+
 impl Source for MemorySource {
     ghost left = { λ s. Some s.left };
 
@@ -99,7 +108,7 @@ impl Source for MemorySource {
             return Took::End;
         }
         let most = moved(pace, there.min(into.len()));
-        into[..most].copy_from_slice(&self.bytes.as_slice()[self.at..self.at + most]);
+        copy_part(&self.bytes, self.at, most, into);
         self.at += most;
         Took::Bytes(most)
     }
