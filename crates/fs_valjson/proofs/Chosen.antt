@@ -1,14 +1,12 @@
 -- The walk over an object's members, beside the look-up of the one that is there.
-use Rattle.std.proofs.Common.{◌≡◌, ℕ, List, [], ◌∷◌, ◌++◌, map, Bool, true, false, Option, Some, None, option_map, codes, Result, Ok, Err, refl, sym, ap, ◌∙◌, bytes_eq, cond}
-use Rattle.std.specs.Option.{option_to_list, option_map_or}
-use mathlib.Core.List.{map-append}
+use Rattle.std.proofs.Common.{◌≡◌, ℕ, List, [], map, Bool, true, false, codes, Ok, Err, refl, ap, ◌∙◌, bytes_eq, cond}
+use Rattle.std.specs.Option.{option_map_or}
 use Rattle.std.proofs.lemmas.Slice.Eq.{bytes_eq-Decides}
 use Rattle.fs_path.specs.Place.{member_place}
 use Rattle.fs_path.specs.declared.place.Rule.TheVariants.{G}
 use Rattle.serde_json.specs.Data as json
-use Rattle.fs_json.specs.Answer.{or_fault, ◌>>=◌}
-use Rattle.fs_json.specs.Members.{at_most_one_at, chosen, if_chosen, is_given, first_spelled, none_or_one, one_of_at, only_at}
-use Rattle.fs_json.specs.declared.bad.Bad.{Bad}
+use Rattle.fs_json.specs.Answer.{◌>>=◌}
+use Rattle.fs_json.specs.Members.{at_most_one_at, chosen, one_of_at, only_at}
 use Rattle.fs_json.specs.declared.bad.Bad.TheVariants.{At}
 use Rattle.fs_value.specs.FieldPaths.{map_of}
 use Rattle.fs_valjson.specs.ChoiceLaws.{one_more, the_one-map, in_turn, one_or_fault}

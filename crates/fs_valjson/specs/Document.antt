@@ -27,16 +27,27 @@ fields_in d place = member_at (codes "fields") d place >>= λ found. option_map_
 abbrev pub time_in : List ℕ → json.Data → List ℕ → Result ℤ Bad
 time_in name d place = member_at name d place >>= λ found. option_map_or (λ x. time_at x (member_place place name)) found (Ok (pos 0))
 
+-- what a document has beside its name
+pub record Content : Type 0 where
+  pub fields : List (List ℕ × Data)
+  pub created : ℤ
+  pub updated : ℤ
+
+abbrev pub content_at : json.Data → List ℕ → Result Content Bad
+content_at d place = do
+  fields ← fields_in d place
+  created ← time_in (codes "createTime") d place
+  updated ← time_in (codes "updateTime") d place
+  Ok (record { fields = fields; created = created; updated = updated })
+
 -- a document of this root
 unfoldable pub document_at : Root → json.Data → List ℕ → Result Document Bad
 document_at root d place = do
   _ ← only_at document_members d place
   name ← required_at (codes "name") d place
   named ← document_name_at root name (member_place place (codes "name"))
-  fields ← fields_in d place
-  created ← time_in (codes "createTime") d place
-  updated ← time_in (codes "updateTime") d place
-  Ok (record { name = named; fields = fields; created = created; updated = updated })
+  content ← content_at d place
+  Ok (record { name = named; fields = content.fields; created = content.created; updated = content.updated })
 
 -- ---- writing
 

@@ -7,7 +7,7 @@ ghost use Rattle.fs_value.specs.Data.{members_of};
 ghost use Rattle.serde_json.specs.Written.{has_float};
 ghost use Rattle.serde_json.specs.View.{view as json, members_view};
 ghost use Rattle.fs_json.specs.Answer.{Gives};
-ghost use Rattle.fs_valjson.specs.Document.{document_at, document_json, update_json, untimed, fields_in, time_in};
+ghost use Rattle.fs_valjson.specs.Document.{Content as Told, content_at, document_at, document_json, update_json, untimed, fields_in, time_in};
 ghost use Rattle.fs_valjson.specs.Steps.{with_fields_put};
 ghost use Rattle.fs_valjson.specs.Writing.{MembersHaveNames};
 
@@ -35,12 +35,38 @@ pub fn read_document(
     only(alloc, v, &DOCUMENT_MEMBERS, place)?;
     let name = required(alloc, v, NAME, place)?;
     let name = document_name(alloc, root, name, &place.member(NAME))?;
+    match read_content(alloc, v, place) {
+        Ok(content) => Ok(Document {
+            name,
+            fields: content.fields,
+            created: content.created,
+            updated: content.updated,
+        }),
+        Err(bad) => {
+            drop(name);
+            Err(bad)
+        }
+    }
+}
+
+/// What a document has beside its name.
+#[derive(Drop)]
+struct Content {
+    fields: SharedFields,
+    created: Micros,
+    updated: Micros,
+}
+
+fn read_content(alloc: Global, v: &Value, place: &Way<'_>) -> Result<Content, Bad>
+    ensures { Gives {Y = Told} (λ c. record { fields = c.fields; created = c.created; updated = c.updated }) result
+        (content_at (json v.now) (place_of place.now)) }
+{
     let fields = fields_in(alloc, v, place)?;
+    let fields = SharedFields::of(alloc, fields)?;
     let created = time_in(alloc, v, CREATE_TIME, place)?;
     let updated = time_in(alloc, v, UPDATE_TIME, place)?;
-    Ok(Document {
-        name,
-        fields: SharedFields::of(alloc, fields)?,
+    Ok(Content {
+        fields,
         created,
         updated,
     })
