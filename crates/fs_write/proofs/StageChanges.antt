@@ -1,5 +1,5 @@
 -- The changes of the documents that were written.
-use Rattle.std.proofs.Common.{◌≡◌, Bool, true, false, cond, List, [], ◌∷◌, ◌++◌, append_assoc, Option, Some, None, refl, sym, ap, ◌∙◌, subst}
+use Rattle.std.proofs.Common.{◌≡◌, Bool, true, false, cond, List, [], ◌∷◌, ◌++◌, Option, Some, None, refl, sym, ap, ◌∙◌, subst}
 use Rattle.std.specs.Prelude.{IsTrue}
 use Rattle.std.specs.Ordering.{is_eq, is_lt}
 use Rattle.std.specs.declared.cmp.Ordering.TheVariants.{Less}
@@ -15,15 +15,11 @@ use Rattle.fs_path.specs.NameOrder.{name_cmp}
 use Rattle.fs_path.specs.declared.name.DocName.{DocName}
 use Rattle.fs_value.specs.declared.document.Document.{Document}
 use Rattle.fs_write.specs.Batch.{Docs, changes_by_name, change_of, is_unchanged, AreChanges}
-use Rattle.fs_write.specs.Staging.{staged_at, both_of, IsStage, staged_change, TellsStage}
+use Rattle.fs_write.specs.Staging.{staged_at, both_of, with_change, IsStage, staged_change, TellsStage}
 use Rattle.fs_write.specs.declared.batch.Staged.{Staged}
 use Rattle.fs_write.specs.declared.change.Change.{Change}
 use Rattle.fs_write.proofs.Fields.{same_itself}
 use Rattle.fs_write.proofs.Stages.{name_at}
-
-abbrev pub with_change : Option Change → List Change → List Change
-with_change None changes = changes
-with_change (Some c) changes = c ∷ changes
 
 -- the changes of a stage, entry by entry
 abbrev pub changes_in : List (DocName × Staged) → List Change
@@ -31,24 +27,6 @@ changes_in [] = []
 changes_in (e ∷ es) = with_change (change_of e.0 e.1.before e.1.now) (changes_in es)
 
 -- ---- one more entry
-
-pub one_unchanged : (done : List Change) (rest next : List (DocName × Staged)) (whole : List Change) (name : DocName) (s : Staged)
-    → done ++ changes_in rest ≡ whole → rest ≡ (name, s) ∷ next → is_unchanged s.before s.now ≡ true → done ++ changes_in next ≡ whole
-one_unchanged done rest next whole name s from first same =
-    ap (λ (b : Bool). done ++ with_change (cond b None (Some (record { name = name; before = s.before; after = s.now }))) (changes_in next)) (sym same)
-    ∙ ap (λ es. done ++ changes_in es) (sym first)
-    ∙ from
-
-pub one_changed : (done new : List Change) (rest next : List (DocName × Staged)) (whole : List Change) (name : DocName) (s : Staged)
-    → done ++ changes_in rest ≡ whole → rest ≡ (name, s) ∷ next → is_unchanged s.before s.now ≡ false
-    → new ≡ done ++ record { name = name; before = s.before; after = s.now } ∷ [] → new ++ changes_in next ≡ whole
-one_changed done new rest next whole name s from first other then =
-    let c : Change = record { name = name; before = s.before; after = s.now } in
-    ap (λ cs. cs ++ changes_in next) then
-    ∙ append_assoc done (c ∷ []) (changes_in next)
-    ∙ ap (λ (b : Bool). done ++ with_change (cond b None (Some c)) (changes_in next)) (sym other)
-    ∙ ap (λ es. done ++ changes_in es) (sym first)
-    ∙ from
 
 pub no_more : (done : List Change) (rest : List (DocName × Staged)) (whole : List Change) → done ++ changes_in rest ≡ whole → rest ≡ [] → done ≡ whole
 no_more done rest whole from none = sym (append-nil done) ∙ ap (λ es. done ++ changes_in es) (sym none) ∙ from

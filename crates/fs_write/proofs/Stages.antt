@@ -15,7 +15,7 @@ use Rattle.fs_value.specs.Named.{by_name}
 use Rattle.fs_write.specs.Batch.{Docs, docs_of, with_document, batch, after_write, all_writes}
 use Rattle.fs_write.specs.OneWrite.{Fault, one_write}
 use Rattle.fs_write.specs.Refused.{refused}
-use Rattle.fs_write.specs.Staging.{staged_at, both_of, IsStage, IsTaken, IsNext, now_at}
+use Rattle.fs_write.specs.Staging.{IsPut, staged_at, both_of, IsStage, IsTaken, IsNext, now_at}
 use Rattle.fs_write.specs.WrittenName.{written_name}
 use Rattle.fs_write.specs.declared.batch.Staged.{Staged}
 use Rattle.fs_write.specs.declared.write.Write.{Write}
@@ -64,17 +64,16 @@ module _ (docs after : Docs) (old mid new : List (DocName × Staged)) (name : Do
         ∙ ap (λ o. (get docs q, o)) (sym (get-with_document after name s.now q))
 
 -- one more write, from what was taken out and put in
-pub next_stage : (docs after : Docs) (old mid new : List (DocName × Staged)) (write : Write) (time : ℤ) (answer : WriteResult) (name key : DocName) (there : Option Document) (s : Staged)
-    → IsStage docs old after → name ≡ written_name write → key ≡ name
+pub next_stage : (docs after : Docs) (old mid new : List (DocName × Staged)) (write : Write) (time : ℤ) (answer : WriteResult) (name : DocName) (there : Option Document) (s : Staged)
+    → IsStage docs old after → name ≡ written_name write
     → (s.before, there) ≡ both_of (get docs name) (staged_at name old) → IsTaken old mid name
     → one_write there write time ≡ Ok (s.now, answer)
-    → ((q : DocName) → staged_at q new ≡ cond (is_at (name_cmp key) q) (Some s) (staged_at q mid))
+    → IsPut mid new name s
     → IsNext docs old new write time answer after
-next_stage docs after old mid new write time answer name key there s stage names keys is taken made put =
+next_stage docs after old mid new write time answer name there s stage names is taken made put =
     let is' : (s.before, there) ≡ both_of (get docs (written_name write)) (staged_at (written_name write) old) = is ∙ ap (λ n. both_of (get docs n) (staged_at n old)) names in
     let taken' : IsTaken old mid (written_name write) = subst (IsTaken old mid) names taken in
-    let put' : (q : DocName) → staged_at q new ≡ cond (is_at (name_cmp (written_name write)) q) (Some s) (staged_at q mid) =
-    λ q. put q ∙ ap (λ n. cond (is_at (name_cmp n) q) (Some s) (staged_at q mid)) (keys ∙ names) in
+    let put' : IsPut mid new (written_name write) s = subst (λ n. IsPut mid new n s) names put in
     let now = staged_now docs after old mid new (written_name write) s.before there s stage is' taken' put' refl in
     record {
       done =

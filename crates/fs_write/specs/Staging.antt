@@ -1,5 +1,5 @@
 -- Only private clauses cite this: the documents that are written so far, each with the one of before.
-use Rattle.std.specs.Prelude.{◌≡◌, cond, ℤ, IsTrue, List, Option, Some, None, Ok}
+use Rattle.std.specs.Prelude.{◌≡◌, cond, ℤ, IsTrue, List, ◌∷◌, Option, Some, None, Ok}
 use Rattle.std.specs.BTreeMap.{is_at}
 use Rattle.std.specs.FinMap.{find, get, is_sorted}
 use Rattle.std.specs.Map.{lookup}
@@ -33,10 +33,18 @@ now_at docs stage name = (both_of (get docs name) (staged_at name stage)).1
 abbrev pub IsTaken : List (DocName × Staged) → List (DocName × Staged) → DocName → Type 0
 IsTaken old new name = (q : DocName) → staged_at q new ≡ cond (is_at (name_cmp name) q) None (staged_at q old)
 
+-- the stage with a name's documents
+abbrev pub IsPut : List (DocName × Staged) → List (DocName × Staged) → DocName → Staged → Type 0
+IsPut old new name s = (q : DocName) → staged_at q new ≡ cond (is_at (name_cmp name) q) (Some s) (staged_at q old)
+
 -- the stage after one more write, which had this result
 pub record IsNext (docs : Docs) (old new : List (DocName × Staged)) (write : Write) (time : ℤ) (answer : WriteResult) (after : Docs) : Type 0 where
   pub done : one_write (get after (written_name write)) write time ≡ Ok (now_at docs new (written_name write), answer)
   pub shown : IsStage docs new (with_document after (written_name write) (now_at docs new (written_name write)))
+
+abbrev pub with_change : Option Change → List Change → List Change
+with_change None changes = changes
+with_change (Some c) changes = c ∷ changes
 
 abbrev pub staged_change : DocName → Option Staged → Option Change
 staged_change name None = None

@@ -1,18 +1,18 @@
 //! The writes of a commit, one after another.
-ghost use Rattle.std.specs.Prelude.{◌≡◌, ◌≢◌, ◌<◌, ◌^◌, IsTrue, IfOk, IfErr, Ok, Err, Some, length};
+ghost use Rattle.std.specs.Prelude.{◌≡◌, ◌≢◌, ◌<◌, ◌^◌, ◌++◌, IsTrue, IfOk, IfErr, OnOk, Ok, Err, Some, [], length};
 ghost use Rattle.std.specs.FinMap.{get, is_sorted};
 ghost use Rattle.std.specs.List.{AllByRecursion};
 ghost use Rattle.fs_path.specs.NameOrder.{name_cmp};
 ghost use Rattle.fs_status.specs.Refusal.{refusal_of};
 ghost use Rattle.fs_status.specs.declared.reason.Reason.TheVariants.{Memory};
 ghost use Rattle.fs_value.specs.Named.{by_name};
-ghost use Rattle.fs_write.specs.Batch.{Docs, docs_of, batch, is_unchanged, IsNamed, IsOutcome};
+ghost use Rattle.fs_write.specs.Batch.{Docs, docs_of, batch, change_of, is_unchanged, IsNamed, IsOutcome};
 ghost use Rattle.fs_write.specs.OneWrite.{one_write};
 ghost use Rattle.fs_write.specs.Refused.{refused};
-ghost use Rattle.fs_write.specs.Staging.{staged_at, both_of, IsStage, IsTaken, IsNext, TellsStage};
+ghost use Rattle.fs_write.specs.Staging.{staged_at, both_of, with_change, IsStage, IsTaken, IsPut, IsNext, TellsStage};
 ghost use Rattle.fs_write.specs.WrittenName.{written_name};
 
-use crate::change::{Change, Changes};
+use crate::change::{Change, Changes, copy_document};
 use crate::one_write::{carry_out, is_same};
 use crate::write::{Write, Writes};
 use crate::write_result::{WriteResult, WriteResults};
@@ -73,16 +73,12 @@ fn stage_first(alloc: Global, docs: &Documents, name: &DocName) -> Result<Staged
     ensures before { IfOk result (λ s. s.before ≡ get (docs_of docs.now) name.now) }
     ensures now { IfOk result (λ s. s.now ≡ get (docs_of docs.now) name.now) }
 {
-    match docs.find(name) {
-        Some(document) => Ok(Staged {
-            before: Some(document.copy(alloc)?),
-            now: Some(document.copy(alloc)?),
-        }),
-        None => Ok(Staged {
-            before: None,
-            now: None,
-        }),
-    }
+    let before = match docs.find(name) {
+        Some(document) => Some(document.copy(alloc)?),
+        None => None,
+    };
+    let now = copy_document(alloc, &before)?;
+    Ok(Staged { before, now })
 }
 
 // A name's document as it is staged, or where it isn't written yet, as it is there.
@@ -101,6 +97,20 @@ fn take(
         Some(staged) => Ok(staged.into_staged()),
         None => stage_first(alloc, docs, name),
     }
+}
+
+// Stages a name's document anew.
+fn put(
+    alloc: Global,
+    stage: &mut BTreeMap<DocName, Boxed>,
+    name: &DocName,
+    staged: Staged,
+) -> Result<(), AllocError>
+    ensures { OnOk result (IsPut stage.old.entries stage.new.entries name.now staged) }
+{
+    let staged = Boxed::new(alloc, staged)?;
+    stage.insert(name.copy(alloc)?, staged)?;
+    Ok(())
 }
 
 // Carries out one more write, of this number, on its document as the writes before it left it.
@@ -126,7 +136,7 @@ fn write_next(
         before: staged.before,
         now,
     };
-    stage.insert(name.copy(alloc)?, Boxed::new(alloc, written)?)?;
+    put(alloc, stage, name, written)?;
     Ok(answer)
 }
 
@@ -140,20 +150,28 @@ fn is_unchanged(before: &Option<Document>, after: &Option<Document>) -> bool
     }
 }
 
+// Adds the change of a document that was written, if it is changed.
+fn add_change(changes: &mut Changes, name: DocName, staged: Staged) -> Result<(), AllocError>
+    ensures { OnOk result (changes.new ≡ changes.old ++ with_change (change_of name staged.before staged.now) []) }
+{
+    let Staged { before, now } = staged;
+    if is_unchanged(&before, &now) {
+        return Ok(());
+    }
+    changes.push(Change {
+        name,
+        before,
+        after: now,
+    })
+}
+
 // The changes of the documents that were written.
 fn changes_of(alloc: Global, stage: BTreeMap<DocName, Boxed>) -> Result<Changes, AllocError>
     ensures { IfOk result (λ changes. TellsStage stage.entries changes) }
 {
     let mut changes = Changes::new(alloc);
     for (name, staged) in stage {
-        let staged = staged.into_staged();
-        if !is_unchanged(&staged.before, &staged.now) {
-            changes.push(Change {
-                name,
-                before: staged.before,
-                after: staged.now,
-            })?;
-        }
+        add_change(&mut changes, name, staged.into_staged())?;
     }
     Ok(changes)
 }

@@ -14,8 +14,11 @@ pub struct Change {
     pub after: Option<Document>,
 }
 
-// A copy of a document that is there.
-fn copy_document(alloc: Global, document: &Option<Document>) -> Result<Option<Document>, AllocError>
+/// A copy of a document that is there.
+pub(crate) fn copy_document(
+    alloc: Global,
+    document: &Option<Document>,
+) -> Result<Option<Document>, AllocError>
     ensures { IfOk result (λ d. d ≡ document.now) }
 {
     match document {

@@ -3,7 +3,7 @@ ghost use Rattle.std.specs.Prelude.{◌≡◌, ◌≢◌, IfOk, IfErr, Ok, Some,
 ghost use Rattle.fs_status.specs.Refusal.{refusal_of};
 ghost use Rattle.fs_status.specs.declared.reason.Reason.TheVariants.{Memory};
 ghost use Rattle.fs_value.specs.FieldPaths.{get_fields};
-ghost use Rattle.fs_write.specs.OneWrite.{unmet, with_field, merged, fields_there, fields_left, same_fields, document_left, unfit, one_write};
+ghost use Rattle.fs_write.specs.OneWrite.{unmet, with_field, merged, fields_there, fields_left, same_fields, document_left, unfit, written, carried_out, one_write};
 ghost use Rattle.fs_write.specs.Refused.{reason_of, refused};
 ghost use Rattle.fs_write.specs.Transforms.{transformed, transform_results};
 
@@ -160,6 +160,42 @@ fn unfit(document: &Document, write: u32) -> Option<Reason>
     None
 }
 
+// The document that is left and the write's result, if it may be left.
+fn written(
+    document: Document,
+    transforms: Values,
+    number: u32,
+) -> Result<(Option<Document>, WriteResult), Refusal>
+    ensures ok { IfOk result (λ r. written document transforms ≡ Ok r) }
+    ensures err { IfErr result (λ e. refused number (written document transforms) ≡ Some e) }
+{
+    if let Some(reason) = unfit(&document, number) {
+        return Err(Refusal::of(reason));
+    }
+    let answer = WriteResult {
+        updated: Some(document.updated),
+        transforms,
+    };
+    Ok((Some(document), answer))
+}
+
+// The write, where its act leaves these fields.
+fn carry_on(
+    alloc: Global,
+    there: Option<Document>,
+    fields: SharedFields,
+    write: &Write,
+    number: u32,
+    time: Micros,
+) -> Result<(Option<Document>, WriteResult), Refusal>
+    ensures ok { IfOk result (λ r. carried_out (Some fields) there write.now time ≡ Ok r) }
+    ensures err { IfErr result (λ e. e ≢ refusal_of Memory → refused number (carried_out (Some fields) there write.now time) ≡ Some e) }
+{
+    let (fields, transforms) = transform(alloc, fields, &write.transforms, time)?;
+    let document = document_left(alloc, there, write.name(), fields, time)?;
+    written(document, transforms, number)
+}
+
 /// Carries out the write of this number in its commit, on the document that is there or none. It answers the document
 /// that is left, if one is, and the write's result.
 pub(crate) fn carry_out(
@@ -175,21 +211,14 @@ pub(crate) fn carry_out(
     if let Some(reason) = unmet(&write.condition, &there, number) {
         return Err(Refusal::of(reason));
     }
-    let Some(fields) = fields_left(alloc, &write.act, &there)? else {
-        let answer = WriteResult {
-            updated: None,
-            transforms: Values::new(alloc),
-        };
-        return Ok((None, answer));
-    };
-    let (fields, transforms) = transform(alloc, fields, &write.transforms, time)?;
-    let document = document_left(alloc, there, write.name(), fields, time)?;
-    if let Some(reason) = unfit(&document, number) {
-        return Err(Refusal::of(reason));
+    match fields_left(alloc, &write.act, &there)? {
+        Some(fields) => carry_on(alloc, there, fields, write, number, time),
+        None => Ok((
+            None,
+            WriteResult {
+                updated: None,
+                transforms: Values::new(alloc),
+            },
+        )),
     }
-    let answer = WriteResult {
-        updated: Some(document.updated),
-        transforms,
-    };
-    Ok((Some(document), answer))
 }
