@@ -63,17 +63,28 @@ draft_of acted transforms condition = record {
   is_numeric = transforms.1;
 }
 
+-- what a write has beside its act: a mask or none, its transforms and whether their numbers are integers, its precondition
+pub record Beside : Type 0 where
+  pub mask : Option (List FieldPath)
+  pub transforms : List Transform × Bool
+  pub condition : Precondition
+
+abbrev pub beside_at : Data → List ℕ → Result Beside Bad
+beside_at d place = do
+  _ ← unbuilt_at unbuilt_members d place
+  mask ← mask_in d place
+  transforms ← transforms_in d place
+  condition ← condition_in d place
+  Ok (record { mask = mask; transforms = transforms; condition = condition })
+
 unfoldable pub draft_at : Root → Data → List ℕ → Result Draft Bad
 draft_at root d place = do
   _ ← only_at write_members d place
   update ← member_at (codes "update") d place
   delete ← member_at (codes "delete") d place
   act ← act_at root d place update delete
-  _ ← unbuilt_at unbuilt_members d place
-  mask ← mask_in d place
-  transforms ← transforms_in d place
-  condition ← condition_in d place
-  Ok (draft_of (with_mask act mask) transforms condition)
+  beside ← beside_at d place
+  Ok (draft_of (with_mask act beside.mask) beside.transforms beside.condition)
 
 -- a list of writes
 abbrev pub drafts_at : Root → Data → List ℕ → Result (List Draft) Bad

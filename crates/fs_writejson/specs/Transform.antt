@@ -53,14 +53,17 @@ operation_at name d place =
     else if bytes_eq name (codes "removeAllFromArray") then made (λ ds. (RemoveAll ds, true)) (array_at d place)
     else made (number_of name) (value_at d place)
 
+-- the one operation that is there
+abbrev pub operation_in : json.Data → List ℕ → Result (Operation × Bool) Bad
+operation_in d place = one_of_at operations d place >>= λ one. operation_at one.0 one.1 (member_place place one.0)
+
 -- the path comes before the operation
 unfoldable pub transform_at : json.Data → List ℕ → Result (Transform × Bool) Bad
 transform_at d place = do
   _ ← only_at transform_members d place
   text ← required_at (codes "fieldPath") d place
   path ← field_path_at text (member_place place (codes "fieldPath"))
-  one ← one_of_at operations d place
-  operation ← operation_at one.0 one.1 (member_place place one.0)
+  operation ← operation_in d place
   Ok (record { path = path; operation = operation.0 }, operation.1)
 
 -- all of them, and whether each has an integer where it wants one

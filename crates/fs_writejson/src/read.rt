@@ -5,7 +5,7 @@ ghost use Rattle.fs_path.specs.declared.field.FieldPath.{FieldPath};
 ghost use Rattle.fs_json.specs.Answer.{Gives};
 ghost use Rattle.serde_json.specs.View.{items_view, view as json};
 ghost use Rattle.fs_write.specs.declared.write.Act.{Act as Acted};
-ghost use Rattle.fs_writejson.specs.Draft.{act_at, draft_at, drafts_at, mask_in, with_mask};
+ghost use Rattle.fs_writejson.specs.Draft.{Beside as Told, act_at, beside_at, draft_at, draft_of, drafts_at, mask_in, with_mask};
 ghost use Rattle.fs_writejson.specs.Rules.{write_at};
 ghost use Rattle.fs_json.specs.Walk.{each_at};
 
@@ -18,7 +18,7 @@ use crate::transform::read_transforms_of;
 use fs_json::{Bad, document_name, list, member, only, refuse_unbuilt};
 use fs_path::{Paths, Root, Rule, Way};
 use fs_valjson::read_document;
-use fs_write::{Act, Write};
+use fs_write::{Act, Precondition, Transforms, Write};
 use serde_json::Value;
 use std::alloc::Global;
 
@@ -63,20 +63,53 @@ fn read_draft(alloc: Global, root: &Root, v: &Value, place: &Way<'_>) -> Result<
     let update = member(alloc, v, UPDATE, place)?;
     let delete = member(alloc, v, DELETE, place)?;
     let act = read_act(alloc, root, v, place, update, delete)?;
+    match read_beside(alloc, v, place) {
+        Ok(beside) => Ok(draft_of(act, beside)),
+        Err(bad) => {
+            drop(act);
+            Err(bad)
+        }
+    }
+}
+
+/// What a write has beside its act.
+#[derive(Drop)]
+struct Beside {
+    mask: Option<Paths>,
+    transforms: Transforms,
+    is_numeric: bool,
+    condition: Precondition,
+}
+
+fn read_beside(alloc: Global, v: &Value, place: &Way<'_>) -> Result<Beside, Bad>
+    ensures { Gives {Y = Told} (λ b. record { mask = b.mask; transforms = (b.transforms, b.is_numeric); condition = b.condition })
+        result (beside_at (json v.now) (place_of place.now)) }
+{
     refuse_unbuilt(alloc, v, &UNBUILT_MEMBERS, place)?;
     let mask = read_mask_of(alloc, v, place)?;
     let (transforms, is_numeric) = read_transforms_of(alloc, v, place)?;
     let condition = read_condition_of(alloc, v, place)?;
-    let (act, idle_mask) = with_mask(act, mask);
-    Ok(Draft {
+    Ok(Beside {
+        mask,
+        transforms,
+        is_numeric,
+        condition,
+    })
+}
+
+fn draft_of(act: Act, beside: Beside) -> Draft
+    ensures { result ≡ draft_of (with_mask act beside.mask) (beside.transforms, beside.is_numeric) beside.condition }
+{
+    let (act, idle_mask) = with_mask(act, beside.mask);
+    Draft {
         write: Write {
             act,
-            transforms,
-            condition,
+            transforms: beside.transforms,
+            condition: beside.condition,
         },
         idle_mask,
-        is_numeric,
-    })
+        is_numeric: beside.is_numeric,
+    }
 }
 
 /// What a write does: just one of an update, which has no mask yet, and a delete.

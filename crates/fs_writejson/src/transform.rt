@@ -7,10 +7,10 @@ ghost use Rattle.fs_json.specs.Members.{one_of_at};
 ghost use Rattle.fs_value.specs.View.{view};
 ghost use Rattle.serde_json.specs.Data.{Data};
 ghost use Rattle.serde_json.specs.View.{items_view, view as json};
-ghost use Rattle.fs_valjson.specs.Reading.{made};
+ghost use Rattle.fs_valjson.specs.Reading.{made, value_at};
 ghost use Rattle.fs_write.specs.declared.transform.Operation.{Operation as Done};
 ghost use Rattle.fs_write.specs.declared.transform.Transform.{Transform as Step};
-ghost use Rattle.fs_writejson.specs.Transform.{number_of, operation_at, operations, server_value, together, transform_at, transforms_at, transforms_in};
+ghost use Rattle.fs_writejson.specs.Transform.{number_of, operation_at, operation_in, operations, server_value, together, transform_at, transforms_at, transforms_in};
 ghost use Rattle.fs_json.specs.Walk.{each_at};
 
 use crate::names::{
@@ -70,12 +70,24 @@ fn read_transform(alloc: Global, v: &Value, place: &Way<'_>) -> Result<(Transfor
     only_of_two(alloc, v, &PATH_MEMBERS, &OPERATIONS, place)?;
     let path = required(alloc, v, FIELD_PATH, place)?;
     let path = field_path(alloc, path, &place.member(FIELD_PATH))?;
-    let (name, operand) = the_operation(alloc, v, place)?;
-    let (operation, has_number) = read_operation(alloc, name, operand, &(*place).member(name))?;
-    Ok((Transform { path, operation }, has_number))
+    match read_the_operation(alloc, v, place) {
+        Ok((operation, has_number)) => Ok((Transform { path, operation }, has_number)),
+        Err(bad) => {
+            drop(path);
+            Err(bad)
+        }
+    }
 }
 
-/// The operation that is there, where no other is.
+/// The operation that is there, and whether it is given an integer where it wants one.
+fn read_the_operation(alloc: Global, v: &Value, place: &Way<'_>) -> Result<(Operation, bool), Bad>
+    ensures { Gives {Y = Done × Bool} (λ o. o) result (operation_in (json v.now) (place_of place.now)) }
+{
+    let (name, operand) = the_operation(alloc, v, place)?;
+    read_operation(alloc, name, operand, &(*place).member(name))
+}
+
+/// The name of the operation that is there, where no other is, and what it is given.
 fn the_operation<'a>(
     alloc: Global,
     v: &'a Value,
@@ -107,8 +119,22 @@ fn read_operation(
             let elements = read_array(alloc, v, place)?;
             Ok((Operation::RemoveAll(elements), true))
         }
-        _ => Ok(number_of(name, &read_value(alloc, v, place)?)),
+        _ => read_number(alloc, name, v, place),
     }
+}
+
+fn read_number(
+    alloc: Global,
+    name: &str,
+    v: &Value,
+    place: &Way<'_>,
+) -> Result<(Operation, bool), Bad>
+    ensures { Gives {Y = Done × Bool} (λ o. o) result (made (number_of name.now) (value_at (json v.now) (place_of place.now))) }
+{
+    let operand = read_value(alloc, v, place)?;
+    let told = number_of(name, &operand);
+    drop(operand);
+    Ok(told)
 }
 
 /// The one value that the server sets, by its name.
