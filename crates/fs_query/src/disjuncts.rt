@@ -32,10 +32,10 @@ fn conjunctions(alloc: Global, filter: &Filter) -> Result<Vec<Filters>, AllocErr
         Filter::Field { path, op, value } => match op {
             Op::In => equalities(alloc, path, Op::Equal, elements(value)),
             Op::ArrayContainsAny => equalities(alloc, path, Op::ArrayContains, elements(value)),
-            _ => simple(alloc, filter.copy(alloc)?),
+            _ => simple(alloc, filter),
         },
-        Filter::IsNull { .. } => simple(alloc, filter.copy(alloc)?),
-        Filter::IsNotNull { .. } => simple(alloc, filter.copy(alloc)?),
+        Filter::IsNull { .. } => simple(alloc, filter),
+        Filter::IsNotNull { .. } => simple(alloc, filter),
         Filter::And(filters) => conjunctions_of_all(alloc, filters),
         Filter::Or(filters) => conjunctions_of_any(alloc, filters),
     }
@@ -74,11 +74,12 @@ fn one(alloc: Global, filters: Filters) -> Result<Vec<Filters>, AllocError>
     Ok(all)
 }
 
-fn simple(alloc: Global, filter: Filter) -> Result<Vec<Filters>, AllocError>
-    ensures { IfOk result (λ v. v.items ≡ (view filter ∷ []) ∷ []) }
+// A copy of a filter, alone.
+fn simple(alloc: Global, filter: &Filter) -> Result<Vec<Filters>, AllocError>
+    ensures { IfOk result (λ v. v.items ≡ (view filter.now ∷ []) ∷ []) }
 {
     let mut filters = Filters::new(alloc);
-    filters.push(filter)?;
+    filters.push_copy(alloc, filter)?;
     one(alloc, filters)
 }
 
@@ -93,20 +94,14 @@ fn equalities(
 {
     let mut all = Vec::new(alloc);
     for value in values {
-        let filter = Filter::Field {
-            path: path.copy(alloc)?,
-            op,
-            value: value.copy(alloc)?,
-        };
         let mut filters = Filters::new(alloc);
-        filters.push(filter)?;
+        filters.push(Filter::compared(alloc, path, op, value)?)?;
         all.push(filters)?;
     }
     Ok(all)
 }
 
 // Each of the first with each of the second behind it.
-#[tactic(auto, using(crate::proofs::ProductLists::products_more))]
 fn products(
     alloc: Global,
     fronts: &[Filters],
@@ -140,7 +135,7 @@ fn joined(alloc: Global, front: &Filters, back: &Filters) -> Result<Filters, All
 {
     let mut all = front.copy(alloc)?;
     for filter in back.as_slice() {
-        all.push(filter.copy(alloc)?)?;
+        all.push_copy(alloc, filter)?;
     }
     Ok(all)
 }

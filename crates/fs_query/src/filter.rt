@@ -31,7 +31,25 @@ pub enum Filter {
 
 impl Filter {
     ghost use Rattle.std.specs.Prelude.{◌≡◌, IfOk};
+    ghost use Rattle.fs_value.specs.View.{view as value_view};
+    ghost use Rattle.fs_query.specs.Condition.{compared};
     ghost use Rattle.fs_query.specs.View.{view};
+
+    // A filter of copies of a path and a value.
+    pub(crate) fn compared(
+        alloc: Global,
+        path: &FieldPath,
+        op: Op,
+        value: &Value,
+    ) -> Result<Filter, AllocError>
+        ensures { IfOk result (λ f. view f ≡ compared path.now op (value_view value.now)) }
+    {
+        Ok(Filter::Field {
+            path: path.copy(alloc)?,
+            op,
+            value: value.copy(alloc)?,
+        })
+    }
 
     #[cycle(copy)]
     pub fn copy(&self, alloc: Global) -> Result<Filter, AllocError>
@@ -39,11 +57,7 @@ impl Filter {
     {
         match self {
             Filter::All => Ok(Filter::All),
-            Filter::Field { path, op, value } => Ok(Filter::Field {
-                path: path.copy(alloc)?,
-                op: *op,
-                value: value.copy(alloc)?,
-            }),
+            Filter::Field { path, op, value } => Filter::compared(alloc, path, *op, value),
             Filter::IsNull { path } => Ok(Filter::IsNull {
                 path: path.copy(alloc)?,
             }),
@@ -150,14 +164,24 @@ impl Filters {
         Ok(self.items.push(filter)?)
     }
 
+    // Adds a copy of a filter at the end.
+    #[cycle(copy)]
+    pub(crate) fn push_copy(&mut self, alloc: Global, filter: &Filter) -> Result<(), AllocError>
+        ensures { OnOk result (self.new ≡ self.old ++ view filter.now ∷ []) }
+    {
+        self.push(filter.copy(alloc)?)
+    }
+
     #[cycle(copy)]
     pub fn copy(&self, alloc: Global) -> Result<Filters, AllocError>
         ensures { IfOk result (λ fs. fs ≡ self.now) }
     {
-        let mut items = Vec::with_capacity(alloc, self.items.len())?;
-        for filter in &self.items {
-            items.push(filter.copy(alloc)?)?;
+        let mut all = Filters {
+            items: Vec::with_capacity(alloc, self.items.len())?,
+        };
+        for filter in self.as_slice() {
+            all.push_copy(alloc, filter)?;
         }
-        Ok(Filters { items })
+        Ok(all)
     }
 }

@@ -1,7 +1,7 @@
 //! Documents with nothing but what is at some paths.
 ghost use Rattle.std.specs.Prelude.{◌≡◌, IfOk, map, option_map};
 ghost use Rattle.std.specs.Option.{option_to_list};
-ghost use Rattle.fs_value.specs.View.{view};
+ghost use Rattle.fs_value.specs.View.{view, field_view};
 ghost use Rattle.fs_value.specs.Data.{members_of};
 ghost use Rattle.fs_query.specs.Project.{projected, kept, kept_of, rests, rest_behind, ends_here};
 
@@ -17,8 +17,8 @@ pub fn project(alloc: Global, d: &Document, paths: &Paths) -> Result<Document, A
     let parts = parts_of(alloc, paths.as_slice())?;
     let fields = kept(alloc, parts.as_slice(), d.fields.as_fields())?;
     Ok(Document {
-        name: d.name.copy(alloc)?,
         fields: SharedFields::of(alloc, fields)?,
+        name: d.name.copy(alloc)?,
         created: d.created,
         updated: d.updated,
     })
@@ -43,9 +43,8 @@ fn kept(alloc: Global, paths: &[&[Text]], fields: &Fields) -> Result<Fields, All
     let mut all = Vec::new(alloc);
     for field in fields.as_slice() {
         let rests = rests(alloc, field.key.as_str(), paths)?;
-        if let Some(value) = kept_of(alloc, rests.as_slice(), field)? {
-            let key = field.key.copy(alloc)?;
-            all.push(Field { key, value })?;
+        if let Some(left) = kept_of(alloc, rests.as_slice(), field)? {
+            all.push(left)?;
         }
     }
     Ok(Fields::of(all))
@@ -53,17 +52,21 @@ fn kept(alloc: Global, paths: &[&[Text]], fields: &Fields) -> Result<Fields, All
 
 // What the rests of paths behind its key keep of a field.
 #[cycle(kept)]
-fn kept_of(alloc: Global, rests: &[&[Text]], field: &Field) -> Result<Option<Value>, AllocError>
-    ensures { IfOk result (λ v. option_to_list (option_map (λ w. (field.now.key, view w)) v)
+fn kept_of(alloc: Global, rests: &[&[Text]], field: &Field) -> Result<Option<Field>, AllocError>
+    ensures { IfOk result (λ f. option_to_list (option_map field_view f)
         ≡ kept_of (map (λ p. p.now) rests.now) field.now.key (view field.now.value)) }
 {
     if ends_here(rests) {
-        return Ok(Some(field.value.copy(alloc)?));
+        return Ok(Some(field.copy(alloc)?));
     }
     if let Value::Map(fields) = &field.value {
         let inner = kept(alloc, rests, fields)?;
         if !inner.is_empty() {
-            return Ok(Some(Value::Map(inner)));
+            let key = field.key.copy(alloc)?;
+            return Ok(Some(Field {
+                key,
+                value: Value::Map(inner),
+            }));
         }
     }
     Ok(None)

@@ -66,15 +66,16 @@ impl Query {
     pub fn copy(&self, alloc: Global) -> Result<Query, AllocError>
         ensures { IfOk result (λ q. q ≡ self.now) }
     {
+        // What holds most comes last, so that little is given back where memory runs out.
         Ok(Query {
-            scope: self.scope.copy(alloc)?,
-            filter: self.filter.copy(alloc)?,
-            orders: self.orders.copy(alloc)?,
-            start: copy_cursor(alloc, &self.start)?,
-            end: copy_cursor(alloc, &self.end)?,
             offset: self.offset,
             limit: self.limit,
+            orders: self.orders.copy(alloc)?,
+            scope: self.scope.copy(alloc)?,
+            start: copy_cursor(alloc, &self.start)?,
+            end: copy_cursor(alloc, &self.end)?,
             select: copy_select(alloc, &self.select)?,
+            filter: self.filter.copy(alloc)?,
         })
     }
 }

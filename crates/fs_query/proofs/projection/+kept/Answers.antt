@@ -10,7 +10,7 @@ use Rattle.fs_value.specs.View.{view, field_view}
 use Rattle.fs_query.specs.Project.{kept, kept_of, rests}
 use Rattle.fs_query.proofs.Projected.{kept_next, kept_rises}
 use Rattle.fs_query.proofs.projection.+kept.Goals as goal
-use Rattle.fs_query.proofs.projection.+kept.Goals.{kept-in-Some+in_ok-key+in_ok-push, kept-in_default}
+use Rattle.fs_query.proofs.projection.+kept.Goals.{kept-in-Some+in_ok-push, kept-in_default}
 
 pub kept-of-requires : goal.kept-of-requires
 kept-of-requires t c =
@@ -29,9 +29,9 @@ kept-loop-field-preserved t c =
     let next = kept_next ps c.as_slice-field-items.result.now c.loop-field.field-index field c.loop-field-test.true c.field-item.is in
     let behind : map (λ p. p.now) c.as_slice.result.now ≡ rests field.key ps =
     ap (map (λ p. p.now)) c.as_slice.ensures.value ∙ c.in_ok-rests.ensures ∙ ap (λ k. rests k ps) c.as_str.ensures.value in
-    let one : kept_of (rests field.key ps) field.key (view field.value) ≡ option_to_list (option_map (λ w. (field.key, view w)) c.in_ok-value.field-0) =
-    ap (λ rs. kept_of rs field.key (view field.value)) (sym behind) ∙ sym c.in_ok-value.ensures in
+    let one : kept_of (rests field.key ps) field.key (view field.value) ≡ option_to_list (option_map field_view c.in_ok-left.field-0) =
+    ap (λ rs. kept_of rs field.key (view field.value)) (sym behind) ∙ sym c.in_ok-left.ensures in
     elim c.match-branch-3.branch [
-      | kept-in-Some+in_ok-key+in_ok-push w ↦ rw (next, ← c.loop-field.invariant, w.all-is, one, w.in-Some.is) (grind (arith, common_steps))
+      | kept-in-Some+in_ok-push w ↦ rw (next, ← c.loop-field.invariant, w.all-is, one, w.in-Some.is) (grind (arith, common_steps))
       | kept-in_default w ↦ rw (next, ← c.loop-field.invariant, w.all-is, one, w.in_default.is, append-nil)
     ]
