@@ -5,5 +5,4 @@ pub mod Floats
 pub mod Lists
 pub mod Put
 pub mod Rows
-pub mod Walked
 pub mod Written

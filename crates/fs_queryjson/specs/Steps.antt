@@ -10,14 +10,11 @@ use Rattle.fs_json.specs.Integer.{small_json}
 use Rattle.fs_query.specs.Asked.{Asked}
 use Rattle.fs_query.specs.Condition.{Condition}
 use Rattle.fs_valjson.specs.Reading.{the_one}
-use Rattle.fs_queryjson.specs.Cursor.{cursor_in, cursor_json}
+use Rattle.fs_queryjson.specs.Cursor.{cursor_json}
 use Rattle.fs_queryjson.specs.Filter.{composite_of, filter_kinds, inner_in, inner_members}
 use Rattle.fs_queryjson.specs.From.{from_json}
-use Rattle.fs_queryjson.specs.Order.{orders_in}
-use Rattle.fs_queryjson.specs.Query.{limit_in, offset_in}
 use Rattle.fs_queryjson.specs.Select.{select_json}
 use Rattle.fs_queryjson.specs.Written.{offset_json, order_by_json, where_json}
-use Rattle.fs_queryjson.specs.declared.read.Ordered.{Ordered}
 
 -- ---- readers
 
@@ -36,16 +33,6 @@ inner_at _ place = Err (At G place)
 
 abbrev pub composite_at : json.Data → List ℕ → Result Condition Bad
 composite_at d place = composite_of d place (inner_at d place)
-
--- the order of a query's documents, and the part of them in that order that it asks for
-abbrev pub ordered_at : json.Data → List ℕ → Result Ordered Bad
-ordered_at d place = do
-  orders ← orders_in d place
-  start ← cursor_in (codes "startAt") d place
-  end ← cursor_in (codes "endAt") d place
-  offset ← offset_in d place
-  limit ← limit_in d place
-  Ok (record { orders = orders; start = start; end = end; offset = offset; limit = limit })
 
 -- ---- writers
 

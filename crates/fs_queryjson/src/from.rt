@@ -2,6 +2,7 @@
 ghost use Rattle.std.specs.Prelude.{◌≡◌, List, [], IfOk, codes};
 ghost use Rattle.fs_path.specs.Way.{place_of};
 ghost use Rattle.fs_path.specs.declared.scope.Scope.{Scope as Covered};
+ghost use Rattle.fs_path.specs.declared.scope.Scope.TheVariants.{Collection};
 ghost use Rattle.serde_json.specs.View.{items_view, view as json};
 ghost use Rattle.fs_json.specs.Answer.{Gives};
 ghost use Rattle.fs_json.specs.Walk.{each_at};
@@ -31,8 +32,18 @@ pub(crate) fn read_scopes_of(
     }
 }
 
-/// The one scope of a query. Where there is none or more than one, it is the collection of the empty id, which is no id:
-/// so rule 1 of queries is broken.
+/// The collection of the empty id, which is no id.
+pub(crate) fn no_scope(alloc: Global, parent: Ids) -> Scope
+    ensures { result ≡ Collection parent [] }
+{
+    Scope::Collection {
+        parent,
+        id: Text::of(String::new(alloc)),
+    }
+}
+
+/// The one scope of a query. Where there is none or more than one, it is the collection of the empty id, so rule 1 of
+/// queries is broken.
 pub(crate) fn the_scope(
     alloc: Global,
     parent: &Ids,
@@ -42,10 +53,7 @@ pub(crate) fn the_scope(
 {
     match scopes.pop() {
         Some(scope) if scopes.is_empty() => Ok(scope),
-        _ => Ok(Scope::Collection {
-            parent: parent.copy(alloc)?,
-            id: Text::of(String::new(alloc)),
-        }),
+        _ => Ok(no_scope(alloc, parent.copy(alloc)?)),
     }
 }
 

@@ -4,18 +4,18 @@ ghost use Rattle.fs_path.specs.Way.{place_of};
 ghost use Rattle.serde_json.specs.View.{view as json};
 ghost use Rattle.fs_json.specs.Answer.{Gives};
 ghost use Rattle.fs_queryjson.specs.Query.{offset_in, permitted_at, query_at, walked_at};
-ghost use Rattle.fs_queryjson.specs.Steps.{ordered_at};
+ghost use Rattle.fs_query.specs.Asked.{Asked};
 
 use crate::cursor::read_cursor_of;
 use crate::filter::read_where_of;
-use crate::from::{read_scopes_of, the_scope};
+use crate::from::{no_scope, read_scopes_of, the_scope};
 use crate::member::read_small_of;
 use crate::names::{END_AT, LIMIT, OFFSET, QUERY_MEMBERS, START_AT};
 use crate::order::read_orders_of;
 use crate::select::read_select_of;
 use fs_json::{Bad, only};
 use fs_path::{Ids, Rule, Way};
-use fs_query::{Cursor, Orders, Query, check};
+use fs_query::{Filter, Orders, Query, check};
 use serde_json::Value;
 use std::alloc::Global;
 
@@ -33,59 +33,50 @@ pub fn read_query(alloc: Global, parent: &Ids, v: &Value, place: &Way<'_>) -> Re
 ///
 /// At the way `x` the reader of `{"orderBy":[{}],"from":1}` refuses at `x.from`, and where that is a list at
 /// `x.orderBy[0].field`.
-#[tactic(auto, unfolding(crate::specs::Query::walked_at))]
 pub fn walk_query(alloc: Global, parent: &Ids, v: &Value, place: &Way<'_>) -> Result<Query, Bad>
     ensures { Gives (λ q. q) result (walked_at parent.now (json v.now) (place_of place.now)) }
 {
-    only(alloc, v, &QUERY_MEMBERS, place)?;
-    let select = read_select_of(alloc, v, place)?;
-    let scopes = read_scopes_of(alloc, parent, v, place)?;
-    let scope = the_scope(alloc, parent, scopes)?;
-    let filter = read_where_of(alloc, v, place)?;
-    let Ordered {
-        orders,
-        start,
-        end,
-        offset,
-        limit,
-    } = read_ordered(alloc, v, place)?;
-    Ok(Query {
-        scope,
-        filter,
-        orders,
-        start,
-        end,
-        offset,
-        limit,
-        select,
-    })
+    let mut query = Query {
+        scope: no_scope(alloc, Ids::new(alloc)),
+        filter: Filter::All,
+        orders: Orders::new(alloc),
+        start: None,
+        end: None,
+        offset: 0,
+        limit: None,
+        select: None,
+    };
+    match walk_into(alloc, parent, v, place, &mut query) {
+        Ok(()) => Ok(query),
+        Err(bad) => {
+            drop(query);
+            Err(bad)
+        }
+    }
 }
 
-/// The order of a query's documents, and the part of them in that order that it asks for.
-#[derive(Drop)]
-struct Ordered {
-    orders: Orders,
-    start: Option<Cursor>,
-    end: Option<Cursor>,
-    offset: i32,
-    limit: Option<i32>,
-}
-
-fn read_ordered(alloc: Global, v: &Value, place: &Way<'_>) -> Result<Ordered, Bad>
-    ensures { Gives (λ o. o) result (ordered_at (json v.now) (place_of place.now)) }
+/// The walk, which puts each member into the query.
+#[tactic(auto, unfolding(crate::specs::Query::walked_at))]
+fn walk_into(
+    alloc: Global,
+    parent: &Ids,
+    v: &Value,
+    place: &Way<'_>,
+    query: &mut Query,
+) -> Result<(), Bad>
+    ensures { Gives {Y = Asked} (λ u. query.new) result (walked_at parent.now (json v.now) (place_of place.now)) }
 {
-    let orders = read_orders_of(alloc, v, place)?;
-    let start = read_cursor_of(alloc, v, START_AT, place)?;
-    let end = read_cursor_of(alloc, v, END_AT, place)?;
-    let offset = read_offset_of(alloc, v, place)?;
-    let limit = read_small_of(alloc, v, LIMIT, place)?;
-    Ok(Ordered {
-        orders,
-        start,
-        end,
-        offset,
-        limit,
-    })
+    only(alloc, v, &QUERY_MEMBERS, place)?;
+    query.select = read_select_of(alloc, v, place)?;
+    let scopes = read_scopes_of(alloc, parent, v, place)?;
+    query.scope = the_scope(alloc, parent, scopes)?;
+    query.filter = read_where_of(alloc, v, place)?;
+    query.orders = read_orders_of(alloc, v, place)?;
+    query.start = read_cursor_of(alloc, v, START_AT, place)?;
+    query.end = read_cursor_of(alloc, v, END_AT, place)?;
+    query.offset = read_offset_of(alloc, v, place)?;
+    query.limit = read_small_of(alloc, v, LIMIT, place)?;
+    Ok(())
 }
 
 /// An offset that is absent is 0.
@@ -103,7 +94,10 @@ pub fn judge_query(alloc: Global, query: Query, place: &Way<'_>) -> Result<Query
     ensures { Gives (λ q. q) result (permitted_at query (place_of place.now)) }
 {
     match check(&query) {
-        Some(rule) => Err(Bad::at(alloc, Rule::Q(rule.number, rule.count), place)),
+        Some(rule) => {
+            drop(query);
+            Err(Bad::at(alloc, Rule::Q(rule.number, rule.count), place))
+        }
         None => Ok(query),
     }
 }
