@@ -99,9 +99,10 @@ fn read_run_query(alloc: Global, root: &Root, v: &Value, place: &Way<'_>) -> Res
     only(alloc, v, &RUN_QUERY_MEMBERS, place)?;
     let parent = required(alloc, v, PARENT, place)?;
     let parent = read_parent(alloc, root, parent, &place.member(PARENT))?;
+    let database = root.copy(alloc)?;
     let (query, read_time) = read_structured(alloc, &parent, v, place)?;
     Ok(Request::RunQuery {
-        database: root.copy(alloc)?,
+        database,
         query,
         read_time,
     })
@@ -120,7 +121,13 @@ fn read_structured(
 {
     let structured = required(alloc, v, STRUCTURED_QUERY, place)?;
     let walked = walk_query(alloc, parent, structured, &place.member(STRUCTURED_QUERY))?;
-    let read_time = read_when(alloc, v, place)?;
+    let read_time = match read_when(alloc, v, place) {
+        Ok(read_time) => read_time,
+        Err(bad) => {
+            drop(walked);
+            return Err(bad);
+        }
+    };
     let query = judge_query(alloc, walked, &place.member(STRUCTURED_QUERY))?;
     Ok((query, read_time))
 }

@@ -9,17 +9,14 @@ use Rattle.fs_rpc.specs.Requests.{structured_at, when_at}
 use Rattle.fs_rpc.proofs.Structured.{structured_fails, structured_gives, passed_on, with_time}
 use Rattle.fs_rpc.proofs.read.read_structured.Goals as goal
 
-pub returns-in_err-read_time : goal.returns-in_err-read_time
-returns-in_err-read_time c =
+pub returns-in-Err : goal.returns-in-Err
+returns-in-Err c =
     let place = place_of c.args.place.now in
     let d = view c.args.v.now in
     let s = view c.in_ok-structured.structured.now in
     let walked = subst (λ p. walked_at c.args.parent.now s p ≡ Ok c.in_ok-walked.walked) c.member.ensures c.in_ok-walked.ensures in
-    let bad = c.in_err-read_time.field-0.0 in
-    let result : c.from_residual-in_err-read_time.result ≡ Err bad = search rules in
-    subst (λ r. Gives {Y = Asked × Option ℤ} (λ asked. asked) r (structured_at c.args.parent.now d place)) (sym result)
-    (passed_on {X = Option ℤ} {Y = Option ℤ} (λ t. t) (λ asked. asked) bad (when_at d place) (structured_at c.args.parent.now d place) c.in_err-read_time.ensures
-    (λ b e. structured_fails c.args.parent.now d s place c.in_ok-walked.walked b c.in_ok-structured.ensures walked e))
+    passed_on {X = Option ℤ} {Y = Option ℤ} (λ t. t) (λ asked. asked) c.in-Err.bad (when_at d place) (structured_at c.args.parent.now d place) c.in-Err.ensures
+    (λ b e. structured_fails c.args.parent.now d s place c.in_ok-walked.walked b c.in_ok-structured.ensures walked e)
 
 pub returns-in_err-query : goal.returns-in_err-query
 returns-in_err-query c =
@@ -27,9 +24,9 @@ returns-in_err-query c =
     let d = view c.args.v.now in
     let s = view c.in_ok-structured.structured.now in
     let inside = member_place place (codes "structuredQuery") in
-    let time = c.in_ok-read_time.read_time in
+    let time = c.in-Ok.read_time in
     let walked = subst (λ p. walked_at c.args.parent.now s p ≡ Ok c.in_ok-walked.walked) c.member.ensures c.in_ok-walked.ensures in
-    let gives = structured_gives c.args.parent.now d s place c.in_ok-walked.walked time c.in_ok-structured.ensures walked c.in_ok-read_time.ensures in
+    let gives = structured_gives c.args.parent.now d s place c.in_ok-walked.walked time c.in_ok-structured.ensures walked c.in-Ok.ensures in
     let bad = c.in_err-query.field-0.0 in
     let result : c.from_residual-in_err-query.result ≡ Err bad = search rules in
     let judged = subst (λ p. Gives {Y = Asked} (λ q. q) (Err bad) (permitted_at c.in_ok-walked.walked p)) c.member-2.ensures c.in_err-query.ensures in
@@ -42,9 +39,9 @@ returns c =
     let place = place_of c.args.place.now in
     let d = view c.args.v.now in
     let s = view c.in_ok-structured.structured.now in
-    let time = c.in_ok-read_time.read_time in
+    let time = c.in-Ok.read_time in
     let query = c.in_ok-query.query in
     let walked = subst (λ p. walked_at c.args.parent.now s p ≡ Ok c.in_ok-walked.walked) c.member.ensures c.in_ok-walked.ensures in
-    let gives = structured_gives c.args.parent.now d s place c.in_ok-walked.walked time c.in_ok-structured.ensures walked c.in_ok-read_time.ensures in
+    let gives = structured_gives c.args.parent.now d s place c.in_ok-walked.walked time c.in_ok-structured.ensures walked c.in-Ok.ensures in
     let judged = subst (λ p. permitted_at c.in_ok-walked.walked p ≡ Ok query) c.member-2.ensures c.in_ok-query.ensures in
     gives ∙ ap (with_time time) judged
