@@ -44,6 +44,29 @@ fn are_whole(ids: &[Text]) -> bool
     ids.iter().all(|id| !id.as_str().as_bytes().contains(&b'/'))
 }
 
+// The root of a name.
+fn root_of(alloc: Global, name: &DocName) -> Result<Root, AllocError>
+    ensures project { IfOk result (λ r. r.project ≡ name.now.project) }
+    ensures database { IfOk result (λ r. r.database ≡ name.now.database) }
+    ensures whole { IfOk result (λ r. (has_slash r.project ≡ false) × (has_slash r.database ≡ false)) }
+{
+    Ok(Root {
+        project: Text::from_str(alloc, name.project())?,
+        database: Text::from_str(alloc, name.database())?,
+    })
+}
+
+// The name of these ids in the database of another name, if no id has a slash.
+fn name_beside(alloc: Global, name: &DocName, ids: &Ids) -> Result<Option<DocName>, AllocError>
+    ensures { IfOk result (λ r. IfSome r (λ n. n ≡ beside name.now ids.now)) }
+{
+    if !are_whole(ids.as_slice()) {
+        return Ok(None);
+    }
+    let root = root_of(alloc, name)?;
+    Ok(Some(DocName::new(alloc, &root, ids)?))
+}
+
 // The name of a parent's document or collection in the database of another name, if no id has a slash.
 fn name_below(
     alloc: Global,
@@ -55,14 +78,7 @@ fn name_below(
 {
     let mut ids = parent.copy(alloc)?;
     ids.push(id)?;
-    if !are_whole(ids.as_slice()) {
-        return Ok(None);
-    }
-    let root = Root {
-        project: Text::from_str(alloc, name.project())?,
-        database: Text::from_str(alloc, name.database())?,
-    };
-    Ok(Some(DocName::new(alloc, &root, &ids)?))
+    name_beside(alloc, name, &ids)
 }
 
 // The id behind another and all that lies below it: it has a zero byte more.
