@@ -33,7 +33,9 @@ pub fn ask_in_session(
     match request {
         Ok(request) => {
             let envelope = Envelope { id, request };
-            ask_as(alloc, state, session.as_str(), &envelope, out)
+            let done = ask_as(alloc, state, session.as_str(), &envelope, out);
+            drop(envelope);
+            done
         }
         Err(bad) => refuse_as(alloc, state, session.as_str(), &id, bad, out),
     }
@@ -117,7 +119,9 @@ fn reply_to(
     ensures { OnOk result (Plays (requested state.old name.now number envelope.now) state.new out.old.items out.new.items) }
 {
     let answer = ask(alloc, &mut state.server, number, envelope)?;
-    say_answer(alloc, name, &envelope.id, &answer, out)
+    let said = say_answer(alloc, name, &envelope.id, &answer, out);
+    drop(answer);
+    said
 }
 
 // Adds what a request is answered at once.

@@ -39,6 +39,7 @@ pub fn ask(
     if let Answer::Refused(refusal) = &answer
         && let Reason::Memory = &refusal.reason
     {
+        drop(answer);
         return Err(AllocError);
     }
     Ok(answer)
