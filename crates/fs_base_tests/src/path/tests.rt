@@ -177,14 +177,15 @@ fn covered(alloc: Global, kind: &str, text: &str) -> Result<String, PathError> {
     let (path, rest) = text.split_once(" ").unwrap_or(("", text));
     let (id, document) = rest.split_once(" ").unwrap_or((rest, ""));
     let scope = scope(alloc, kind, path, id)?;
-    if is_copied(alloc, &scope)? {
-        document_covered(alloc, &scope, document)
-    } else {
-        Ok(String::from_str(alloc, "another copy")?)
-    }
+    let told = document_covered(alloc, &scope, document);
+    drop(scope);
+    told
 }
 
 fn document_covered(alloc: Global, scope: &Scope, path: &str) -> Result<String, PathError> {
+    if !is_copied(alloc, scope)? {
+        return Ok(String::from_str(alloc, "another copy")?);
+    }
     let name = name_of(alloc, path)?;
     Ok(covers(scope, &name).to_string(alloc)?)
 }
