@@ -1,126 +1,94 @@
 //! The journal, what it counts, and which writes touch a read.
+use crate::short::{cell, fields, micros, name_of, query, writes};
+use crate::table::{Line, holds, tell};
 use fs_history::{Batch, Journal, Read, Reads, histories_are_lawful, touches};
-use fs_path::{DocName, Ids, Scope, Text};
-use fs_query::{Filter, Orders, Query};
 use fs_status::Id;
-use fs_time::Micros;
-use fs_value::{Document, Documents, Fields, SharedFields, Value};
-use fs_write::{Act, Precondition, Transforms, Write, Writes};
+use fs_value::{Document, Documents};
 use std::alloc::{AllocError, Global};
 
-fn moment(n: i64) -> Result<Micros, AllocError> {
-    Micros::new(n).ok_or(AllocError)
-}
-
-fn name_of(alloc: Global, path: &str) -> Result<DocName, AllocError> {
-    DocName::of_path(format!(in alloc; "demo/(default)/{path}")?).ok_or(AllocError)
-}
-
-// {n: 1}
-fn fields(alloc: Global) -> Result<SharedFields, AllocError> {
-    let mut fields = Fields::new(alloc);
-    fields.put(Text::from_str(alloc, "n")?, Value::Integer(1))?;
-    SharedFields::of(alloc, fields)
-}
+// ---- reads
 
 fn document(alloc: Global, path: &str) -> Result<Document, AllocError> {
+    let time = micros(1)?;
+    let name = name_of(alloc, path)?;
+    let fields = fields(alloc, 1)?;
     Ok(Document {
-        name: name_of(alloc, path)?,
-        fields: fields(alloc)?,
-        created: moment(1)?,
-        updated: moment(1)?,
+        name,
+        fields,
+        created: time,
+        updated: time,
     })
 }
 
-// `=c/a` sets a document to {n: 1}, and `-c/a` deletes it.
-fn act(alloc: Global, text: &str) -> Result<Act, AllocError> {
-    match text.strip_prefix("=") {
-        Some(path) => Ok(Act::Set {
-            name: name_of(alloc, path)?,
-            fields: fields(alloc)?,
-        }),
-        None => Ok(Act::Delete {
-            name: name_of(alloc, text.strip_prefix("-").unwrap_or(text))?,
-        }),
-    }
-}
-
-fn writes(alloc: Global, text: &str) -> Result<Writes, AllocError> {
-    let mut all = Writes::new(alloc);
-    for one in text.split_whitespace() {
-        all.push(Write {
-            act: act(alloc, one)?,
-            transforms: Transforms::new(alloc),
-            condition: Precondition::None,
-        })?;
-    }
-    Ok(all)
-}
-
-// The documents of a collection right below the root, or with `**` of all collections of its id.
-fn scope(alloc: Global, text: &str) -> Result<Scope, AllocError> {
-    let parent = Ids::new(alloc);
-    match text.strip_prefix("**") {
-        Some(id) => Ok(Scope::Group {
-            parent,
-            id: Text::from_str(alloc, id)?,
-        }),
-        None => Ok(Scope::Collection {
-            parent,
-            id: Text::from_str(alloc, text)?,
-        }),
-    }
-}
-
-fn query(alloc: Global, text: &str) -> Result<Query, AllocError> {
-    Ok(Query {
-        scope: scope(alloc, text)?,
-        filter: Filter::All,
-        orders: Orders::new(alloc),
-        start: None,
-        end: None,
-        offset: 0,
-        limit: None,
-        select: None,
-    })
-}
-
-// `=c/a` shows a document, `-c/a` none, and `?c c/a c/b` is a query and the documents that it showed.
-fn read(alloc: Global, text: &str) -> Result<Read, AllocError> {
-    if let Some(path) = text.strip_prefix("=") {
-        return Ok(Read::Name {
-            name: name_of(alloc, path)?,
-            shown: Some(document(alloc, path)?),
-        });
-    }
-    if let Some(path) = text.strip_prefix("-") {
-        return Ok(Read::Name {
-            name: name_of(alloc, path)?,
-            shown: None,
-        });
-    }
-    let (asked, paths) = text.split_once(" ").unwrap_or((text, ""));
-    let mut shown = Documents::new(alloc);
+fn documents(alloc: Global, paths: &str) -> Result<Documents, AllocError> {
+    let mut documents = Documents::new(alloc);
     for path in paths.split_whitespace() {
-        shown.push(document(alloc, path)?)?;
+        documents.push(document(alloc, path)?)?;
     }
-    Ok(Read::Query {
-        query: query(alloc, asked.strip_prefix("?").unwrap_or(asked))?,
-        shown,
-    })
+    Ok(documents)
+}
+
+fn read_of_query(alloc: Global, text: &str) -> Result<Read, AllocError> {
+    let (scope, paths) = text.split_once(" ").unwrap_or((text, ""));
+    let shown = documents(alloc, paths)?;
+    let query = query(alloc, scope)?;
+    Ok(Read::Query { query, shown })
+}
+
+fn read_of_name(alloc: Global, text: &str) -> Result<Read, AllocError> {
+    let (path, n) = text.split_once("=").unwrap_or((text, "-"));
+    let name = name_of(alloc, path)?;
+    let shown = match n {
+        "-" => None,
+        _ => Some(document(alloc, path)?),
+    };
+    Ok(Read::Name { name, shown })
+}
+
+// `c/a=1` shows a document, `c/a=-` none, and `?c c/a c/b` is a query and the documents that it showed.
+fn read(alloc: Global, text: &str) -> Result<Read, AllocError> {
+    match text.strip_prefix("?") {
+        Some(text) => read_of_query(alloc, text),
+        None => read_of_name(alloc, text),
+    }
 }
 
 fn reads(alloc: Global, text: &str) -> Result<Reads, AllocError> {
-    let mut all = Reads::new(alloc);
+    let mut reads = Reads::new(alloc);
     for one in text.split(", ") {
         if !one.is_empty() {
-            all.push(read(alloc, one)?)?;
+            reads.push(read(alloc, one)?)?;
         }
     }
-    Ok(all)
+    Ok(reads)
 }
 
-fn add(alloc: Global, journal: &mut Journal, batch: Batch) -> Result<bool, AllocError> {
+// ---- the journal
+
+// Each line: writes, reads, and what the journal counts after them. A document `c/a {n: 1}` counts 62.
+const COUNTED: &str = r#"none | none | 64
+c/a=1 | none | 190
+c/a=- c/b=1 | none | 316
+c/a=1 c/a=1 c/b=1 | none | 566
+none | c/a=1 | 692
+none | c/a=- | 756
+none | ?c c/a c/b | 944
+none | ?c | 1008
+c/a=1 | c/a=1, ?**c c/a, c/b=- | 1258"#;
+
+fn batch(alloc: Global, number: u64, texts: &str, shown: &str) -> Result<Batch, AllocError> {
+    let time = micros(i64::try_from(number).unwrap_or(i64::MAX))?;
+    let writes = writes(alloc, texts)?;
+    let reads = reads(alloc, shown)?;
+    Ok(Batch {
+        time,
+        id: Id::new(number),
+        writes,
+        reads,
+    })
+}
+
+fn is_added(journal: &mut Journal, batch: Batch) -> Result<bool, AllocError> {
     if !journal.ends_before(batch.time) {
         return Ok(false);
     }
@@ -129,62 +97,68 @@ fn add(alloc: Global, journal: &mut Journal, batch: Batch) -> Result<bool, Alloc
     Ok(true)
 }
 
-// Each line: writes, reads, and what the journal counts after them. A document `c/a {n: 1}` counts 62.
-const COUNTED: &str = r#"none | none | 64
-=c/a | none | 190
--c/a =c/b | none | 316
-=c/a =c/a =c/b | none | 566
-none | =c/a | 692
-none | -c/a | 756
-none | ?c c/a c/b | 944
-none | ?c | 1008
-=c/a | =c/a, ?**c c/a, -c/b | 1258"#;
+// Adds the batch of a line, at the next time, and tells whether the journal counts what the line says.
+fn counts(alloc: Global, journal: &mut Journal, line: &str) -> Result<bool, AllocError> {
+    let (texts, rest) = cell(line);
+    let (shown, bytes) = cell(rest);
+    let number = journal.count().saturating_add(1);
+    if !is_added(journal, batch(alloc, number, texts, shown)?)? {
+        return Ok(false);
+    }
+    match bytes.parse::<u128>() {
+        Ok(bytes) => Ok(journal.bytes() == bytes),
+        Err(_) => Ok(false),
+    }
+}
 
-fn cell(text: &str) -> (&str, &str) {
-    let (one, rest) = text.split_once(" | ").unwrap_or((text, ""));
-    (one.strip_prefix("none").unwrap_or(one), rest)
+fn are_numbered(journal: &Journal) -> bool {
+    for i in 0..journal.count() {
+        if journal.batch(i).id.get() != i + 1 {
+            return false;
+        }
+    }
+    journal.count() == 9
+}
+
+fn ends_at(journal: &Journal, time: i64) -> Result<bool, AllocError> {
+    let time = micros(time)?;
+    let next = micros(time.get().saturating_add(1))?;
+    Ok(!journal.ends_before(time) && journal.ends_before(next))
+}
+
+fn tell_counts_in(
+    alloc: Global,
+    journal: &mut Journal,
+    wrong: &mut String,
+) -> Result<(), AllocError> {
+    for line in COUNTED.lines() {
+        tell(wrong, counts(alloc, journal, line)?, line)?;
+    }
+    let is_so = are_numbered(journal) && ends_at(journal, 9)?;
+    tell(wrong, is_so, "numbers and times")
+}
+
+fn tell_counts(alloc: Global, wrong: &mut String) -> Result<(), AllocError> {
+    let mut journal = Journal::new(alloc);
+    tell_counts_in(alloc, &mut journal, wrong)
 }
 
 #[test]
 fn what_a_journal_counts(rt: HostRuntime) {
-    let alloc = rt.alloc();
-    let mut journal = Journal::new(alloc);
-    let mut number: u32 = 0;
-    for line in COUNTED.split("\n") {
-        number = number.saturating_add(1);
-        let (text, rest) = cell(line);
-        let (texts, bytes) = cell(rest);
-        let batch = Batch {
-            time: moment(i64::from(number)).expect(&rt, "memory"),
-            id: Id::new(u64::from(number)),
-            writes: writes(alloc, text).expect(&rt, "memory"),
-            reads: reads(alloc, texts).expect(&rt, "memory"),
-        };
-        assert!(rt;
-            add(alloc, &mut journal, batch).expect(&rt, "memory"),
-            "{line}"
-        );
-        let counted = journal.bytes();
-        let told = format!(in alloc; "{counted}").expect(&rt, "memory");
-        assert!(rt; told.as_str() == bytes, "{line}");
-    }
-    assert_eq!(rt; journal.count(), 9);
-    for i in 0..journal.count() {
-        assert_eq!(rt; journal.batch(i).id.get(), i + 1);
-    }
-    assert!(rt;
-        !journal.ends_before(moment(9).expect(&rt, "memory"))
-            && journal.ends_before(moment(10).expect(&rt, "memory"))
-    );
+    let mut wrong = String::new(rt.alloc());
+    tell_counts(rt.alloc(), &mut wrong).expect(&rt, "memory");
+    assert!(rt; wrong.is_empty(), "{wrong}");
     histories_are_lawful();
 }
 
+// ---- writes that touch a read
+
 // Each line: the document that is written, what was read, and whether the write touches the read.
-const TOUCHED: &str = r#"c/a | =c/a | true
-c/a | -c/a | true
-c/a | =c/b | false
-c/a | =d/a | false
-c/a/d/a | =c/a | false
+const TOUCHED: &str = r#"c/a | c/a=1 | true
+c/a | c/a=- | true
+c/a | c/b=1 | false
+c/a | d/a=1 | false
+c/a/d/a | c/a=1 | false
 c/a | ?c c/a | true
 c/a | ?c | true
 c/b | ?c c/a | true
@@ -195,14 +169,26 @@ c/a/d/a | ?**d | true
 d/a | ?**d | true
 c/a | ?**d | false"#;
 
+fn is_touched(alloc: Global, path: &str, read: &Read) -> Result<bool, AllocError> {
+    let name = name_of(alloc, path)?;
+    Ok(touches(&name, read))
+}
+
+fn touches_one(alloc: Global, path: &str, text: &str) -> Result<bool, AllocError> {
+    let read = read(alloc, text)?;
+    let is_touched = is_touched(alloc, path, &read);
+    drop(read);
+    is_touched
+}
+
+/// Whether a write touches a read where a line says so.
+pub(crate) fn touches_so(alloc: Global, line: &str) -> Result<bool, AllocError> {
+    let (path, rest) = cell(line);
+    let (text, wanted) = cell(rest);
+    Ok(touches_one(alloc, path, text)? == (wanted == "true"))
+}
+
 #[test]
 fn which_writes_touch_a_read(rt: HostRuntime) {
-    let alloc = rt.alloc();
-    for line in TOUCHED.split("\n") {
-        let (path, rest) = cell(line);
-        let (text, wanted) = cell(rest);
-        let name = name_of(alloc, path).expect(&rt, "memory");
-        let read = read(alloc, text).expect(&rt, "memory");
-        assert_eq!(rt; touches(&name, &read), wanted == "true", "{line}");
-    }
+    holds(&rt, rt.alloc(), Line::Touch, TOUCHED, 14);
 }

@@ -4,9 +4,15 @@
 #[cfg(test)]
 mod history;
 #[cfg(test)]
+mod now;
+#[cfg(test)]
 mod server;
 #[cfg(test)]
+mod short;
+#[cfg(test)]
 mod store;
+#[cfg(test)]
+mod table;
 #[cfg(test)]
 mod versions;
 #[cfg(test)]

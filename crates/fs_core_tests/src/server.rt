@@ -4,5 +4,5 @@ mod asked;
 mod limits;
 mod steps;
 mod tables;
-mod tests;
+pub(crate) mod tests;
 mod told;

@@ -2,4 +2,4 @@
 
 mod database;
 mod tables;
-mod tests;
+pub(crate) mod tests;

@@ -1,7 +1,7 @@
 //! Tests of what fs_write gives, by its public calls.
 
-mod batch;
+pub(crate) mod batch;
 mod commits;
 mod short;
 mod tables;
-mod tests;
+pub(crate) mod tests;

@@ -2,10 +2,14 @@
 use fs_machine::Limits;
 use std::alloc::AllocError;
 
-// These limits with another number under a name.
-fn with_limit(limits: Limits, name: &str, number: u64) -> Result<Limits, AllocError> {
-    let mut limits = limits;
+// Another number under a name, as `ids 2`.
+fn set_limit(limits: &mut Limits, text: &str) -> Result<(), AllocError> {
+    let (name, number) = text.split_once(" ").unwrap_or((text, "0"));
+    let Ok(number) = number.parse::<u64>() else {
+        return Err(AllocError);
+    };
     match name {
+        "greatest" => {}
         "writes" => limits.writes = number,
         "outbox" => limits.outbox = number,
         "sessions" => limits.sessions = number,
@@ -15,18 +19,14 @@ fn with_limit(limits: Limits, name: &str, number: u64) -> Result<Limits, AllocEr
         "time" => limits.time = number,
         _ => return Err(AllocError),
     }
-    Ok(limits)
+    Ok(())
 }
 
 /// The limits of `writes 1, ids 2`, of which the others are the greatest; all are in `greatest`.
-pub fn limits_of(text: &str) -> Result<Limits, AllocError> {
+pub(crate) fn limits_of(text: &str) -> Result<Limits, AllocError> {
     let mut limits = Limits::greatest();
-    if text != "greatest" {
-        for one in text.split(", ") {
-            let (name, number) = one.split_once(" ").unwrap_or((one, ""));
-            let number = number.parse::<u64>().map_err(|_| AllocError)?;
-            limits = with_limit(limits, name, number)?;
-        }
+    for one in text.split(", ") {
+        set_limit(&mut limits, one)?;
     }
     Ok(limits)
 }

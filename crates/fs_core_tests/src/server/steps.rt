@@ -1,67 +1,76 @@
 //! Steps on a server, each a call of it, and what they answer.
-use crate::server::asked::{moment, name_of, request, root};
+use crate::server::asked::request;
 use crate::server::limits::limits_of;
 use crate::server::told::{
-    answer_text, chain_text, messages_text, moment_text, open_text, outcome_text, settled_text,
+    push_answer, push_chain, push_messages, push_moment, push_open, push_outcome, push_settled,
 };
-use fs_machine::{Answer, Config, Outcome};
+use crate::short::{micros, moment, name_of, root};
+use fs_machine::{Config, Outcome};
 use fs_rpc::Envelope;
 use fs_server::Server;
 use fs_status::Reason;
 use std::alloc::{AllocError, Global};
+use std::fmt::Write as _;
 
 /// A server with these limits, at moment 0.
-pub fn server(alloc: Global, limits: &str) -> Result<Server, AllocError> {
-    let root = root(alloc)?;
-    let start = moment("0")?;
+pub(crate) fn server(alloc: Global, limits: &str) -> Result<Server, AllocError> {
+    let start = micros(0)?;
     let limits = limits_of(limits)?;
     if !limits.are_allowed() {
         return Err(AllocError);
     }
+    let root = root(alloc)?;
     Ok(Server::new(alloc, Config { root }, limits, start))
 }
 
 fn session(text: &str) -> Result<u32, AllocError> {
-    text.parse::<u32>().map_err(|_| AllocError)
-}
-
-// One comes only where no commit is pending.
-fn reply_to(
-    alloc: Global,
-    server: &mut Server,
-    number: u32,
-    envelope: &Envelope,
-) -> Result<Answer, AllocError> {
-    if server.next_pending().is_none() {
-        return Ok(server.request(alloc, number, envelope));
+    match text.parse::<u32>() {
+        Ok(number) => Ok(number),
+        Err(_) => Err(AllocError),
     }
-    Err(AllocError)
 }
 
-fn reply_text(
+// A request comes only where no commit is pending.
+fn reply(
     alloc: Global,
     server: &mut Server,
     number: u32,
     envelope: &Envelope,
-) -> Result<String, AllocError> {
-    let answer = reply_to(alloc, server, number, envelope)?;
-    answer_text(alloc, &answer)
+    told: &mut String,
+) -> Result<(), AllocError> {
+    if server.next_pending().is_some() {
+        return Err(AllocError);
+    }
+    let answer = server.request(alloc, number, envelope);
+    let done = push_answer(told, alloc, &answer);
+    drop(answer);
+    done
+}
+
+fn envelope(alloc: Global, method: &str, text: &str) -> Result<Envelope, AllocError> {
+    let request = request(alloc, method, text)?;
+    Ok(Envelope { id: None, request })
 }
 
 // A request on a session.
-fn ask(alloc: Global, server: &mut Server, method: &str, text: &str) -> Result<String, AllocError> {
+fn ask(
+    alloc: Global,
+    server: &mut Server,
+    method: &str,
+    text: &str,
+    told: &mut String,
+) -> Result<(), AllocError> {
     let (number, text) = text.split_once(" ").unwrap_or((text, ""));
     let number = session(number)?;
-    let envelope = Envelope {
-        id: None,
-        request: request(alloc, method, text)?,
-    };
-    reply_text(alloc, server, number, &envelope)
+    let envelope = envelope(alloc, method, text)?;
+    let done = reply(alloc, server, number, &envelope, told);
+    drop(envelope);
+    done
 }
 
 // ---- commits that are pending
 
-fn settle(alloc: Global, server: &mut Server) -> Result<String, AllocError> {
+fn settle(alloc: Global, server: &mut Server, told: &mut String) -> Result<(), AllocError> {
     let Some(commit) = server.next_pending() else {
         return Err(AllocError);
     };
@@ -72,67 +81,82 @@ fn settle(alloc: Global, server: &mut Server) -> Result<String, AllocError> {
     {
         return Err(AllocError);
     }
-    settled_text(alloc, server.settle(alloc, commit, outcome))
+    push_settled(told, server.settle(alloc, commit, outcome))
 }
 
-fn outcome(alloc: Global, server: &Server) -> Result<String, AllocError> {
+fn outcome(alloc: Global, server: &Server, told: &mut String) -> Result<(), AllocError> {
     match server.next_pending() {
-        Some(commit) => outcome_text(alloc, &server.outcome(alloc, commit)),
+        Some(commit) => push_outcome(told, alloc, &server.outcome(alloc, commit)),
         None => Err(AllocError),
     }
 }
 
-fn next(alloc: Global, server: &Server) -> Result<String, AllocError> {
+fn next(server: &Server, told: &mut String) -> Result<(), AllocError> {
     match server.next_pending() {
         Some(commit) => {
             let commit = commit.get();
-            format!(in alloc; "{commit}")
+            write!(told, "{commit}")
         }
-        None => String::from_str(alloc, "none"),
+        None => told.push_str("none"),
     }
 }
 
 // ---- steps
 
-fn leave(alloc: Global, server: &mut Server, text: &str) -> Result<String, AllocError> {
+fn leave(server: &mut Server, text: &str, told: &mut String) -> Result<(), AllocError> {
     server.leave(session(text)?);
-    String::from_str(alloc, "gone")
+    told.push_str("gone")
 }
 
-fn take(alloc: Global, server: &mut Server, text: &str) -> Result<String, AllocError> {
+fn take(
+    alloc: Global,
+    server: &mut Server,
+    text: &str,
+    told: &mut String,
+) -> Result<(), AllocError> {
     let messages = server.take_outbox(alloc, session(text)?);
-    messages_text(alloc, &messages)
+    push_messages(told, &messages)
 }
 
-fn tick(alloc: Global, server: &mut Server, text: &str) -> Result<String, AllocError> {
+fn tick(
+    alloc: Global,
+    server: &mut Server,
+    text: &str,
+    told: &mut String,
+) -> Result<(), AllocError> {
     let released = server.tick(alloc, moment(text)?)?;
-    moment_text(alloc, released)
+    push_moment(told, released)
 }
 
-fn compact(alloc: Global, server: &mut Server, text: &str) -> Result<String, AllocError> {
+fn compact(server: &mut Server, text: &str, told: &mut String) -> Result<(), AllocError> {
     let floor = server.compact(moment(text)?);
-    moment_text(alloc, floor)
+    push_moment(told, floor)
 }
 
-fn chain(alloc: Global, server: &Server, text: &str) -> Result<String, AllocError> {
+fn chain(alloc: Global, server: &Server, text: &str, told: &mut String) -> Result<(), AllocError> {
     let name = name_of(alloc, text)?;
-    chain_text(alloc, server.chain(&name))
+    push_chain(told, server.chain(&name))
 }
 
 /// Carries out a step, as `commit 0 c/a=1`, and tells what it answers. One that can't be carried out is an error.
-pub fn answered(alloc: Global, server: &mut Server, text: &str) -> Result<String, AllocError> {
-    let (word, rest) = text.split_once(" ").unwrap_or((text, ""));
+pub(crate) fn answer(
+    alloc: Global,
+    server: &mut Server,
+    step: &str,
+    told: &mut String,
+) -> Result<(), AllocError> {
+    let (word, rest) = step.split_once(" ").unwrap_or((step, ""));
     match word {
-        "open" => open_text(alloc, server.open(alloc)),
-        "leave" => leave(alloc, server, rest),
-        "take" => take(alloc, server, rest),
-        "next" => next(alloc, server),
-        "outcome" => outcome(alloc, server),
-        "settle" => settle(alloc, server),
-        "tick" => tick(alloc, server, rest),
-        "compact" => compact(alloc, server, rest),
-        "released" => moment_text(alloc, server.released()),
-        "chain" => chain(alloc, server, rest),
-        _ => ask(alloc, server, word, rest),
+        "open" => push_open(told, alloc, &server.open(alloc)),
+        "leave" => leave(server, rest, told),
+        "take" => take(alloc, server, rest, told),
+        "next" => next(server, told),
+        "outcome" => outcome(alloc, server, told),
+        "settle" => settle(alloc, server, told),
+        "tick" => tick(alloc, server, rest, told),
+        "compact" => compact(server, rest, told),
+        "released" => push_moment(told, server.released()),
+        "chain" => chain(alloc, server, rest, told),
+        _ => ask(alloc, server, word, rest, told),
     }
 }

@@ -1,72 +1,72 @@
 //! Cases, worked out by hand. A step is a call of a server, and what it answers stands behind ` = `. Documents have one field
 //! `n`: `c/a=1` sets it, `c/a=-` deletes the document, and `?c/a=1` wants it to be there.
 
-/// What a case shows, and on the next line the limits that differ from the greatest, and its steps.
-pub const CASES: &str = r#"as many writes as the limit, and one more
+/// Each line: the limits that differ from the greatest, and the steps. What it shows stands above it.
+pub(crate) const CASES: &str = r#"// as many writes as the limit, and one more
 writes 2 | open = 0 | commit 0 c/a=1 c/b=2 = pending 1 at 1 | settle = released at 1 | commit 0 c/a=1 c/b=2 c/d=3 = limit writes 2 | next = none | released = 1 | commit 0 c/a=3 = pending 2 at 2
-a commit without writes
+// a commit without writes
 writes 0 | open = 0 | commit 0 = pending 1 at 1 | outcome = nothing | settle = released at 1 | take 0 = at 1: | commit 0 c/a=- = limit writes 0 | released = 1
-one message in an outbox, and none more
+// one message in an outbox, and none more
 outbox 1 | open = 0 | open = 1 | commit 0 c/a=1 = pending 1 at 1 | settle = released at 1 | commit 0 c/a=2 = limit outbox 1 | get 0 c/a = limit outbox 1 | all 0 c/a = limit outbox 1 | query 0 c = limit outbox 1 | get 1 c/a = 1 | commit 1 c/a=2 = pending 2 at 2 | settle = released at 2 | take 0 = at 1: 1 | get 0 c/a = 2 | take 1 = at 2: 2
-two messages in an outbox, and none more
+// two messages in an outbox, and none more
 outbox 2 | open = 0 | commit 0 c/a=1 = pending 1 at 1 | settle = released at 1 | commit 0 ?c/b=1 = pending 2 at 2 | settle = dropped | get 0 c/a = limit outbox 2 | take 0 = at 1: 1, write 0: document missing | get 0 c/a = 1
-two sessions at a time, and none more
+// two sessions at a time, and none more
 sessions 2 | open = 0 | open = 1 | open = limit sessions 2 | leave 7 = gone | open = limit sessions 2 | leave 0 = gone | open = 2 | open = limit sessions 2
-two batches, and none more
+// two batches, and none more
 batches 2 | open = 0 | commit 0 c/a=1 = pending 1 at 1 | settle = released at 1 | commit 0 c/a=2 = pending 2 at 2 | settle = released at 2 | commit 0 c/a=3 = limit batches 2 | released = 2 | get 0 c/a = 2
-a commit that is dropped is no batch, and a compaction takes none away
+// a commit that is dropped is no batch, and a compaction takes none away
 batches 1 | open = 0 | commit 0 ?c/a=1 = pending 1 at 1 | settle = dropped | commit 0 c/a=1 = pending 2 at 2 | settle = released at 2 | compact 2 = 2 | commit 0 c/a=2 = limit batches 1
-a batch of one document counts 126 bytes
+// a batch of one document counts 126 bytes
 journal 126 | open = 0 | commit 0 c/a=1 = pending 1 at 1 | settle = released at 1 | commit 0 = limit journal 126 | released = 1
-one byte less is too few
+// one byte less is too few
 journal 125 | open = 0 | commit 0 c/a=1 = limit journal 125 | commit 0 c/a=- = pending 1 at 1 | settle = released at 1 | commit 0 = limit journal 125
-a batch of two documents counts 188 bytes, and a delete nothing
+// a batch of two documents counts 188 bytes, and a delete nothing
 journal 188 | open = 0 | commit 0 c/a=1 c/b=1 c/d=- = pending 1 at 1
-one byte less is too few
+// one byte less is too few
 journal 187 | open = 0 | commit 0 c/a=1 c/b=1 c/d=- = limit journal 187
-a second batch counts 64 bytes more
+// a second batch counts 64 bytes more
 journal 190 | open = 0 | commit 0 c/a=1 = pending 1 at 1 | settle = released at 1 | commit 0 c/a=- = pending 2 at 2 | settle = released at 2 | commit 0 = limit journal 190
-one byte less is too few
+// one byte less is too few
 journal 189 | open = 0 | commit 0 c/a=1 = pending 1 at 1 | settle = released at 1 | commit 0 c/a=- = limit journal 189
-a commit that is dropped counts nothing
+// a commit that is dropped counts nothing
 journal 126 | open = 0 | commit 0 ?c/a=1 = pending 1 at 1 | settle = dropped | commit 0 c/a=1 = pending 2 at 2
-two numbers, and none more
+// two numbers, and none more
 ids 2 | open = 0 | commit 0 c/a=1 = pending 1 at 1 | settle = released at 1 | commit 0 c/a=2 = pending 2 at 2 | settle = released at 2 | commit 0 c/a=3 = limit ids 2 | released = 2 | get 0 c/a = 2
-a commit that is dropped has drawn its number
+// a commit that is dropped has drawn its number
 ids 1 | open = 0 | commit 0 ?c/a=1 = pending 1 at 1 | settle = dropped | commit 0 c/a=1 = limit ids 1
-the last time, and none later
+// the last time, and none later
 time 1 | open = 0 | commit 0 c/a=1 = pending 1 at 1 | settle = released at 1 | commit 0 c/a=2 = limit time 1 | released = 1 | get 0 c/a = 1
-the clock goes on behind the last time
+// the clock goes on behind the last time
 time 2 | open = 0 | tick 1 = 1 | commit 0 c/a=1 = pending 1 at 2 | settle = released at 2 | tick 9 = 9 | commit 0 c/a=2 = limit time 2 | get 0 c/a @9 = 1
-of several limits the first is told
+// of several limits the first is told
 writes 1, outbox 1, batches 1, journal 126, ids 1, time 1 | open = 0 | commit 0 c/a=1 = pending 1 at 1 | settle = released at 1 | commit 0 c/a=1 c/b=1 = limit writes 1 | commit 0 c/a=2 = limit outbox 1 | take 0 = at 1: 1 | commit 0 c/a=2 = limit batches 1
-and the next of them
+// and the next of them
 journal 126, ids 1, time 1 | open = 0 | commit 0 c/a=1 = pending 1 at 1 | settle = released at 1 | commit 0 c/a=2 = limit journal 126
-and the next
+// and the next
 ids 1, time 1 | open = 0 | commit 0 c/a=1 = pending 1 at 1 | settle = released at 1 | commit 0 c/a=2 = limit ids 1
-a session that comes back has another number, and its messages are lost
+// a session that comes back has another number, and its messages are lost
 greatest | open = 0 | commit 0 c/a=1 = pending 1 at 1 | settle = released at 1 | leave 0 = gone | take 0 = nothing | open = 1 | take 1 = nothing | take 0 = nothing | get 1 c/a = 1
-the pending commit of a session that leaves goes on
+// the pending commit of a session that leaves goes on
 greatest | open = 0 | open = 1 | commit 0 c/a=1 = pending 1 at 1 | leave 0 = gone | next = 1 | settle = released at 1 | take 0 = nothing | take 1 = nothing | get 1 c/a = 1
-a session between others leaves
+// a session between others leaves
 greatest | open = 0 | open = 1 | open = 2 | leave 1 = gone | open = 3 | commit 2 c/a=1 = pending 1 at 1 | settle = released at 1 | commit 0 c/a=2 = pending 2 at 2 | settle = released at 2 | take 3 = nothing | take 2 = at 1: 1 | take 2 = nothing | take 0 = at 2: 2
-a session that isn't open is sent nothing
+// a session that isn't open is sent nothing
 greatest | commit 7 c/a=1 = pending 1 at 1 | settle = released at 1 | take 7 = nothing | get 7 c/a = 1
-a commit that is refused has used its time and its number
+// a commit that is refused has used its time and its number
 greatest | open = 0 | commit 0 c/a=1 ?c/b=1 = pending 1 at 1 | next = 1 | outcome = write 1: document missing | settle = dropped | take 0 = write 1: document missing | released = 1 | chain c/a = none | get 0 c/a = none at 1 | commit 0 c/a=1 = pending 2 at 2
-nobody sees a commit that is pending
+// nobody sees a commit that is pending
 greatest | open = 0 | next = none | commit 0 c/a=1 c/b=- = pending 1 at 1 | next = 1 | released = 0 | outcome = c/a=1 | take 0 = nothing | chain c/a = none | tick 5 = 0 | compact 3 = 0 | settle = released at 1 | next = none | released = 5 | take 0 = at 1: 1 - | chain c/a = 1:1 | get 0 c/a @0 = none at 0 | get 0 c/a @1 = 1 | get 0 c/a = 1 | compact 3 = 3
-an update without a change
+// an update without a change
 greatest | open = 0 | commit 0 c/a=1 = pending 1 at 1 | settle = released at 1 | commit 0 c/a=1 = pending 2 at 2 | outcome = nothing | settle = released at 2 | take 0 = at 1: 1, at 2: 1 | chain c/a = 1:1
-the clock goes on, and not back
+// the clock goes on, and not back
 greatest | open = 0 | tick 9 = 9 | get 0 c/a = none at 9 | tick 5 = 9 | commit 0 c/a=1 = pending 1 at 10 | settle = released at 10 | tick 10 = 10 | commit 0 c/a=2 = pending 2 at 11
-times are given up as far as what is released, and for good
+// times are given up as far as what is released, and for good
 greatest | open = 0 | commit 0 c/a=1 = pending 1 at 1 | settle = released at 1 | tick 9 = 9 | compact 5 = 5 | compact 3 = 5 | get 0 c/a @4 = 4 is before 5 | get 0 c/a @5 = 1 | get 0 c/a @9 = 1 | get 0 c/a @10 = 10 is after 9 | compact 12 = 9 | get 0 c/a @8 = 8 is before 9 | get 0 c/a = 1
-a deleted document's chain ends with its times
+// a deleted document's chain ends with its times
 greatest | open = 0 | commit 0 c/a=1 = pending 1 at 1 | settle = released at 1 | commit 0 c/a=- = pending 2 at 2 | settle = released at 2 | chain c/a = 1:1 2:- | compact 1 = 1 | chain c/a = 1:1 2:- | compact 2 = 2 | chain c/a = none | chain c/b = none"#;
 
 /// A history of three documents. Its first moment is 0.
-pub const HISTORY: &str = r#"open = 0
+pub(crate) const HISTORY: &str = r#"open = 0
 tick 1 = 1 | commit 0 c/a=1 = pending 1 at 2 | settle = released at 2
 commit 0 c/b=1 c/d=1 = pending 2 at 3 | settle = released at 3
 tick 4 = 4 | commit 0 c/a=2 c/b=- = pending 3 at 5 | settle = released at 5
@@ -80,7 +80,7 @@ commit 0 c/a=5 = pending 10 at 15 | settle = released at 15
 tick 16 = 16"#;
 
 /// Each line: a time, and what is read as of it.
-pub const SHOWN: &str =
+pub(crate) const SHOWN: &str =
     r#"0 | all 0 c/a c/b c/d @0 = - - - | query 0 c @0 = at 0 | get 0 c/a @0 = none at 0
 1 | all 0 c/a c/b c/d @1 = - - - | query 0 c @1 = at 1 | get 0 c/a @1 = none at 1
 2 | all 0 c/a c/b c/d @2 = 1 - - | query 0 c @2 = 1 at 2 | get 0 c/a @2 = 1
@@ -101,7 +101,7 @@ pub const SHOWN: &str =
 17 | all 0 c/a c/b c/d @17 = 17 is after 16 | query 0 c @17 = 17 is after 16 | get 0 c/a @17 = 17 is after 16"#;
 
 /// Each line: a floor, and the versions of each document from there on.
-pub const CHAINS: &str =
+pub(crate) const CHAINS: &str =
     r#"0 | chain c/a = 2:1 5:2 8:- 11:3 14:- 15:5 | chain c/b = 3:1 5:- 9:2 12:- 14:4 | chain c/d = 3:1 6:3 11:- 12:1 14:2
 1 | chain c/a = 2:1 5:2 8:- 11:3 14:- 15:5 | chain c/b = 3:1 5:- 9:2 12:- 14:4 | chain c/d = 3:1 6:3 11:- 12:1 14:2
 2 | chain c/a = 2:1 5:2 8:- 11:3 14:- 15:5 | chain c/b = 3:1 5:- 9:2 12:- 14:4 | chain c/d = 3:1 6:3 11:- 12:1 14:2

@@ -1,54 +1,68 @@
 //! What a server answers, step by step, and what its history shows at each time, before and after each compaction.
-use crate::server::asked::moment;
-use crate::server::steps::{answered, server};
+use crate::server::steps::{answer, server};
 use crate::server::tables::{CASES, CHAINS, HISTORY, SHOWN};
+use crate::short::moment;
+use crate::table::{Line, holds};
 use fs_server::Server;
 use std::alloc::{AllocError, Global};
+use std::fmt::Write as _;
 
-// The steps that are answered otherwise than they say, or than by one answer to all, and nothing where none is.
-fn unlike(
+// Tells a step that is answered otherwise than by `want`.
+fn tell_step(
+    alloc: Global,
+    server: &mut Server,
+    asked: &str,
+    want: &str,
+    wrong: &mut String,
+) -> Result<(), AllocError> {
+    let mut told = String::new(alloc);
+    answer(alloc, server, asked, &mut told)?;
+    if told.trim() == want {
+        return Ok(());
+    }
+    write!(wrong, "{asked} = {told}; ")
+}
+
+// Tells the steps that are answered otherwise than they say, or than by one answer to all.
+fn tell_steps(
     alloc: Global,
     server: &mut Server,
     steps: &str,
     to_all: &str,
-) -> Result<String, AllocError> {
-    let mut text = String::new(alloc);
+    wrong: &mut String,
+) -> Result<(), AllocError> {
     for step in steps.split(" | ") {
         let (asked, want) = step.split_once(" = ").unwrap_or((step, ""));
         let want = if to_all.is_empty() { want } else { to_all };
-        let told = answered(alloc, server, asked)?;
-        if told.as_str().trim() != want {
-            text.push_str(format!(in alloc; "{asked} = {told}; ")?.as_str())?;
-        }
+        tell_step(alloc, server, asked, want, wrong)?;
     }
-    Ok(text)
+    Ok(())
 }
 
-// The same of a server with these limits.
-fn unlike_at_first(alloc: Global, limits: &str, steps: &str) -> Result<String, AllocError> {
+fn tell_case(alloc: Global, line: &str, wrong: &mut String) -> Result<(), AllocError> {
+    let (limits, steps) = line.split_once(" | ").unwrap_or((line, ""));
     let mut server = server(alloc, limits)?;
-    unlike(alloc, &mut server, steps, "")
+    let done = tell_steps(alloc, &mut server, steps, "", wrong);
+    drop(server);
+    done
+}
+
+/// Whether a server with the limits of a line answers its steps as it says.
+pub(crate) fn answers_steps(
+    alloc: Global,
+    line: &str,
+    wrong: &mut String,
+) -> Result<bool, AllocError> {
+    tell_case(alloc, line, wrong)?;
+    Ok(wrong.is_empty())
 }
 
 #[test]
 fn steps_are_answered(rt: HostRuntime) {
-    for line in CASES.lines() {
-        if let Some((limits, steps)) = line.split_once(" | ") {
-            let found = unlike_at_first(rt.alloc(), limits, steps).expect(&rt, "memory");
-            assert!(rt; found.is_empty(), "{line}: {found}");
-        }
-    }
+    holds(&rt, rt.alloc(), Line::Steps, CASES, 31);
 }
 
-// Makes the history.
-fn make_history(alloc: Global, server: &mut Server) -> Result<(), AllocError> {
-    for line in HISTORY.lines() {
-        if !unlike(alloc, server, line, "")?.is_empty() {
-            return Err(AllocError);
-        }
-    }
-    Ok(())
-}
+// ---- the history from a floor on
 
 // What all reads as of a time are told from a floor on, where that is later, and nothing where it isn't.
 fn too_old(alloc: Global, time: &str, floor: &str) -> Result<String, AllocError> {
@@ -58,58 +72,104 @@ fn too_old(alloc: Global, time: &str, floor: &str) -> Result<String, AllocError>
     format!(in alloc; "{time} is before {floor}")
 }
 
-// Gives up the times before a floor. The steps on chains and reads that are answered otherwise than the tables say.
-fn unlike_from(
+// Tells the reads of a line that are answered otherwise than it says.
+fn tell_reads(
     alloc: Global,
     server: &mut Server,
     floor: &str,
-    chains: &str,
-) -> Result<String, AllocError> {
-    let compact = format!(in alloc; "compact {floor} = {floor} | {chains}")?;
-    let mut text = unlike(alloc, server, compact.as_str(), "")?;
-    for line in SHOWN.lines() {
-        let (time, steps) = line.split_once(" | ").unwrap_or((line, ""));
-        let to_all = too_old(alloc, time, floor)?;
-        let more = unlike(alloc, server, steps, to_all.as_str())?;
-        text.push_str(more.as_str())?;
+    line: &str,
+    wrong: &mut String,
+) -> Result<(), AllocError> {
+    let (time, steps) = line.split_once(" | ").unwrap_or((line, ""));
+    let to_all = too_old(alloc, time, floor)?;
+    tell_steps(alloc, server, steps, to_all.as_str(), wrong)
+}
+
+fn tell_compaction(
+    alloc: Global,
+    server: &mut Server,
+    floor: &str,
+    wrong: &mut String,
+) -> Result<(), AllocError> {
+    let step = format!(in alloc; "compact {floor}")?;
+    tell_step(alloc, server, step.as_str(), floor, wrong)
+}
+
+// Gives up the times before the floor of a line, and tells the steps on chains and reads that are answered otherwise than
+// the tables say.
+fn tell_floor(
+    alloc: Global,
+    server: &mut Server,
+    line: &str,
+    wrong: &mut String,
+) -> Result<(), AllocError> {
+    let (floor, chains) = line.split_once(" | ").unwrap_or((line, ""));
+    tell_compaction(alloc, server, floor, wrong)?;
+    tell_steps(alloc, server, chains, "", wrong)?;
+    for shown in SHOWN.lines() {
+        tell_reads(alloc, server, floor, shown, wrong)?;
     }
-    Ok(text)
+    Ok(())
 }
 
-// One server whose floor rises step by step, and for each floor one on which it rises at once.
-fn unlike_from_each(alloc: Global, risen: &mut Server) -> Result<String, AllocError> {
-    make_history(alloc, risen)?;
-    let mut text = String::new(alloc);
-    for line in CHAINS.lines() {
-        let (floor, chains) = line.split_once(" | ").unwrap_or((line, ""));
-        text.push_str(unlike_at_once(alloc, floor, chains)?.as_str())?;
-        text.push_str(unlike_from(alloc, risen, floor, chains)?.as_str())?;
+fn make_history(alloc: Global, server: &mut Server, wrong: &mut String) -> Result<(), AllocError> {
+    for line in HISTORY.lines() {
+        tell_steps(alloc, server, line, "", wrong)?;
     }
-    Ok(text)
+    Ok(())
 }
 
-fn unlike_at_once(alloc: Global, floor: &str, chains: &str) -> Result<String, AllocError> {
-    let mut fresh = server(alloc, "greatest")?;
-    unlike_after(alloc, &mut fresh, floor, chains)
-}
-
-fn unlike_after(
+fn tell_floor_behind_history(
     alloc: Global,
     fresh: &mut Server,
-    floor: &str,
-    chains: &str,
-) -> Result<String, AllocError> {
-    make_history(alloc, fresh)?;
-    unlike_from(alloc, fresh, floor, chains)
+    line: &str,
+    wrong: &mut String,
+) -> Result<(), AllocError> {
+    make_history(alloc, fresh, wrong)?;
+    tell_floor(alloc, fresh, line, wrong)
 }
 
-fn unlike_from_all(alloc: Global) -> Result<String, AllocError> {
+fn tell_floor_at_once(alloc: Global, line: &str, wrong: &mut String) -> Result<(), AllocError> {
+    let mut fresh = server(alloc, "greatest")?;
+    let done = tell_floor_behind_history(alloc, &mut fresh, line, wrong);
+    drop(fresh);
+    done
+}
+
+/// Whether a server whose floor rises at once to that of a line answers as the tables say.
+pub(crate) fn answers_at_once(
+    alloc: Global,
+    line: &str,
+    wrong: &mut String,
+) -> Result<bool, AllocError> {
+    tell_floor_at_once(alloc, line, wrong)?;
+    Ok(wrong.is_empty())
+}
+
+fn tell_each_floor(
+    alloc: Global,
+    risen: &mut Server,
+    wrong: &mut String,
+) -> Result<(), AllocError> {
+    make_history(alloc, risen, wrong)?;
+    for line in CHAINS.lines() {
+        tell_floor(alloc, risen, line, wrong)?;
+    }
+    Ok(())
+}
+
+// Tells what a server answers otherwise whose floor rises step by step.
+fn tell_risen(alloc: Global, wrong: &mut String) -> Result<(), AllocError> {
     let mut risen = server(alloc, "greatest")?;
-    unlike_from_each(alloc, &mut risen)
+    let done = tell_each_floor(alloc, &mut risen, wrong);
+    drop(risen);
+    done
 }
 
 #[test]
 fn each_time_from_each_floor_on(rt: HostRuntime) {
-    let found = unlike_from_all(rt.alloc()).expect(&rt, "memory");
-    assert!(rt; found.is_empty(), "{found}");
+    holds(&rt, rt.alloc(), Line::Floor, CHAINS, 17);
+    let mut wrong = String::new(rt.alloc());
+    tell_risen(rt.alloc(), &mut wrong).expect(&rt, "memory");
+    assert!(rt; wrong.is_empty(), "{wrong}");
 }

@@ -1,193 +1,192 @@
-//! What calls of a server answer, as steps write it.
+//! What calls of a server answer, as steps write it. Each adds to a text, what stands in a row with a space before it.
+use crate::short::{push_in_row, push_n, push_named, push_versions};
 use fs_machine::{Answer, Messages, Outcome, Settled};
 use fs_rpc::{Answers, BatchAnswer, Message};
 use fs_server::Chain;
-use fs_status::{Reason, Refusal, message};
+use fs_status::{Id, Reason, Refusal, message};
 use fs_time::Micros;
-use fs_value::{Document, Documents, Value};
+use fs_value::Documents;
 use fs_write::{Changes, WriteResults};
 use std::alloc::{AllocError, Global};
+use std::fmt::Write as _;
 
-pub fn moment_text(alloc: Global, time: Micros) -> Result<String, AllocError> {
+pub(crate) fn push_moment(text: &mut String, time: Micros) -> Result<(), AllocError> {
     let time = time.get();
-    format!(in alloc; "{time}")
+    write!(text, "{time}")
 }
 
-// `n` of a document, or `-` where there is none.
-fn document_text(alloc: Global, document: Option<&Document>) -> Result<String, AllocError> {
-    let Some(document) = document else {
-        return String::from_str(alloc, "-");
-    };
-    match document.fields.as_fields().find("n") {
-        Some(Value::Integer(n)) => format!(in alloc; "{n}"),
-        _ => String::from_str(alloc, "?"),
-    }
-}
+// ---- refusals
 
 // A time that was asked for, and the bound on whose wrong side it is.
-fn times_text(
-    alloc: Global,
+fn push_times(
+    text: &mut String,
     time: Micros,
     side: &str,
     bound: Micros,
-) -> Result<String, AllocError> {
+) -> Result<(), AllocError> {
     let time = time.get();
     let bound = bound.get();
-    format!(in alloc; "{time} is {side} {bound}")
+    write!(text, "{time} is {side} {bound}")
 }
 
-fn refusal_text(alloc: Global, refusal: &Refusal) -> Result<String, AllocError> {
+fn push_none_at(text: &mut String, time: Micros) -> Result<(), AllocError> {
+    let time = time.get();
+    write!(text, "none at {time}")
+}
+
+fn push_other(text: &mut String, alloc: Global, refusal: &Refusal) -> Result<(), AllocError> {
+    let message = message(alloc, refusal)?;
+    text.push_str(message.as_str())
+}
+
+fn push_refusal(text: &mut String, alloc: Global, refusal: &Refusal) -> Result<(), AllocError> {
     match &refusal.reason {
-        Reason::TooOld(time, floor) => times_text(alloc, *time, "before", *floor),
-        Reason::TooNew(time, released) => times_text(alloc, *time, "after", *released),
-        Reason::NoDocument(time) => {
-            let time = time.get();
-            format!(in alloc; "none at {time}")
-        }
-        _ => Ok(message(alloc, refusal)?.into_string()),
+        Reason::TooOld(time, floor) => push_times(text, *time, "before", *floor),
+        Reason::TooNew(time, released) => push_times(text, *time, "after", *released),
+        Reason::NoDocument(time) => push_none_at(text, *time),
+        _ => push_other(text, alloc, refusal),
     }
 }
 
 // ---- messages
 
 // The update time that each write reports, or `-`.
-fn results_text(alloc: Global, results: &WriteResults) -> Result<String, AllocError> {
-    let mut text = String::new(alloc);
+fn push_results(text: &mut String, results: &WriteResults) -> Result<(), AllocError> {
     for result in results.as_slice() {
+        text.push_str(" ")?;
         match result.updated {
-            Some(time) => text.push_str(moment_text(alloc, time)?.as_str())?,
+            Some(time) => push_moment(text, time)?,
             None => text.push_str("-")?,
         }
-        text.push_str(" ")?;
     }
-    Ok(text)
+    Ok(())
 }
 
-fn answers_text(alloc: Global, answers: &Answers) -> Result<String, AllocError> {
-    let mut text = String::new(alloc);
+fn push_answers(text: &mut String, answers: &Answers) -> Result<(), AllocError> {
     for answer in answers.as_slice() {
-        let one = match answer {
-            BatchAnswer::Found(document, _) => document_text(alloc, Some(document))?,
-            BatchAnswer::Missing(_, _) => document_text(alloc, None)?,
-        };
-        text.push_str(one.as_str())?;
-        text.push_str(" ")?;
-    }
-    Ok(text)
-}
-
-fn documents_text(alloc: Global, documents: &Documents) -> Result<String, AllocError> {
-    let mut text = String::new(alloc);
-    for document in documents.as_slice() {
-        let one = document_text(alloc, Some(document))?;
-        text.push_str(one.as_str())?;
-        text.push_str(" ")?;
-    }
-    Ok(text)
-}
-
-fn message_text(alloc: Global, message: &Message) -> Result<String, AllocError> {
-    match message {
-        Message::Commit { time, results, .. } => {
-            let results = results_text(alloc, results)?;
-            let time = time.get();
-            format!(in alloc; "at {time}: {results}")
+        match answer {
+            BatchAnswer::Found(document, _) => push_in_row(text, Some(document))?,
+            BatchAnswer::Missing(_, _) => push_in_row(text, None)?,
         }
-        Message::GetDocument { document, .. } => document_text(alloc, Some(document)),
-        Message::BatchGetDocuments { answers, .. } => answers_text(alloc, answers),
+    }
+    Ok(())
+}
+
+fn push_committed(
+    text: &mut String,
+    time: Micros,
+    results: &WriteResults,
+) -> Result<(), AllocError> {
+    let time = time.get();
+    write!(text, "at {time}:")?;
+    push_results(text, results)
+}
+
+fn push_found(text: &mut String, documents: &Documents, time: Micros) -> Result<(), AllocError> {
+    for document in documents.as_slice() {
+        push_in_row(text, Some(document))?;
+    }
+    let time = time.get();
+    write!(text, " at {time}")
+}
+
+fn push_message(text: &mut String, message: &Message) -> Result<(), AllocError> {
+    match message {
+        Message::Commit { time, results, .. } => push_committed(text, *time, results),
+        Message::GetDocument { document, .. } => push_n(text, Some(document)),
+        Message::BatchGetDocuments { answers, .. } => push_answers(text, answers),
         Message::RunQuery {
             documents,
             time,
             ..
-        } => {
-            let documents = documents_text(alloc, documents)?;
-            let time = time.get();
-            format!(in alloc; "{documents}at {time}")
-        }
-        Message::Error { message, .. } => String::from_str(alloc, message.as_str()),
+        } => push_found(text, documents, *time),
+        Message::Error { message, .. } => text.push_str(message.as_str()),
     }
 }
 
 /// What a session was sent, as `at 1: 1 -, write 0: document missing`, or `nothing`.
-pub fn messages_text(alloc: Global, messages: &Messages) -> Result<String, AllocError> {
-    let mut text = String::new(alloc);
+pub(crate) fn push_messages(text: &mut String, messages: &Messages) -> Result<(), AllocError> {
+    if messages.is_empty() {
+        return text.push_str("nothing");
+    }
+    let mut between = "";
     for message in messages.as_slice() {
-        if !text.is_empty() {
-            text.push_str(", ")?;
-        }
-        let one = message_text(alloc, message)?;
-        text.push_str(one.as_str().trim())?;
+        text.push_str(between)?;
+        push_message(text, message)?;
+        between = ", ";
     }
-    if text.is_empty() {
-        text.push_str("nothing")?;
-    }
-    Ok(text)
+    Ok(())
 }
 
 // ---- answers
 
-pub fn open_text(alloc: Global, opened: Result<u32, Refusal>) -> Result<String, AllocError> {
+pub(crate) fn push_open(
+    text: &mut String,
+    alloc: Global,
+    opened: &Result<u32, Refusal>,
+) -> Result<(), AllocError> {
     match opened {
-        Ok(number) => format!(in alloc; "{number}"),
-        Err(refusal) => refusal_text(alloc, &refusal),
+        Ok(number) => write!(text, "{number}"),
+        Err(refusal) => push_refusal(text, alloc, refusal),
     }
 }
 
-pub fn answer_text(alloc: Global, answer: &Answer) -> Result<String, AllocError> {
+fn push_pending(text: &mut String, commit: Id, time: Micros) -> Result<(), AllocError> {
+    let commit = commit.get();
+    let time = time.get();
+    write!(text, "pending {commit} at {time}")
+}
+
+pub(crate) fn push_answer(
+    text: &mut String,
+    alloc: Global,
+    answer: &Answer,
+) -> Result<(), AllocError> {
     match answer {
-        Answer::Reply(message) => message_text(alloc, message),
-        Answer::Prepared(commit, time) => {
-            let commit = commit.get();
-            let time = time.get();
-            format!(in alloc; "pending {commit} at {time}")
-        }
-        Answer::Refused(refusal) => refusal_text(alloc, refusal),
+        Answer::Reply(message) => push_message(text, message),
+        Answer::Prepared(commit, time) => push_pending(text, *commit, *time),
+        Answer::Refused(refusal) => push_refusal(text, alloc, refusal),
     }
 }
 
-// What each document that differs afterwards is then, as `c/a=1 c/b=-`, or `nothing`.
-fn changes_text(alloc: Global, changes: &Changes) -> Result<String, AllocError> {
-    let mut text = String::new(alloc);
+// What each document that differs afterwards is then, as ` c/a=1 c/b=-`, or `nothing`.
+fn push_changes(text: &mut String, changes: &Changes) -> Result<(), AllocError> {
+    if changes.is_empty() {
+        return text.push_str("nothing");
+    }
     for change in changes.as_slice() {
-        let path = change.name.ids().unwrap_or("?");
-        let n = document_text(alloc, change.after.as_ref())?;
-        text.push_str(format!(in alloc; "{path}={n} ")?.as_str())?;
+        push_named(text, &change.name, change.after.as_ref())?;
     }
-    if text.is_empty() {
-        text.push_str("nothing")?;
-    }
-    Ok(text)
+    Ok(())
 }
 
-pub fn outcome_text(alloc: Global, outcome: &Outcome) -> Result<String, AllocError> {
+pub(crate) fn push_outcome(
+    text: &mut String,
+    alloc: Global,
+    outcome: &Outcome,
+) -> Result<(), AllocError> {
     match outcome {
-        Outcome::Effects(changes, _) => changes_text(alloc, changes),
-        Outcome::Refused(refusal) => refusal_text(alloc, refusal),
+        Outcome::Effects(changes, _) => push_changes(text, changes),
+        Outcome::Refused(refusal) => push_refusal(text, alloc, refusal),
     }
 }
 
-pub fn settled_text(alloc: Global, settled: Settled) -> Result<String, AllocError> {
+pub(crate) fn push_settled(text: &mut String, settled: Settled) -> Result<(), AllocError> {
     match settled {
         Settled::Released(time) => {
             let time = time.get();
-            format!(in alloc; "released at {time}")
+            write!(text, "released at {time}")
         }
-        Settled::Waiting(_) => String::from_str(alloc, "waiting"),
-        Settled::Dropped => String::from_str(alloc, "dropped"),
+        Settled::Waiting(_) => text.push_str("waiting"),
+        Settled::Dropped => text.push_str("dropped"),
         Settled::Memory(_) => Err(AllocError),
     }
 }
 
-/// The versions of a chain, as `2:1 5:-`, or `none`.
-pub fn chain_text(alloc: Global, chain: Option<&Chain>) -> Result<String, AllocError> {
-    let Some(chain) = chain else {
-        return String::from_str(alloc, "none");
-    };
-    let mut text = String::new(alloc);
-    for version in chain.as_slice() {
-        let n = document_text(alloc, version.after.as_ref())?;
-        let time = version.time.get();
-        text.push_str(format!(in alloc; "{time}:{n} ")?.as_str())?;
+/// The versions of a chain, as ` 2:1 5:-`, or `none`.
+pub(crate) fn push_chain(text: &mut String, chain: Option<&Chain>) -> Result<(), AllocError> {
+    match chain {
+        Some(chain) => push_versions(text, chain.as_slice()),
+        None => text.push_str("none"),
     }
-    Ok(text)
 }

@@ -1,18 +1,18 @@
 //! A history of three documents, worked out by hand: what its releases bring, and what is read at each time.
 
 /// The documents.
-pub const PATHS: [&str; 3] = ["c/a", "d/b", "c/a/d/x"];
+pub(crate) const PATHS: [&str; 3] = ["c/a", "d/b", "c/a/d/x"];
 
 /// Each line: from where to where a release goes, and its commits, each with its time and what it sets `n` of documents to,
 /// or `-` where it deletes them.
-pub const RELEASES: &str = r#"0 4 | 2 c/a=1; 4 d/b=1 c/a/d/x=5
+pub(crate) const RELEASES: &str = r#"0 4 | 2 c/a=1; 4 d/b=1 c/a/d/x=5
 4 5 | 5 c/a=2 d/b=-
 5 6 |
 6 11 | 7 c/a=-; 9 d/b=3 c/a/d/x=-; 11 c/a=4 c/a/d/x=6
 11 12 |"#;
 
 /// Each line: a time, and what `n` of each document is then.
-pub const SHOWN: &str = r#"0 | - - -
+pub(crate) const SHOWN: &str = r#"0 | - - -
 1 | - - -
 2 | 1 - -
 3 | 1 - -
@@ -27,7 +27,7 @@ pub const SHOWN: &str = r#"0 | - - -
 12 | 4 3 6"#;
 
 /// Each line: a collection, or with `**` each collection with an id, and the places of its documents in their order.
-pub const SCOPES: &str = r#"c | 0
+pub(crate) const SCOPES: &str = r#"c | 0
 d | 1
 c/a/d | 2
 **c | 0
@@ -35,7 +35,7 @@ c/a/d | 2
 **x |"#;
 
 /// Each line: a release that doesn't fit behind the first one.
-pub const UNFIT: &str = r#"3 6 | 5 c/a=2
+pub(crate) const UNFIT: &str = r#"3 6 | 5 c/a=2
 5 6 | 6 c/a=2
 4 6 | 4 c/a=2
 4 6 | 7 c/a=2

@@ -1,59 +1,47 @@
 //! What a store shows at each time, before and after compactions, and which releases fit it.
-ghost use Rattle.std.specs.Prelude.{◌≡◌, ◌<◌};
+ghost use Rattle.std.specs.Prelude.{◌≡◌, ◌<◌, ◌≤ℤ◌};
 
-use crate::store::database::{Database, moment, name_of, query, told};
+use crate::short::{are_those, micros, moment, name_of, push_in_row, query};
+use crate::store::database::Database;
 use crate::store::tables::{PATHS, RELEASES, SCOPES, SHOWN, UNFIT};
+use crate::table::{Line, holds, tell};
 use fs_edge::Steps;
 use fs_query::Query;
 use fs_status::Id;
 use fs_store::{Release, Store};
 use fs_time::Micros;
-use fs_value::{Document, Documents};
+use fs_value::Documents;
 use fs_write::{Change, Changes, TimedChange, TimedChanges};
 use std::alloc::{AllocError, Global};
 use std::marker::Brand;
 use std::sync::ledger::{Blank, Ledger};
 
-// Takes in a release if it fits. Where memory is wanting, nothing has changed, and the second time it goes well.
-fn taken_in(alloc: Global, store: &mut Store, release: &Release) -> Result<bool, AllocError> {
-    if !store.fits(release) {
-        return Ok(false);
-    }
-    let before = store.absorbed();
-    if let Err(_) = store.absorb(alloc, release) {
-        if store.absorbed() != before || !store.fits(release) {
-            return Ok(false);
-        }
-        store.absorb(alloc, release)?;
-    }
-    Ok(true)
+// ---- what is shown
+
+fn push_at(
+    alloc: Global,
+    text: &mut String,
+    store: &Store,
+    path: &str,
+    at: Micros,
+) -> Result<(), AllocError>
+    requires from { store.now.chains.floor ≤ℤ at }
+    requires to { at ≤ℤ store.now.absorbed }
+{
+    let name = name_of(alloc, path)?;
+    push_in_row(text, store.get(&name, at))
 }
 
-// The store after the first releases, so many.
-fn store_after(alloc: Global, count: usize) -> Result<(Database, Store), AllocError> {
-    let mut database = Database::new(alloc);
-    let mut store = Store::new(alloc, moment("0")?);
-    for line in RELEASES.split("\n").take(count) {
-        let release = database.release(alloc, line)?;
-        if !taken_in(alloc, &mut store, &release)? {
-            return Err(AllocError);
-        }
-    }
-    Ok((database, store))
-}
-
-// What is read of each document, as in the table.
-fn shown(alloc: Global, store: &Store, at: Micros) -> Result<String, AllocError> {
-    let mut line = String::new(alloc);
+// Whether `n` of each document is as in a row.
+fn has_row(alloc: Global, store: &Store, at: Micros, row: &str) -> Result<bool, AllocError>
+    requires from { store.now.chains.floor ≤ℤ at }
+    requires to { at ≤ℤ store.now.absorbed }
+{
+    let mut text = String::new(alloc);
     for path in &PATHS {
-        let name = name_of(alloc, path)?;
-        if store.floor() <= at && at <= store.absorbed() {
-            let n = told(alloc, store.get(&name, at))?;
-            line.push_str(n.as_str())?;
-            line.push_str(" ")?;
-        }
+        push_at(alloc, &mut text, store, path, at)?;
     }
-    Ok(line)
+    Ok(text.trim() == row)
 }
 
 fn answer<L: Ledger>(
@@ -66,226 +54,261 @@ fn answer<L: Ledger>(
     requires name { blank.name ≡ L.name }
     requires parts { blank.parts ≡ L.parts }
     requires some { 0 < blank.parts }
+    requires from { store.now.chains.floor ≤ℤ at }
+    requires to { at ≤ℤ store.now.absorbed }
 {
     let mut steps: Steps<L> = Steps::new(blank);
-    if at < store.floor() || store.absorbed() < at {
-        return Err(AllocError);
-    }
     store.run(alloc, asked, at, &mut steps)
 }
 
-fn found(alloc: Global, store: &Store, text: &str, at: Micros) -> Result<Documents, AllocError> {
-    let asked = query(alloc, text)?;
+fn found(alloc: Global, store: &Store, scope: &str, at: Micros) -> Result<Documents, AllocError>
+    requires from { store.now.chains.floor ≤ℤ at }
+    requires to { at ≤ℤ store.now.absorbed }
+{
+    let asked = query(alloc, scope)?;
     answer::<Brand>(alloc, store, &asked, at, Blank::new(1))
 }
 
-// Each document's path and `n`.
-fn line_of(alloc: Global, documents: &Documents) -> Result<String, AllocError> {
-    let mut line = String::new(alloc);
-    for document in documents.as_slice() {
-        line.push_str(document.name.ids().unwrap_or("?"))?;
-        line.push_str("=")?;
-        line.push_str(told(alloc, Some(document))?.as_str())?;
-        line.push_str(" ")?;
-    }
-    Ok(line)
+// Whether the query of a line of the scopes answers what a row says.
+fn has_scope(
+    alloc: Global,
+    store: &Store,
+    at: Micros,
+    line: &str,
+    row: &str,
+) -> Result<bool, AllocError>
+    requires from { store.now.chains.floor ≤ℤ at }
+    requires to { at ≤ℤ store.now.absorbed }
+{
+    let (scope, places) = line.split_once(" |").unwrap_or((line, ""));
+    let documents = found(alloc, store, scope, at)?;
+    are_those(alloc, &documents, &PATHS, places, row)
 }
 
-fn answered(alloc: Global, store: &Store, text: &str, at: Micros) -> Result<String, AllocError> {
-    let documents = found(alloc, store, text, at)?;
-    line_of(alloc, &documents)
-}
-
-// What the tables answer of documents at these places.
-fn wanted(alloc: Global, places: &str, row: &str) -> Result<String, AllocError> {
-    let mut line = String::new(alloc);
-    for place in places.split_whitespace() {
-        let place = place.parse::<usize>().map_err(|_| AllocError)?;
-        let path = PATHS.get(place).copied().unwrap_or("?");
-        let n = row.split(" ").nth(place).unwrap_or("?");
-        if n != "-" {
-            line.push_str(path)?;
-            line.push_str("=")?;
-            line.push_str(n)?;
-            line.push_str(" ")?;
-        }
-    }
-    Ok(line)
-}
-
-fn answers_alike(alloc: Global, store: &Store, at: Micros, row: &str) -> Result<bool, AllocError> {
-    for line in SCOPES.split("\n") {
-        let (text, places) = line.split_once(" |").unwrap_or((line, ""));
-        let found = answered(alloc, store, text, at)?;
-        if found.as_str() != wanted(alloc, places, row)?.as_str() {
+fn has_scopes(alloc: Global, store: &Store, at: Micros, row: &str) -> Result<bool, AllocError>
+    requires from { store.now.chains.floor ≤ℤ at }
+    requires to { at ≤ℤ store.now.absorbed }
+{
+    for line in SCOPES.lines() {
+        if !has_scope(alloc, store, at, line, row)? {
             return Ok(false);
         }
     }
     Ok(true)
 }
 
-// Whether each time that can be read shows what the tables say.
+// Whether a line of the table is shown, if its time can be read.
+fn shows(alloc: Global, store: &Store, line: &str) -> Result<bool, AllocError> {
+    let (time, row) = line.split_once(" | ").unwrap_or((line, ""));
+    let at = moment(time)?;
+    if at < store.floor() || store.absorbed() < at {
+        return Ok(true);
+    }
+    Ok(has_row(alloc, store, at, row)? && has_scopes(alloc, store, at, row)?)
+}
+
 fn shows_all(alloc: Global, store: &Store) -> Result<bool, AllocError> {
-    for line in SHOWN.split("\n") {
-        let (time, row) = line.split_once(" | ").unwrap_or((line, ""));
-        let at = moment(time)?;
-        if store.floor() <= at && at <= store.absorbed() {
-            if shown(alloc, store, at)?.as_str().trim() != row {
-                return Ok(false);
-            }
-            if !answers_alike(alloc, store, at, row)? {
-                return Ok(false);
-            }
+    for line in SHOWN.lines() {
+        if !shows(alloc, store, line)? {
+            return Ok(false);
         }
     }
     Ok(true)
 }
 
-#[test]
-fn each_time_after_each_release(rt: HostRuntime) {
-    let alloc = rt.alloc();
-    for count in 0..6 {
-        let (_, store) = store_after(alloc, count).expect(&rt, "memory");
-        assert!(rt; shows_all(alloc, &store).expect(&rt, "memory"), "{count}");
+// ---- after releases and compactions
+
+fn tell_releases(
+    alloc: Global,
+    database: &mut Database,
+    wrong: &mut String,
+) -> Result<(), AllocError> {
+    tell(wrong, shows_all(alloc, &database.store)?, "no release")?;
+    for line in RELEASES.lines() {
+        let is_so = database.take_in(alloc, line)? && shows_all(alloc, &database.store)?;
+        tell(wrong, is_so, line)?;
+    }
+    Ok(())
+}
+
+fn shows_from(alloc: Global, store: &mut Store, floor: Micros) -> Result<bool, AllocError> {
+    if store.floor() <= floor && floor <= store.absorbed() {
+        store.compact(floor);
+    }
+    Ok(store.floor() == floor && shows_all(alloc, store)?)
+}
+
+fn tell_floors(alloc: Global, store: &mut Store, wrong: &mut String) -> Result<(), AllocError> {
+    for line in SHOWN.lines() {
+        let (floor, _) = line.split_once(" | ").unwrap_or((line, ""));
+        tell(wrong, shows_from(alloc, store, moment(floor)?)?, line)?;
+    }
+    Ok(())
+}
+
+// How many versions a document has.
+fn count_of(alloc: Global, store: &Store, path: &str) -> Result<usize, AllocError> {
+    let name = name_of(alloc, path)?;
+    match store.chain(&name) {
+        Some(chain) => Ok(chain.len()),
+        None => Ok(0),
     }
 }
 
-#[test]
-fn the_same_after_each_compaction(rt: HostRuntime) {
-    let alloc = rt.alloc();
-    let (_, mut store) = store_after(alloc, 5).expect(&rt, "memory");
-    for line in SHOWN.split("\n") {
-        let (time, _) = line.split_once(" | ").unwrap_or((line, ""));
-        let floor = moment(time).expect(&rt, "memory");
-        if store.floor() <= floor && floor <= store.absorbed() {
-            store.compact(floor);
-        }
-        assert!(rt; store.floor() == floor, "{line}");
-        assert!(rt; shows_all(alloc, &store).expect(&rt, "memory"), "{line}");
-    }
-    let gone = name_of(alloc, "c/b").expect(&rt, "memory");
-    let there = name_of(alloc, "c/a").expect(&rt, "memory");
-    assert!(rt; store.chain(&gone).is_none());
-    assert!(rt; store.chain(&there).map(|chain| chain.len()) == Some(1));
+fn tell_unlike_in(
+    alloc: Global,
+    database: &mut Database,
+    wrong: &mut String,
+) -> Result<(), AllocError> {
+    tell_releases(alloc, database, wrong)?;
+    tell_floors(alloc, &mut database.store, wrong)?;
+    tell(wrong, count_of(alloc, &database.store, "c/b")? == 0, "c/b")?;
+    tell(wrong, count_of(alloc, &database.store, "c/a")? == 1, "c/a")
+}
+
+fn tell_unlike(alloc: Global, wrong: &mut String) -> Result<(), AllocError> {
+    let mut database = Database::new(alloc)?;
+    let done = tell_unlike_in(alloc, &mut database, wrong);
+    drop(database);
+    done
 }
 
 #[test]
-fn releases_that_do_not_fit(rt: HostRuntime) {
-    let alloc = rt.alloc();
-    for line in UNFIT.split("\n") {
-        let (mut database, store) = store_after(alloc, 1).expect(&rt, "memory");
-        let release = database.release(alloc, line).expect(&rt, "memory");
-        assert!(rt; !store.fits(&release), "{line}");
+fn each_time_after_each_release_and_compaction(rt: HostRuntime) {
+    let mut wrong = String::new(rt.alloc());
+    tell_unlike(rt.alloc(), &mut wrong).expect(&rt, "memory");
+    assert!(rt; wrong.is_empty(), "{wrong}");
+}
+
+// ---- releases that don't fit
+
+// A release that fits behind the first one.
+const NEXT: &str = "4 5 | 5 c/a=2 d/b=2";
+
+fn take_first(alloc: Global, database: &mut Database) -> Result<(), AllocError> {
+    let (first, _) = RELEASES.split_once("\n").unwrap_or((RELEASES, ""));
+    match database.take_in(alloc, first)? {
+        true => Ok(()),
+        false => Err(AllocError),
+    }
+}
+
+fn does_not_fit(alloc: Global, database: &mut Database, line: &str) -> Result<bool, AllocError> {
+    let release = database.release(alloc, line)?;
+    Ok(!database.store.fits(&release))
+}
+
+fn is_unfit_behind_first(
+    alloc: Global,
+    database: &mut Database,
+    line: &str,
+) -> Result<bool, AllocError> {
+    take_first(alloc, database)?;
+    does_not_fit(alloc, database, line)
+}
+
+/// Whether a release doesn't fit behind the first one.
+pub(crate) fn is_unfit(alloc: Global, line: &str) -> Result<bool, AllocError> {
+    let mut database = Database::new(alloc)?;
+    let is_unfit = is_unfit_behind_first(alloc, &mut database, line);
+    drop(database);
+    is_unfit
+}
+
+// The changes of the one commit of a release.
+fn copied_changes(alloc: Global, release: &Release) -> Result<Vec<Change>, AllocError> {
+    match release.changes.as_slice() {
+        [commit] => Ok(commit.changes.copy(alloc)?.into_vec()),
+        _ => Err(AllocError),
     }
 }
 
 // A release from 4 to 5 with one commit of these changes.
 fn release_of(alloc: Global, changes: Vec<Change>) -> Result<Release, AllocError> {
+    let from = micros(4)?;
+    let to = micros(5)?;
     let mut commits = TimedChanges::new(alloc);
     commits.push(TimedChange {
-        time: moment("5")?,
+        time: to,
         id: Id::new(9),
         changes: Changes::of(changes),
     })?;
     Ok(Release {
-        from: moment("4")?,
-        to: moment("5")?,
+        from,
+        to,
         changes: commits,
     })
 }
 
 fn fits(alloc: Global, store: &Store, changes: Vec<Change>) -> Result<bool, AllocError> {
-    Ok(store.fits(&release_of(alloc, changes)?))
+    let release = release_of(alloc, changes)?;
+    Ok(store.fits(&release))
 }
 
-// The changes of the one commit of a release.
-fn changes_of(alloc: Global, release: &Release) -> Result<Vec<Change>, AllocError> {
-    let mut changes = Vec::new(alloc);
-    for commit in release.changes.as_slice() {
-        for change in commit.changes.as_slice() {
-            changes.push(change.copy(alloc)?)?;
+fn fits_copied(alloc: Global, store: &Store, release: &Release) -> Result<bool, AllocError> {
+    let changes = copied_changes(alloc, release)?;
+    fits(alloc, store, changes)
+}
+
+fn fits_reversed(alloc: Global, store: &Store, release: &Release) -> Result<bool, AllocError> {
+    let mut changes = copied_changes(alloc, release)?;
+    changes.reverse();
+    fits(alloc, store, changes)
+}
+
+// Makes each change one to a document with another name.
+fn rename(alloc: Global, changes: &mut [Change]) -> Result<(), AllocError> {
+    for change in changes.iter_mut() {
+        if let Some(document) = &mut change.after {
+            document.name = name_of(alloc, "c/z")?;
         }
     }
-    Ok(changes)
+    Ok(())
 }
 
-// A release that fits behind the first one.
-fn next_release(alloc: Global, database: &mut Database) -> Result<Release, AllocError> {
-    database.release(alloc, "4 5 | 5 c/a=2 d/b=2")
+fn fits_renamed(alloc: Global, store: &Store, release: &Release) -> Result<bool, AllocError> {
+    let mut changes = copied_changes(alloc, release)?;
+    rename(alloc, changes.as_mut_slice())?;
+    fits(alloc, store, changes)
 }
 
-// Its changes, each to a document with another name.
-fn renamed(alloc: Global, release: &Release) -> Result<Vec<Change>, AllocError> {
-    let mut changes = Vec::new(alloc);
-    for change in changes_of(alloc, release)? {
-        let Change {
-            name,
-            before,
-            after,
-        } = change;
-        let after = match after {
-            Some(document) => Some(named_z(alloc, document)?),
-            None => None,
-        };
-        changes.push(Change {
-            name,
-            before,
-            after,
-        })?;
-    }
-    Ok(changes)
+// Whether a release fits, but not with its changes in another order or to another name.
+fn fits_as_it_is(alloc: Global, store: &Store, release: &Release) -> Result<bool, AllocError> {
+    Ok(
+        store.fits(release)
+            && fits_copied(alloc, store, release)?
+            && !fits_reversed(alloc, store, release)?
+            && !fits_renamed(alloc, store, release)?,
+    )
 }
 
-fn named_z(alloc: Global, document: Document) -> Result<Document, AllocError> {
-    Ok(Document {
-        name: name_of(alloc, "c/z")?,
-        fields: document.fields.copy()?,
-        created: document.created,
-        updated: document.updated,
-    })
+// Whether it doesn't fit where its documents are new, though the store has them.
+fn goes_on_from_none(alloc: Global, store: &Store) -> Result<bool, AllocError> {
+    let mut fresh = Database::new(alloc)?;
+    let release = fresh.release(alloc, NEXT)?;
+    Ok(!store.fits(&release))
 }
 
-#[test]
-fn changes_from_other_documents(rt: HostRuntime) {
-    let alloc = rt.alloc();
-    let (mut database, store) = store_after(alloc, 1).expect(&rt, "memory");
-    let next = next_release(alloc, &mut database).expect(&rt, "memory");
-    assert!(rt; store.fits(&next));
-    // from none, where there is a document
-    let mut fresh = Database::new(alloc);
-    let first = next_release(alloc, &mut fresh).expect(&rt, "memory");
-    assert!(rt; !store.fits(&first));
-    // from another document
-    let other = database
-        .release(alloc, "4 5 | 5 c/a=3")
-        .expect(&rt, "memory");
-    assert!(rt; !store.fits(&other));
+fn next_fits_behind_first(alloc: Global, database: &mut Database) -> Result<bool, AllocError> {
+    take_first(alloc, database)?;
+    let next = database.release(alloc, NEXT)?;
+    Ok(
+        fits_as_it_is(alloc, &database.store, &next)?
+            && goes_on_from_none(alloc, &database.store)?
+            && does_not_fit(alloc, database, "4 5 | 5 c/a=3")?,
+    )
+}
+
+// Whether the next release fits, and none that goes on from other documents.
+fn next_fits(alloc: Global) -> Result<bool, AllocError> {
+    let mut database = Database::new(alloc)?;
+    let fits = next_fits_behind_first(alloc, &mut database);
+    drop(database);
+    fits
 }
 
 #[test]
-fn changes_in_another_order(rt: HostRuntime) {
-    let alloc = rt.alloc();
-    let (mut database, store) = store_after(alloc, 1).expect(&rt, "memory");
-    let next = next_release(alloc, &mut database).expect(&rt, "memory");
-    let mut changes = changes_of(alloc, &next).expect(&rt, "memory");
-    changes.reverse();
-    assert!(rt; !fits(alloc, &store, changes).expect(&rt, "memory"));
-}
-
-#[test]
-fn changes_to_another_name(rt: HostRuntime) {
-    let alloc = rt.alloc();
-    let (mut database, store) = store_after(alloc, 1).expect(&rt, "memory");
-    let next = next_release(alloc, &mut database).expect(&rt, "memory");
-    assert!(rt;
-        fits(
-            alloc,
-            &store,
-            changes_of(alloc, &next).expect(&rt, "memory")
-        )
-        .expect(&rt, "memory")
-    );
-    assert!(rt;
-        !fits(alloc, &store, renamed(alloc, &next).expect(&rt, "memory")).expect(&rt, "memory")
-    );
+fn releases_that_do_not_fit(rt: HostRuntime) {
+    holds(&rt, rt.alloc(), Line::Unfit, UNFIT, 8);
+    assert!(rt; next_fits(rt.alloc()).expect(&rt, "memory"));
 }

@@ -1,166 +1,132 @@
-//! A database of documents `c/a`, `c/b` and `c/c` with one field `n`, whose batches are lines of a table.
-use fs_path::{DocName, Ids, Scope, Text};
+//! A database whose batches are lines of a table, and the versions of its documents.
+ghost use Rattle.std.specs.Prelude.{IsTrue};
+ghost use Rattle.std.specs.FinMap.{is_sorted};
+ghost use Rattle.fs_path.specs.NameOrder.{name_cmp};
+ghost use Rattle.fs_write.specs.Batch.{changes_by_name};
+
+use crate::now::{changes_of, take_in};
+use crate::short::{micros, moment, name_of, push_versions};
+use crate::versions::tables::PATHS;
 use fs_time::Micros;
-use fs_value::{Document, DocumentMap, Fields, SharedFields, Value};
-use fs_versions::{Chain, Versions};
-use fs_write::{Act, Change, Changes, Precondition, Transforms, Write, Writes, apply_batch};
+use fs_value::DocumentMap;
+use fs_versions::Versions;
+use fs_write::Changes;
 use std::alloc::{AllocError, Global};
-
-/// The documents.
-pub const IDS: [&str; 3] = ["a", "b", "c"];
-
-fn number(text: &str) -> Result<i64, AllocError> {
-    match text.parse::<i64>() {
-        Ok(n) => Ok(n),
-        Err(_) => Err(AllocError),
-    }
-}
-
-pub fn moment(text: &str) -> Result<Micros, AllocError> {
-    Micros::new(number(text)?).ok_or(AllocError)
-}
-
-pub fn name_of(alloc: Global, id: &str) -> Result<DocName, AllocError> {
-    DocName::of_path(format!(in alloc; "demo/(default)/c/{id}")?).ok_or(AllocError)
-}
-
-/// The scope of `c/m`, a collection, or of `c/*m`, a group below a parent.
-pub fn scope_of(alloc: Global, text: &str) -> Result<Scope, AllocError> {
-    let (above, id) = text.rsplit_once("/").unwrap_or(("", text));
-    let mut parent = Ids::new(alloc);
-    if above != "" {
-        for one in above.split("/") {
-            parent.push(Text::from_str(alloc, one)?)?;
-        }
-    }
-    match id.strip_prefix("*") {
-        Some(id) => Ok(Scope::Group {
-            parent,
-            id: Text::from_str(alloc, id)?,
-        }),
-        None => Ok(Scope::Collection {
-            parent,
-            id: Text::from_str(alloc, id)?,
-        }),
-    }
-}
-
-// `a=1` sets c/a to {n: 1}, and `a=-` deletes it. A name may also be written with its database.
-fn act(alloc: Global, text: &str) -> Result<Act, AllocError> {
-    let (id, value) = text.split_once("=").unwrap_or((text, "-"));
-    let name = match id.split_once("/") {
-        Some(_) => DocName::of_path(String::from_str(alloc, id)?).ok_or(AllocError)?,
-        None => name_of(alloc, id)?,
-    };
-    if value == "-" {
-        return Ok(Act::Delete { name });
-    }
-    let mut fields = Fields::new(alloc);
-    fields.put(Text::from_str(alloc, "n")?, Value::Integer(number(value)?))?;
-    Ok(Act::Set {
-        name,
-        fields: SharedFields::of(alloc, fields)?,
-    })
-}
-
-fn writes(alloc: Global, text: &str) -> Result<Writes, AllocError> {
-    let mut all = Writes::new(alloc);
-    for one in text.split(" ") {
-        all.push(Write {
-            act: act(alloc, one)?,
-            transforms: Transforms::new(alloc),
-            condition: Precondition::None,
-        })?;
-    }
-    Ok(all)
-}
-
-/// `n` of a document, or `-` where there is none.
-pub fn told(alloc: Global, document: Option<&Document>) -> Result<String, AllocError> {
-    let Some(document) = document else {
-        return String::from_str(alloc, "-");
-    };
-    match document.fields.as_fields().find("n") {
-        Some(Value::Integer(n)) => format!(in alloc; "{n}"),
-        _ => String::from_str(alloc, "?"),
-    }
-}
-
-/// The versions of a chain, as `5:2 8:- `.
-pub fn chain_text(alloc: Global, chain: Option<&Chain>) -> Result<String, AllocError> {
-    let mut text = String::new(alloc);
-    if let Some(chain) = chain {
-        for version in chain.as_slice() {
-            let n = told(alloc, version.after.as_ref())?;
-            let time = version.time.get();
-            let one = format!(in alloc; "{time}:{n} ")?;
-            text.push_str(one.as_str())?;
-        }
-    }
-    Ok(text)
-}
 
 /// The documents of now, and their versions.
 #[derive(Drop)]
-pub struct Database {
-    pub now: DocumentMap,
-    pub versions: Versions,
+pub(crate) struct Database {
+    pub(crate) now: DocumentMap,
+    pub(crate) versions: Versions,
 }
 
 impl Database {
-    pub fn new(alloc: Global) -> Result<Database, AllocError> {
+    pub(crate) fn new(alloc: Global) -> Result<Database, AllocError> {
+        let floor = micros(0)?;
         Ok(Database {
             now: DocumentMap::new(alloc),
-            versions: Versions::new(alloc, moment("0")?),
+            versions: Versions::new(alloc, floor),
         })
     }
 
-    fn absorb(&mut self, alloc: Global, change: &Change) -> Result<(), AllocError> {
-        match &change.after {
-            Some(document) => self.now.put(alloc, document.copy(alloc)?),
-            None => {
-                self.now.remove(&change.name);
-                Ok(())
-            }
-        }
-    }
-
-    fn chains(&self, alloc: Global) -> Result<String, AllocError> {
-        let mut text = String::new(alloc);
-        for id in &IDS {
-            let name = name_of(alloc, id)?;
-            let one = chain_text(alloc, self.versions.chain(&name))?;
-            text.push_str(one.as_str())?;
-            text.push_str("| ")?;
-        }
-        Ok(text)
-    }
-
-    /// Carries out a line of the batches. The first time it is taken back, or memory is wanting, and nothing has changed.
-    pub fn commit(&mut self, alloc: Global, line: &str) -> Result<bool, AllocError> {
+    // Carries out a line of the batches.
+    fn commit(&mut self, alloc: Global, line: &str) -> Result<bool, AllocError> {
         let (time, texts) = line.split_once(" | ").unwrap_or((line, ""));
         let time = moment(time)?;
-        let all = writes(alloc, texts)?;
-        let documents = self.now.documents(alloc)?;
-        let last = self.versions.last();
-        if all.len() > 500 || time <= self.versions.floor() || time <= last {
-            return Ok(false);
-        }
-        let Ok((changes, _)) = apply_batch(alloc, &documents, &all, time) else {
-            return Ok(false);
-        };
-        let before = self.chains(alloc)?;
-        if self.versions.install(alloc, &changes, time).is_ok() {
-            self.versions.take_back(&changes, last);
-        }
-        let is_back = self.chains(alloc)?.as_str() == before.as_str();
-        if !is_back || time <= self.versions.floor() || time <= self.versions.last() {
-            return Ok(false);
-        }
-        self.versions.install(alloc, &changes, time)?;
-        for change in changes.as_slice() {
-            self.absorb(alloc, change)?;
-        }
-        Ok(true)
+        let changes = changes_of(alloc, &self.now, texts, time)?;
+        take_in(alloc, &mut self.now, &changes)?;
+        is_installed(alloc, &mut self.versions, &changes, time)
     }
+
+    /// Carries out all batches of a table.
+    pub(crate) fn commit_all(&mut self, alloc: Global, batches: &str) -> Result<(), AllocError> {
+        for line in batches.lines() {
+            if !self.commit(alloc, line)? {
+                return Err(AllocError);
+            }
+        }
+        Ok(())
+    }
+}
+
+// ---- a batch is installed
+
+// The first time it is taken back, or memory is wanting, and nothing has changed.
+fn is_installed(
+    alloc: Global,
+    versions: &mut Versions,
+    changes: &Changes,
+    time: Micros,
+) -> Result<bool, AllocError>
+    requires { IsTrue (is_sorted name_cmp (changes_by_name changes.now)) }
+{
+    if !is_taken_back(alloc, versions, changes, time)? {
+        return Ok(false);
+    }
+    if time <= versions.floor() || time <= versions.last() {
+        return Ok(false);
+    }
+    versions.install(alloc, changes, time)?;
+    Ok(true)
+}
+
+fn is_taken_back(
+    alloc: Global,
+    versions: &mut Versions,
+    changes: &Changes,
+    time: Micros,
+) -> Result<bool, AllocError>
+    requires { IsTrue (is_sorted name_cmp (changes_by_name changes.now)) }
+{
+    let mut before = String::new(alloc);
+    push_chains(alloc, &mut before, versions)?;
+    install_and_take_back(alloc, versions, changes, time);
+    has_chains(alloc, versions, before.as_str())
+}
+
+fn install_and_take_back(alloc: Global, versions: &mut Versions, changes: &Changes, time: Micros)
+    requires { IsTrue (is_sorted name_cmp (changes_by_name changes.now)) }
+{
+    let last = versions.last();
+    if time <= versions.floor() || time <= last {
+        return;
+    }
+    if versions.install(alloc, changes, time).is_ok() {
+        versions.take_back(changes, last);
+    }
+}
+
+// ---- chains
+
+// Adds the versions of a document, as ` | 5:2 8:-`.
+fn push_chain(
+    alloc: Global,
+    text: &mut String,
+    versions: &Versions,
+    path: &str,
+) -> Result<(), AllocError> {
+    let name = name_of(alloc, path)?;
+    text.push_str(" |")?;
+    match versions.chain(&name) {
+        Some(chain) => push_versions(text, chain.as_slice()),
+        None => Ok(()),
+    }
+}
+
+fn push_chains(alloc: Global, text: &mut String, versions: &Versions) -> Result<(), AllocError> {
+    for path in &PATHS {
+        push_chain(alloc, text, versions, path)?;
+    }
+    Ok(())
+}
+
+/// Whether the chains of the documents are these, as ` | 5:2 8:- | 3:1 |`.
+pub(crate) fn has_chains(
+    alloc: Global,
+    versions: &Versions,
+    wanted: &str,
+) -> Result<bool, AllocError> {
+    let mut text = String::new(alloc);
+    push_chains(alloc, &mut text, versions)?;
+    Ok(text.as_str() == wanted)
 }

@@ -1,195 +1,250 @@
 //! What versions show at each time, and after each compaction.
-use crate::versions::database::{Database, IDS, chain_text, moment, name_of, scope_of, told};
+ghost use Rattle.std.specs.Prelude.{◌≤ℤ◌};
+
+use crate::short::{are_those, moment, name_of, push_in_row, push_n, scope};
+use crate::table::{Line, holds, tell};
+use crate::versions::database::{Database, has_chains};
 use crate::versions::tables::{
-    BATCHES, CHAINS, COLLECTIONS, ONE_DATABASE, SCOPES, SHOWN, TWO_DATABASES,
+    BATCHES, CHAINS, COLLECTIONS, ONE_DATABASE, PATHS, SCOPES, SHOWN, TWO_DATABASES,
 };
+use fs_time::Micros;
+use fs_value::Document;
 use fs_versions::Versions;
 use std::alloc::{AllocError, Global};
 
-fn database(alloc: Global, batches: &str) -> Result<Database, AllocError> {
-    let mut database = Database::new(alloc)?;
-    for line in batches.split("\n") {
-        if !database.commit(alloc, line)? {
-            return Err(AllocError);
-        }
-    }
-    Ok(database)
+// ---- times
+
+fn push_at(
+    alloc: Global,
+    text: &mut String,
+    versions: &Versions,
+    path: &str,
+    at: Micros,
+) -> Result<(), AllocError>
+    requires { versions.now.floor ≤ℤ at }
+{
+    let name = name_of(alloc, path)?;
+    push_in_row(text, versions.at(&name, at))
 }
 
-// A line of the table of documents, as the versions show it.
-fn shown(alloc: Global, versions: &Versions, time: &str) -> Result<String, AllocError> {
-    let at = moment(time)?;
-    let mut line = format!(in alloc; "{time} |")?;
-    for id in &IDS {
-        let name = name_of(alloc, id)?;
-        if at >= versions.floor() {
-            let n = told(alloc, versions.at(&name, at))?;
-            line.push_str(" ")?;
-            line.push_str(n.as_str())?;
-        }
+// Whether `n` of each document is as in a row.
+fn has_row(alloc: Global, versions: &Versions, at: Micros, row: &str) -> Result<bool, AllocError>
+    requires { versions.now.floor ≤ℤ at }
+{
+    let mut text = String::new(alloc);
+    for path in &PATHS {
+        push_at(alloc, &mut text, versions, path, at)?;
     }
-    Ok(line)
+    Ok(text.trim() == row)
 }
 
-// How many documents are there by a line of the table, and whether `all_at` has them, each once.
-fn has_all(alloc: Global, versions: &Versions, line: &str) -> Result<bool, AllocError> {
-    let (time, rest) = line.split_once(" | ").unwrap_or((line, ""));
+// Whether the documents of a row are listed, each once.
+fn has_all(alloc: Global, versions: &Versions, at: Micros, row: &str) -> Result<bool, AllocError>
+    requires { versions.now.floor ≤ℤ at }
+{
+    let documents = versions.all_at(alloc, at)?;
+    are_those(alloc, &documents, &PATHS, "0 1 2", row)
+}
+
+// Whether a line of the table is shown, if its time can be read.
+fn shows(alloc: Global, versions: &Versions, line: &str) -> Result<bool, AllocError> {
+    let (time, row) = line.split_once(" | ").unwrap_or((line, ""));
     let at = moment(time)?;
     if at < versions.floor() {
         return Ok(true);
     }
-    let documents = versions.all_at(alloc, at)?;
-    let mut place: usize = 0;
-    for (id, n) in IDS.iter().zip(rest.split(" ")) {
-        if n != "-" {
-            let name = name_of(alloc, id)?;
-            if place >= documents.len() {
-                return Ok(false);
-            }
-            let document = documents.at(place);
-            let text = told(alloc, Some(document))?;
-            if document.name != name || text.as_str() != n {
-                return Ok(false);
-            }
-            place = place.saturating_add(1);
-        }
-    }
-    Ok(place == documents.len())
+    Ok(has_row(alloc, versions, at, row)? && has_all(alloc, versions, at, row)?)
 }
 
-// Whether the chains are those of a line of their table.
-fn has_chains(alloc: Global, versions: &Versions, line: &str) -> Result<bool, AllocError> {
-    let (_, chains) = line.split_once(" | ").unwrap_or((line, ""));
-    for (id, wanted) in IDS.iter().zip(chains.split(" | ")) {
-        let name = name_of(alloc, id)?;
-        let found = chain_text(alloc, versions.chain(&name))?;
-        if found.trim() != wanted {
-            return Ok(false);
-        }
-    }
-    Ok(true)
-}
-
-// Whether each time from the floor on shows what it showed before, and each name's newest document is that of the last.
 fn shows_all(alloc: Global, versions: &Versions) -> Result<bool, AllocError> {
-    for line in SHOWN.split("\n") {
-        let (time, _) = line.split_once(" | ").unwrap_or((line, ""));
-        let is_read = moment(time)? >= versions.floor();
-        if is_read && shown(alloc, versions, time)?.as_str() != line {
-            return Ok(false);
-        }
-        if !has_all(alloc, versions, line)? {
+    for line in SHOWN.lines() {
+        if !shows(alloc, versions, line)? {
             return Ok(false);
         }
     }
     Ok(true)
 }
 
-// `n` of each document in a scope, as ` 1 5`.
-fn told_in(
+fn have_same_n(
     alloc: Global,
-    versions: &Versions,
-    scope: &str,
-    time: &str,
-) -> Result<String, AllocError> {
-    let scope = scope_of(alloc, scope)?;
-    let at = moment(time)?;
-    let mut text = String::new(alloc);
-    if at >= versions.floor() {
-        let documents = versions.documents_in(alloc, &scope, at)?;
-        for document in documents.as_slice() {
-            let n = told(alloc, Some(*document))?;
-            text.push_str(" ")?;
-            text.push_str(n.as_str())?;
-        }
-    }
-    Ok(text)
+    one: Option<&Document>,
+    other: Option<&Document>,
+) -> Result<bool, AllocError> {
+    let mut one_text = String::new(alloc);
+    let mut other_text = String::new(alloc);
+    push_n(&mut one_text, one)?;
+    push_n(&mut other_text, other)?;
+    Ok(one_text.as_str() == other_text.as_str())
 }
 
-// The first line of a table of scopes whose documents aren't those of the line, and nothing where there is none.
-fn first_unlike<'a>(alloc: Global, batches: &str, scopes: &'a str) -> Result<&'a str, AllocError> {
-    let database = database(alloc, batches)?;
-    for line in scopes.split("\n") {
-        let (time, rest) = line.split_once(" | ").unwrap_or((line, ""));
-        let (scope, wanted) = rest.split_once(" |").unwrap_or((rest, ""));
-        let found = told_in(alloc, &database.versions, scope, time)?;
-        if found.as_str() != wanted {
-            return Ok(line);
-        }
-    }
-    Ok("")
+// Whether the newest version of a document is that of now.
+fn is_newest(alloc: Global, database: &Database, path: &str) -> Result<bool, AllocError> {
+    let name = name_of(alloc, path)?;
+    have_same_n(
+        alloc,
+        database.versions.latest(&name),
+        database.now.get(&name),
+    )
 }
 
-#[test]
-fn documents_of_collections_and_groups(rt: HostRuntime) {
-    let alloc = rt.alloc();
-    assert_eq!(rt;
-        first_unlike(alloc, ONE_DATABASE, COLLECTIONS).expect(&rt, "memory"),
-        ""
-    );
-    assert_eq!(rt;
-        first_unlike(alloc, TWO_DATABASES, SCOPES).expect(&rt, "memory"),
-        ""
-    );
+fn is_unknown(alloc: Global, versions: &Versions, path: &str) -> Result<bool, AllocError> {
+    let name = name_of(alloc, path)?;
+    Ok(versions.latest(&name).is_none() && versions.chain(&name).is_none())
+}
+
+fn tell_unlike_in(
+    alloc: Global,
+    database: &mut Database,
+    wrong: &mut String,
+) -> Result<(), AllocError> {
+    database.commit_all(alloc, BATCHES)?;
+    for path in &PATHS {
+        tell(wrong, is_newest(alloc, database, path)?, path)?;
+    }
+    let versions = &database.versions;
+    let is_so = versions.floor().get() == 0 && versions.last().get() == 15;
+    tell(wrong, is_so, "floor and last")?;
+    tell(wrong, is_unknown(alloc, versions, "c/d")?, "c/d")?;
+    tell(wrong, shows_all(alloc, versions)?, "times")
+}
+
+fn tell_unlike(alloc: Global, wrong: &mut String) -> Result<(), AllocError> {
+    let mut database = Database::new(alloc)?;
+    let done = tell_unlike_in(alloc, &mut database, wrong);
+    drop(database);
+    done
 }
 
 #[test]
 fn documents_at_each_time(rt: HostRuntime) {
-    let alloc = rt.alloc();
-    let database = database(alloc, BATCHES).expect(&rt, "memory");
-    assert!(rt; shows_all(alloc, &database.versions).expect(&rt, "memory"));
-    assert_eq!(rt; database.versions.floor().get(), 0);
-    assert_eq!(rt; database.versions.last().get(), 15);
-    for id in &IDS {
-        let name = name_of(alloc, id).expect(&rt, "memory");
-        let newest = told(alloc, database.versions.latest(&name)).expect(&rt, "memory");
-        let wanted = told(alloc, database.now.get(&name)).expect(&rt, "memory");
-        assert!(rt; newest.as_str() == wanted.as_str(), "{id}");
+    let mut wrong = String::new(rt.alloc());
+    tell_unlike(rt.alloc(), &mut wrong).expect(&rt, "memory");
+    assert!(rt; wrong.is_empty(), "{wrong}");
+}
+
+// ---- compactions
+
+fn compact(versions: &mut Versions, floor: &str) -> Result<(), AllocError> {
+    let floor = moment(floor)?;
+    if versions.floor() <= floor {
+        versions.compact(floor);
     }
-    let other = name_of(alloc, "d").expect(&rt, "memory");
-    assert!(rt;
-        database.versions.latest(&other).is_none() && database.versions.chain(&other).is_none()
-    );
+    Ok(())
+}
+
+// Whether the chains from a floor on are those of a line, and each time from there on shows what it showed before.
+fn shows_from(alloc: Global, versions: &mut Versions, line: &str) -> Result<bool, AllocError> {
+    let (floor, _) = line.split_once(" | ").unwrap_or((line, ""));
+    let chains = line.strip_prefix(floor).unwrap_or(line);
+    compact(versions, floor)?;
+    Ok(has_chains(alloc, versions, chains)? && shows_all(alloc, versions)?)
+}
+
+fn shows_at_once_in(
+    alloc: Global,
+    database: &mut Database,
+    line: &str,
+) -> Result<bool, AllocError> {
+    database.commit_all(alloc, BATCHES)?;
+    shows_from(alloc, &mut database.versions, line)
+}
+
+/// The same of a floor that is the first one.
+pub(crate) fn shows_at_once(alloc: Global, line: &str) -> Result<bool, AllocError> {
+    let mut database = Database::new(alloc)?;
+    let is_shown = shows_at_once_in(alloc, &mut database, line);
+    drop(database);
+    is_shown
+}
+
+fn tell_risen_in(
+    alloc: Global,
+    database: &mut Database,
+    wrong: &mut String,
+) -> Result<(), AllocError> {
+    database.commit_all(alloc, BATCHES)?;
+    for line in CHAINS.lines() {
+        let is_so = shows_from(alloc, &mut database.versions, line)?;
+        tell(wrong, is_so, line)?;
+    }
+    Ok(())
+}
+
+// Tells what isn't so where the floor rises step by step.
+fn tell_risen(alloc: Global, wrong: &mut String) -> Result<(), AllocError> {
+    let mut database = Database::new(alloc)?;
+    let done = tell_risen_in(alloc, &mut database, wrong);
+    drop(database);
+    done
 }
 
 #[test]
 fn the_same_after_each_compaction(rt: HostRuntime) {
-    let alloc = rt.alloc();
-    for line in CHAINS.split("\n") {
-        let (floor, _) = line.split_once(" | ").unwrap_or((line, ""));
-        let mut database = database(alloc, BATCHES).expect(&rt, "memory");
-        let floor = moment(floor).expect(&rt, "memory");
-        if database.versions.floor() <= floor {
-            database.versions.compact(floor);
-        }
-        assert!(rt;
-            has_chains(alloc, &database.versions, line).expect(&rt, "memory"),
-            "{line}"
-        );
-        assert!(rt;
-            shows_all(alloc, &database.versions).expect(&rt, "memory"),
-            "{line}"
-        );
-    }
+    holds(&rt, rt.alloc(), Line::Versions, CHAINS, 17);
 }
 
 #[test]
 fn compacted_again_and_again(rt: HostRuntime) {
-    let alloc = rt.alloc();
-    let mut database = database(alloc, BATCHES).expect(&rt, "memory");
-    for line in CHAINS.split("\n") {
-        let (floor, _) = line.split_once(" | ").unwrap_or((line, ""));
-        let floor = moment(floor).expect(&rt, "memory");
-        if database.versions.floor() <= floor {
-            database.versions.compact(floor);
-        }
-        assert!(rt;
-            has_chains(alloc, &database.versions, line).expect(&rt, "memory"),
-            "{line}"
-        );
-        assert!(rt;
-            shows_all(alloc, &database.versions).expect(&rt, "memory"),
-            "{line}"
-        );
+    let mut wrong = String::new(rt.alloc());
+    tell_risen(rt.alloc(), &mut wrong).expect(&rt, "memory");
+    assert!(rt; wrong.is_empty(), "{wrong}");
+}
+
+// ---- collections and groups
+
+// Whether documents have these `n`, as ` 1 5`.
+fn have(alloc: Global, documents: &[&Document], wanted: &str) -> Result<bool, AllocError> {
+    let mut text = String::new(alloc);
+    for document in documents {
+        push_in_row(&mut text, Some(*document))?;
     }
+    Ok(text.as_str() == wanted)
+}
+
+// Whether the documents of a scope are those of a line.
+fn has_scope(alloc: Global, versions: &Versions, line: &str) -> Result<bool, AllocError> {
+    let (time, rest) = line.split_once(" | ").unwrap_or((line, ""));
+    let (text, wanted) = rest.split_once(" |").unwrap_or((rest, ""));
+    let at = moment(time)?;
+    if at < versions.floor() {
+        return Ok(false);
+    }
+    let scope = scope(alloc, text)?;
+    let documents = versions.documents_in(alloc, &scope, at)?;
+    have(alloc, documents.as_slice(), wanted)
+}
+
+fn tell_scopes_in(
+    alloc: Global,
+    database: &mut Database,
+    batches: &str,
+    scopes: &str,
+    wrong: &mut String,
+) -> Result<(), AllocError> {
+    database.commit_all(alloc, batches)?;
+    for line in scopes.lines() {
+        let is_so = has_scope(alloc, &database.versions, line)?;
+        tell(wrong, is_so, line)?;
+    }
+    Ok(())
+}
+
+fn tell_scopes(
+    alloc: Global,
+    batches: &str,
+    scopes: &str,
+    wrong: &mut String,
+) -> Result<(), AllocError> {
+    let mut database = Database::new(alloc)?;
+    let done = tell_scopes_in(alloc, &mut database, batches, scopes, wrong);
+    drop(database);
+    done
+}
+
+#[test]
+fn documents_of_collections_and_groups(rt: HostRuntime) {
+    let mut wrong = String::new(rt.alloc());
+    tell_scopes(rt.alloc(), ONE_DATABASE, COLLECTIONS, &mut wrong).expect(&rt, "memory");
+    tell_scopes(rt.alloc(), TWO_DATABASES, SCOPES, &mut wrong).expect(&rt, "memory");
+    assert!(rt; wrong.is_empty(), "{wrong}");
 }

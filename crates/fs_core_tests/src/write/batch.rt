@@ -1,11 +1,12 @@
 //! Writes and batches, by a table.
+use crate::short::{cell, micros, moment};
+use crate::table::{Line, holds};
 use crate::write::commits::COMMITS;
-use crate::write::short::{act, field, fields, moment, name_of, number, shared, write_of};
-use fs_path::Text;
+use crate::write::short::{act, are_fields, field, long_text, name_in_c, shared, write_of};
 use fs_status::{Refusal, message};
-use fs_value::{Document, DocumentMap, SharedFields, Value, fields_same};
+use fs_value::{Document, DocumentMap, Fields, SharedFields, Value};
 use fs_write::{
-    Act, Change, Changes, Precondition, Write, WriteResults, Writes, apply_batch,
+    Act, Change, Changes, Precondition, Write, WriteResult, WriteResults, Writes, apply_batch,
     batches_are_lawful, writes_are_lawful,
 };
 use std::alloc::{AllocError, Global};
@@ -17,17 +18,28 @@ const UPDATED: i64 = 5;
 
 const TIME: i64 = 9;
 
+// ---- what is given
+
 // `.` is no fields.
 fn without_dot(text: &str) -> &str {
     text.strip_prefix(".").unwrap_or(text)
 }
 
-fn document(alloc: Global, id: &str, text: &str) -> Result<Document, AllocError> {
-    let created = moment(CREATED)?;
-    let updated = moment(UPDATED)?;
+/// A document of the collection `c` with these fields and times.
+pub(crate) fn document(
+    alloc: Global,
+    id: &str,
+    text: &str,
+    created: i64,
+    updated: i64,
+) -> Result<Document, AllocError> {
+    let created = micros(created)?;
+    let updated = micros(updated)?;
+    let name = name_in_c(alloc, id)?;
+    let fields = shared(alloc, without_dot(text))?;
     Ok(Document {
-        name: name_of(alloc, id)?,
-        fields: shared(alloc, without_dot(text))?,
+        name,
+        fields,
         created,
         updated,
     })
@@ -36,7 +48,7 @@ fn document(alloc: Global, id: &str, text: &str) -> Result<Document, AllocError>
 fn put_documents(alloc: Global, map: &mut DocumentMap, text: &str) -> Result<(), AllocError> {
     for one in text.split("/") {
         if let Some((id, text)) = one.split_once(" ") {
-            map.put(alloc, document(alloc, id, text)?)?;
+            map.put(alloc, document(alloc, id, text, CREATED, UPDATED)?)?;
         }
     }
     Ok(())
@@ -47,7 +59,7 @@ fn condition(text: &str) -> Result<Precondition, AllocError> {
         "" => Precondition::None,
         "exists" => Precondition::Exists(true),
         "absent" => Precondition::Exists(false),
-        _ => Precondition::UpdateTime(moment(number(text)?)?),
+        _ => Precondition::UpdateTime(moment(text)?),
     })
 }
 
@@ -64,22 +76,24 @@ fn write(alloc: Global, text: &str) -> Result<Write, AllocError> {
     write_of(alloc, act(alloc, id, doing, input)?, changes, condition)
 }
 
-fn add_writes(alloc: Global, writes: &mut Writes, text: &str) -> Result<(), AllocError> {
+fn push_write(alloc: Global, writes: &mut Writes, text: &str) -> Result<(), AllocError> {
+    writes.push(write(alloc, text)?)
+}
+
+/// Adds writes, each with its document, its condition, what it does, its input and its transforms, as `a,,set,n: 1`.
+pub(crate) fn add_writes(alloc: Global, writes: &mut Writes, text: &str) -> Result<(), AllocError> {
     for one in text.split("/") {
         if !one.is_empty() {
-            writes.push(write(alloc, one)?)?;
+            push_write(alloc, writes, one)?;
         }
     }
     Ok(())
 }
 
-fn has_fields(alloc: Global, document: &Document, text: &str) -> Result<bool, AllocError> {
-    let expected = fields(alloc, without_dot(text))?;
-    Ok(fields_same(document.fields.as_fields(), &expected))
-}
+// ---- what it comes to
 
-// Whether a document, or none at `-`, has these fields and times.
-fn is_document(
+/// Whether a document, or none at `-`, has these fields and times.
+pub(crate) fn is_document(
     alloc: Global,
     found: &Option<Document>,
     text: &str,
@@ -89,7 +103,7 @@ fn is_document(
     match found {
         Some(document) => Ok(
             text != "-"
-                && has_fields(alloc, document, text)?
+                && are_fields(alloc, document.fields.as_fields(), without_dot(text))?
                 && document.created.get() == created
                 && document.updated.get() == updated,
         ),
@@ -97,8 +111,8 @@ fn is_document(
     }
 }
 
-fn is_named(alloc: Global, change: &Change, id: &str) -> Result<bool, AllocError> {
-    let name = name_of(alloc, id)?;
+pub(crate) fn is_named(alloc: Global, change: &Change, id: &str) -> Result<bool, AllocError> {
+    let name = name_in_c(alloc, id)?;
     Ok(change.name == name)
 }
 
@@ -119,23 +133,28 @@ fn is_change(alloc: Global, change: &Change, text: &str) -> Result<bool, AllocEr
 }
 
 fn are_changes(alloc: Global, changes: &Changes, text: &str) -> Result<bool, AllocError> {
-    let mut count: usize = 0;
     for (change, one) in changes.as_slice().iter().zip(text.split("/")) {
         if !is_change(alloc, change, one)? {
             return Ok(false);
         }
-        count = count.saturating_add(1);
     }
-    Ok(count == changes.len() && text.split("/").filter(|one| !one.is_empty()).count() == count)
+    let count = match text {
+        "" => 0,
+        _ => text.split("/").count(),
+    };
+    Ok(changes.len() == count)
+}
+
+fn is_result(found: &WriteResult, text: &str) -> Result<bool, AllocError> {
+    match text {
+        "-" => Ok(found.updated.is_none()),
+        _ => Ok(found.updated == Some(moment(text)?)),
+    }
 }
 
 fn are_results(results: &WriteResults, text: &str) -> Result<bool, AllocError> {
     for (result, one) in results.as_slice().iter().zip(text.split_whitespace()) {
-        let time = match one {
-            "-" => None,
-            _ => Some(moment(number(one)?)?),
-        };
-        if result.updated != time {
+        if !is_result(result, one)? {
             return Ok(false);
         }
     }
@@ -153,11 +172,19 @@ fn comes_to(
     if writes.len() > 500 {
         return Ok(false);
     }
-    let time = moment(TIME)?;
+    let time = micros(TIME)?;
     let documents = map.documents(alloc)?;
     match apply_batch(alloc, &documents, writes, time) {
-        Ok((found, told)) => are_told(alloc, &found, &told, changes, results),
-        Err(refusal) => is_refusal(alloc, &refusal, changes),
+        Ok((found, told)) => {
+            let are_told = are_told(alloc, &found, &told, changes, results);
+            drop(found);
+            are_told
+        }
+        Err(refusal) => {
+            let is_told = is_refusal(alloc, &refusal, changes);
+            drop(refusal);
+            is_told
+        }
     }
 }
 
@@ -176,118 +203,84 @@ fn is_refusal(alloc: Global, refusal: &Refusal, text: &str) -> Result<bool, Allo
     Ok(told.as_str() == text && refusal.index.is_some())
 }
 
-// A line of the table.
-fn is_so(alloc: Global, line: &str) -> Result<bool, AllocError> {
+fn comes_to_line_in(
+    alloc: Global,
+    map: &mut DocumentMap,
+    writes: &mut Writes,
+    line: &str,
+) -> Result<bool, AllocError> {
     let (before, rest) = cell(line);
     let (texts, rest) = cell(rest);
     let (changes, results) = cell(rest);
-    let results = results.strip_prefix("none").unwrap_or(results);
-    let mut map = DocumentMap::new(alloc);
-    let mut writes = Writes::new(alloc);
-    is_so_in(
-        alloc,
-        &mut map,
-        before,
-        &mut writes,
-        texts,
-        changes,
-        results,
-    )
-}
-
-fn is_so_in(
-    alloc: Global,
-    map: &mut DocumentMap,
-    before: &str,
-    writes: &mut Writes,
-    texts: &str,
-    changes: &str,
-    results: &str,
-) -> Result<bool, AllocError> {
     put_documents(alloc, map, before)?;
     add_writes(alloc, writes, texts)?;
-    comes_to(alloc, map, writes, changes, results)
+    comes_to(alloc, map, writes, changes, cell(results).0)
 }
 
-// `none` is an empty cell.
-fn cell(text: &str) -> (&str, &str) {
-    let (one, rest) = text.split_once(" | ").unwrap_or((text, ""));
-    (one.strip_prefix("none").unwrap_or(one), rest)
+/// Whether the commit of a line comes to what it says.
+pub(crate) fn comes_to_line(alloc: Global, line: &str) -> Result<bool, AllocError> {
+    let mut map = DocumentMap::new(alloc);
+    let mut writes = Writes::new(alloc);
+    let is_so = comes_to_line_in(alloc, &mut map, &mut writes, line);
+    drop(map);
+    drop(writes);
+    is_so
 }
 
 #[test]
 fn commits(rt: HostRuntime) {
-    let mut rows: u32 = 0;
-    for line in COMMITS.split("\n") {
-        if !line.starts_with("//") {
-            assert!(rt; is_so(rt.alloc(), line).expect(&rt, "memory"), "{line}");
-            rows = rows.saturating_add(1);
-        }
-    }
-    assert!(rt; rows == 81, "{rows} rows");
+    holds(&rt, rt.alloc(), Line::Commit, COMMITS, 81);
 }
 
-// Sets a document whose text makes it count so many bytes: 55 beside the text, as `c/a {s: ..}` does.
-fn of_size(alloc: Global, bytes: usize) -> Result<Act, AllocError> {
-    let name = name_of(alloc, "a")?;
-    let key = Text::from_str(alloc, "s")?;
-    let text = "x".repeat(alloc, bytes.saturating_sub(55))?;
-    let fields = field(alloc, key, Value::String(Text::of(text)))?;
-    Ok(Act::Set {
-        name,
-        fields: SharedFields::of(alloc, fields)?,
-    })
+// ---- the size of a document
+
+// Fields that make a document count so many bytes: 55 beside the text, as `c/a {s: ..}` does.
+fn fields_of_size(alloc: Global, bytes: usize) -> Result<Fields, AllocError> {
+    let text = long_text(alloc, bytes.saturating_sub(55))?;
+    field(alloc, "s", Value::String(text))
 }
 
-fn add_of_size(alloc: Global, writes: &mut Writes, bytes: usize) -> Result<(), AllocError> {
-    writes.push(write_of(alloc, of_size(alloc, bytes)?, "", Precondition::None)?)
+fn set_of_size(alloc: Global, bytes: usize) -> Result<Act, AllocError> {
+    let fields = SharedFields::of(alloc, fields_of_size(alloc, bytes)?)?;
+    let name = name_in_c(alloc, "a")?;
+    Ok(Act::Set { name, fields })
 }
 
-// Whether a document of this size is refused with this message, where there was none before.
-fn is_refused(alloc: Global, bytes: usize, told: &str) -> Result<bool, AllocError> {
-    let map = DocumentMap::new(alloc);
-    let mut writes = Writes::new(alloc);
-    is_refused_in(alloc, &map, &mut writes, bytes, told)
+fn write_of_size(alloc: Global, bytes: usize) -> Result<Write, AllocError> {
+    let act = set_of_size(alloc, bytes)?;
+    write_of(alloc, act, "", Precondition::None)
 }
 
-fn is_refused_in(
-    alloc: Global,
-    map: &DocumentMap,
-    writes: &mut Writes,
-    bytes: usize,
-    told: &str,
-) -> Result<bool, AllocError> {
-    add_of_size(alloc, writes, bytes)?;
-    comes_to(alloc, map, writes, told, "")
-}
-
-fn is_taken(alloc: Global, bytes: usize) -> Result<bool, AllocError> {
-    let map = DocumentMap::new(alloc);
-    let mut writes = Writes::new(alloc);
-    is_taken_in(alloc, &map, &mut writes, bytes)
-}
-
-fn is_taken_in(
-    alloc: Global,
-    map: &DocumentMap,
-    writes: &mut Writes,
-    bytes: usize,
-) -> Result<bool, AllocError> {
-    add_of_size(alloc, writes, bytes)?;
+// What such a commit is refused with, or nothing where it isn't.
+fn is_refused_with(alloc: Global, writes: &Writes, told: &str) -> Result<bool, AllocError> {
     if writes.len() > 500 {
         return Ok(false);
     }
-    let time = moment(TIME)?;
-    let documents = map.documents(alloc)?;
-    Ok(apply_batch(alloc, &documents, writes, time).is_ok())
+    let time = micros(TIME)?;
+    let documents = DocumentMap::new(alloc).documents(alloc)?;
+    match apply_batch(alloc, &documents, writes, time) {
+        Ok(_) => Ok(told.is_empty()),
+        Err(refusal) => is_refusal(alloc, &refusal, told),
+    }
+}
+
+// Whether a document of this size is refused with a message, or taken where that is empty.
+fn is_sized(alloc: Global, bytes: usize, told: &str) -> Result<bool, AllocError> {
+    let mut writes = Writes::new(alloc);
+    writes.push(write_of_size(alloc, bytes)?)?;
+    is_refused_with(alloc, &writes, told)
+}
+
+fn sizes_are_bounded(alloc: Global) -> Result<bool, AllocError> {
+    Ok(
+        is_sized(alloc, 1_048_576, "")?
+            && is_sized(alloc, 1_048_577, "write 0: document has 1048577 bytes")?,
+    )
 }
 
 #[test]
 fn the_largest_document(rt: HostRuntime) {
-    let alloc = rt.alloc();
-    let told = "write 0: document has 1048577 bytes";
-    assert!(rt; is_refused(alloc, 1_048_577, told).expect(&rt, "memory"));
-    assert!(rt; is_taken(alloc, 1_048_576).expect(&rt, "memory"));
+    assert!(rt; sizes_are_bounded(rt.alloc()).expect(&rt, "memory"));
     writes_are_lawful();
     batches_are_lawful();
 }

@@ -4,7 +4,7 @@
 /// document, its condition, what it does, its input and its transforms; the changes; and the update times in the results.
 /// Where there are no results, the commit is refused with that message. A document without fields is told by `.`, no
 /// document by `-`, and one that is made anew by `*`.
-pub const COMMITS: &str = r#"// updates without a mask
+pub(crate) const COMMITS: &str = r#"// updates without a mask
 none | a,,set,n: 1 | a - > n: 1 | 9
 none | a,,set, | a - > . | 9
 a n: 1 | a,,set,m: 2 | a n: 1 > m: 2 | 9

@@ -1,7 +1,7 @@
 //! Fields, values and transforms in short, as the tests' tables have them: `a: 1 b: [ 'x null ] c: { d: true }`.
+use crate::short::{moment, name_of, number};
 use fs_path::{DocName, FieldPath, Ids, Paths, Text, parse_field};
-use fs_time::Micros;
-use fs_value::{Fields, SharedFields, Value, Values};
+use fs_value::{Fields, SharedFields, Value, Values, fields_same, same};
 use fs_write::{Act, Operation, Precondition, Transform, Transforms, Write};
 use std::alloc::{AllocError, Global};
 use std::mem::replace;
@@ -41,15 +41,45 @@ impl Open {
         replace(&mut self.fields, Fields::new(alloc))
     }
 
+    fn open(
+        &mut self,
+        alloc: Global,
+        around: &mut Vec<Open>,
+        is_array: bool,
+    ) -> Result<(), AllocError> {
+        let outer = replace(self, Open::new(alloc, is_array));
+        Ok(around.push(outer)?)
+    }
+
+    fn take(&mut self, alloc: Global) -> Value {
+        match self.is_array {
+            true => Value::Array(self.take_values(alloc)),
+            false => Value::Map(self.take_fields(alloc)),
+        }
+    }
+
     // Puts what was read into the one around it, and goes on there.
     fn close(&mut self, alloc: Global, outer: Open) -> Result<(), AllocError> {
-        let inner = if self.is_array {
-            Value::Array(self.take_values(alloc))
-        } else {
-            Value::Map(self.take_fields(alloc))
-        };
+        let inner = self.take(alloc);
         *self = outer;
         self.put(alloc, inner)
+    }
+
+    fn close_in(&mut self, alloc: Global, around: &mut Vec<Open>) -> Result<(), AllocError> {
+        match around.pop() {
+            Some(outer) => self.close(alloc, outer),
+            None => Ok(()),
+        }
+    }
+
+    fn read_part(&mut self, alloc: Global, word: &str) -> Result<(), AllocError> {
+        match word.strip_suffix(":") {
+            Some(key) => {
+                self.key = name(alloc, key)?;
+                Ok(())
+            }
+            None => self.put(alloc, scalar(alloc, word)?),
+        }
     }
 
     fn read_word(
@@ -59,19 +89,10 @@ impl Open {
         word: &str,
     ) -> Result<(), AllocError> {
         match word {
-            "[" => Ok(around.push(replace(self, Open::new(alloc, true)))?),
-            "{" => Ok(around.push(replace(self, Open::new(alloc, false)))?),
-            "]" | "}" => match around.pop() {
-                Some(outer) => self.close(alloc, outer),
-                None => Ok(()),
-            },
-            _ => match word.strip_suffix(":") {
-                Some(key) => {
-                    self.key = name(alloc, key)?;
-                    Ok(())
-                }
-                None => self.put(alloc, scalar(alloc, word)?),
-            },
+            "[" => self.open(alloc, around, true),
+            "{" => self.open(alloc, around, false),
+            "]" | "}" => self.close_in(alloc, around),
+            _ => self.read_part(alloc, word),
         }
     }
 
@@ -103,93 +124,123 @@ impl Open {
     }
 }
 
-pub fn number(text: &str) -> Result<i64, AllocError> {
-    match text.parse::<i64>() {
-        Ok(n) => Ok(n),
-        Err(_) => Err(AllocError),
-    }
+/// A text of so many bytes.
+pub(crate) fn long_text(alloc: Global, bytes: usize) -> Result<Text, AllocError> {
+    Ok(Text::of("x".repeat(alloc, bytes)?))
 }
 
 // `*1500` is a name of 1,500 bytes.
 fn name(alloc: Global, text: &str) -> Result<Text, AllocError> {
-    let Some(length) = text.strip_prefix("*") else {
-        return Text::from_str(alloc, text);
-    };
-    let mut long = String::new(alloc);
-    for _ in 0..number(length)? {
-        long.push('x')?;
+    match text.strip_prefix("*") {
+        Some(bytes) => long_text(alloc, bytes.parse::<usize>().unwrap_or(0)),
+        None => Text::from_str(alloc, text),
     }
-    Ok(Text::of(long))
 }
 
-// `^20` is a value of depth 20, maps in maps.
+/// The fields with this one alone.
+pub(crate) fn field(alloc: Global, key: &str, value: Value) -> Result<Fields, AllocError> {
+    let mut fields = Fields::new(alloc);
+    fields.put(Text::from_str(alloc, key)?, value)?;
+    Ok(fields)
+}
+
+fn map_of(alloc: Global, inner: Value) -> Result<Value, AllocError> {
+    Ok(Value::Map(field(alloc, "a", inner)?))
+}
+
+fn nest(alloc: Global, value: &mut Value, depth: i64) -> Result<(), AllocError> {
+    for _ in 1..depth {
+        *value = map_of(alloc, replace(value, Value::Null))?;
+    }
+    Ok(())
+}
+
+// Maps in maps, of this depth.
 fn nested(alloc: Global, depth: i64) -> Result<Value, AllocError> {
     let mut value = Value::Null;
     nest(alloc, &mut value, depth)?;
     Ok(value)
 }
 
-fn nest(alloc: Global, value: &mut Value, depth: i64) -> Result<(), AllocError> {
-    for _ in 1..depth {
-        let key = Text::from_str(alloc, "a")?;
-        *value = Value::Map(field(alloc, key, replace(value, Value::Null))?);
+fn string(alloc: Global, text: &str) -> Result<Value, AllocError> {
+    Ok(Value::String(Text::from_str(alloc, text)?))
+}
+
+// `'x` a string, `@5` a time in microseconds, `^20` a nest of depth 20, or a number.
+fn marked(alloc: Global, word: &str) -> Result<Value, AllocError> {
+    match (
+        word.strip_prefix("'"),
+        word.strip_prefix("@"),
+        word.strip_prefix("^"),
+    ) {
+        (Some(text), _, _) => string(alloc, text),
+        (_, Some(time), _) => Ok(Value::Timestamp(moment(time)?)),
+        (_, _, Some(depth)) => nested(alloc, number(depth)?),
+        _ => Ok(Value::Integer(number(word)?)),
     }
-    Ok(())
 }
 
-/// The fields with this one alone.
-pub fn field(alloc: Global, key: Text, value: Value) -> Result<Fields, AllocError> {
-    let mut fields = Fields::new(alloc);
-    fields.put(key, value)?;
-    Ok(fields)
-}
-
-// `null`, `true`, `false`, `'x` a string, `@5` a time in microseconds, `^20` a nest, or a number.
 fn scalar(alloc: Global, word: &str) -> Result<Value, AllocError> {
     match word {
-        "null" => return Ok(Value::Null),
-        "true" => return Ok(Value::Boolean(true)),
-        "false" => return Ok(Value::Boolean(false)),
-        _ => {}
+        "null" => Ok(Value::Null),
+        "true" => Ok(Value::Boolean(true)),
+        "false" => Ok(Value::Boolean(false)),
+        _ => marked(alloc, word),
     }
-    if let Some(text) = word.strip_prefix("'") {
-        return Ok(Value::String(Text::from_str(alloc, text)?));
-    }
-    if let Some(time) = word.strip_prefix("@") {
-        return Ok(Value::Timestamp(moment(number(time)?)?));
-    }
-    match word.strip_prefix("^") {
-        Some(depth) => nested(alloc, number(depth)?),
-        None => Ok(Value::Integer(number(word)?)),
-    }
-}
-
-pub fn moment(n: i64) -> Result<Micros, AllocError> {
-    Micros::new(n).ok_or(AllocError)
 }
 
 /// Fields, each a key with `:` behind it and a value.
-pub fn fields(alloc: Global, text: &str) -> Result<Fields, AllocError> {
+pub(crate) fn fields(alloc: Global, text: &str) -> Result<Fields, AllocError> {
     let mut open = Open::new(alloc, false);
     open.read_fields(alloc, text)
 }
 
 /// Values in order.
-pub fn values(alloc: Global, text: &str) -> Result<Values, AllocError> {
+pub(crate) fn values(alloc: Global, text: &str) -> Result<Values, AllocError> {
     let mut open = Open::new(alloc, true);
     open.read_values(alloc, text)
 }
 
-/// A field path, or with `*1500` one of a single name of 1,500 bytes.
-pub fn path(alloc: Global, text: &str) -> Result<FieldPath, AllocError> {
-    if text.starts_with("*") {
-        let mut parts = Ids::new(alloc);
-        parts.push(name(alloc, text)?)?;
-        return Ok(FieldPath { parts });
+/// Whether fields are those of a text.
+pub(crate) fn are_fields(alloc: Global, found: &Fields, text: &str) -> Result<bool, AllocError> {
+    let wanted = fields(alloc, text)?;
+    Ok(fields_same(found, &wanted))
+}
+
+/// Whether values are those of a text.
+pub(crate) fn are_values(alloc: Global, found: &Values, text: &str) -> Result<bool, AllocError> {
+    let wanted = values(alloc, text)?;
+    Ok(all_same(found, &wanted))
+}
+
+fn all_same(some: &Values, others: &Values) -> bool {
+    for (one, other) in some.as_slice().iter().zip(others.as_slice()) {
+        if !same(one, other) {
+            return false;
+        }
     }
+    some.len() == others.len()
+}
+
+fn long_path(alloc: Global, text: &str) -> Result<FieldPath, AllocError> {
+    let name = name(alloc, text)?;
+    let mut parts = Ids::new(alloc);
+    parts.push(name)?;
+    Ok(FieldPath { parts })
+}
+
+fn parsed_path(alloc: Global, text: &str) -> Result<FieldPath, AllocError> {
     match parse_field(alloc, text) {
         Ok(path) => Ok(path),
         Err(_) => Err(AllocError),
+    }
+}
+
+// A field path, or with `*1500` one of a single name of 1,500 bytes.
+fn path(alloc: Global, text: &str) -> Result<FieldPath, AllocError> {
+    match text.starts_with("*") {
+        true => long_path(alloc, text),
+        false => parsed_path(alloc, text),
     }
 }
 
@@ -204,38 +255,33 @@ fn operation(alloc: Global, word: &str, operand: &str) -> Result<Operation, Allo
     })
 }
 
+fn transform(alloc: Global, at: &str, rest: &str) -> Result<Transform, AllocError> {
+    let (word, operand) = rest.split_once(" ").unwrap_or((rest, ""));
+    let path = path(alloc, at)?;
+    let operation = operation(alloc, word, operand)?;
+    Ok(Transform { path, operation })
+}
+
 /// Transforms with `;` between each two: a path, an operation and its operand, as `a.b increment 2; c append 'x 'y`.
-pub fn transforms(alloc: Global, text: &str) -> Result<Transforms, AllocError> {
+pub(crate) fn transforms(alloc: Global, text: &str) -> Result<Transforms, AllocError> {
     let mut transforms = Transforms::new(alloc);
-    add_transforms(alloc, &mut transforms, text)?;
+    for one in text.split(";") {
+        if let Some((at, rest)) = one.trim().split_once(" ") {
+            transforms.push(transform(alloc, at, rest)?)?;
+        }
+    }
     Ok(transforms)
 }
 
-fn add_transforms(
-    alloc: Global,
-    transforms: &mut Transforms,
-    text: &str,
-) -> Result<(), AllocError> {
-    for one in text.split(";") {
-        if let Some((at, rest)) = one.trim().split_once(" ") {
-            let (word, operand) = rest.split_once(" ").unwrap_or((rest, ""));
-            transforms.push(Transform {
-                path: path(alloc, at)?,
-                operation: operation(alloc, word, operand)?,
-            })?;
-        }
-    }
-    Ok(())
-}
-
 /// The name of a document of the collection `c`.
-pub fn name_of(alloc: Global, id: &str) -> Result<DocName, AllocError> {
-    DocName::of_path(format!(in alloc; "demo/(default)/c/{id}")?).ok_or(AllocError)
+pub(crate) fn name_in_c(alloc: Global, id: &str) -> Result<DocName, AllocError> {
+    let path = format!(in alloc; "c/{id}")?;
+    name_of(alloc, path.as_str())
 }
 
 /// What a write does to a document: `set`, `merge` and the paths of its mask, or `delete`.
-pub fn act(alloc: Global, id: &str, text: &str, input: &str) -> Result<Act, AllocError> {
-    let name = name_of(alloc, id)?;
+pub(crate) fn act(alloc: Global, id: &str, text: &str, input: &str) -> Result<Act, AllocError> {
+    let name = name_in_c(alloc, id)?;
     let (word, paths) = text.split_once(" ").unwrap_or((text, ""));
     Ok(match word {
         "set" => Act::Set {
@@ -252,7 +298,7 @@ pub fn act(alloc: Global, id: &str, text: &str, input: &str) -> Result<Act, Allo
 }
 
 /// Fields as a document holds them.
-pub fn shared(alloc: Global, text: &str) -> Result<SharedFields, AllocError> {
+pub(crate) fn shared(alloc: Global, text: &str) -> Result<SharedFields, AllocError> {
     SharedFields::of(alloc, fields(alloc, text)?)
 }
 
@@ -265,7 +311,7 @@ fn mask(alloc: Global, text: &str) -> Result<Paths, AllocError> {
 }
 
 /// A write with these transforms.
-pub fn write_of(
+pub(crate) fn write_of(
     alloc: Global,
     act: Act,
     transforms_text: &str,

@@ -1,92 +1,75 @@
 //! Transforms and rules of writes, by tables.
-use crate::write::short::{act, fields, moment, name_of, shared, transforms, values, write_of};
+use crate::short::{cell, micros, number};
+use crate::table::{Line, holds};
+use crate::write::batch::{add_writes, document, is_document, is_named};
+use crate::write::short::{are_fields, are_values, fields, name_in_c, transforms, values};
 use crate::write::tables::{CHECKED, SERVER_TIMES, TRANSFORMED};
-use fs_value::{Document, Fields, Value, Values, fields_same, same};
+use fs_time::Micros;
+use fs_value::Fields;
 use fs_write::*;
 use std::alloc::{AllocError, Global};
 
 // 2024-01-01T00:00:00.123456Z
 const TIME: i64 = 1_704_067_200_123_456;
 
-fn is_transformed(
-    alloc: Global,
-    before: &str,
-    changes: &str,
-    time: i64,
-    after: &str,
-    results: &str,
-) -> Result<bool, AllocError> {
-    let changes = copied_transforms(alloc, changes)?;
-    is_changed(alloc, &changes, before, time, after, results)
-}
+// ---- transforms
 
 fn copied_transforms(alloc: Global, text: &str) -> Result<Transforms, AllocError> {
     let transforms = transforms(alloc, text)?;
     transforms.copy(alloc)
 }
 
-// Whether fields change to others, with these results.
 fn is_changed(
     alloc: Global,
+    found: &mut Fields,
     changes: &Transforms,
+    time: Micros,
+    after: &str,
+    results: &str,
+) -> Result<bool, AllocError> {
+    let told = apply_transforms(alloc, found, changes, time)?;
+    Ok(are_values(alloc, &told, results)? && are_fields(alloc, found, after)?)
+}
+
+// Whether fields change to others at a time, with these results.
+fn is_changed_at(
+    alloc: Global,
+    time: i64,
     before: &str,
-    time: i64,
+    changes: &str,
     after: &str,
     results: &str,
 ) -> Result<bool, AllocError> {
+    let time = micros(time)?;
+    let changes = copied_transforms(alloc, changes)?;
     let mut found = fields(alloc, before)?;
-    is_changed_in(alloc, &mut found, changes, time, after, results)
+    is_changed(alloc, &mut found, &changes, time, after, results)
 }
 
-fn is_changed_in(
-    alloc: Global,
-    found: &mut Fields,
-    changes: &Transforms,
-    time: i64,
-    after: &str,
-    results: &str,
-) -> Result<bool, AllocError> {
-    let is_told = tells(alloc, found, changes, time, results)?;
-    let expected = fields(alloc, after)?;
-    Ok(is_told && fields_same(found, &expected))
+/// Whether fields change as a line says.
+pub(crate) fn is_transformed(alloc: Global, line: &str) -> Result<bool, AllocError> {
+    let (before, rest) = cell(line);
+    let (changes, rest) = cell(rest);
+    let (after, results) = cell(rest);
+    is_changed_at(alloc, TIME, before, changes, after, cell(results).0)
 }
 
-// Whether changes that are applied have these results.
-fn tells(
-    alloc: Global,
-    found: &mut Fields,
-    changes: &Transforms,
-    time: i64,
-    results: &str,
-) -> Result<bool, AllocError> {
-    let time = moment(time)?;
-    let told = Value::Array(apply_transforms(alloc, found, changes, time)?);
-    is_array(alloc, &told, results)
-}
-
-fn is_array(alloc: Global, found: &Value, text: &str) -> Result<bool, AllocError> {
-    let expected = Value::Array(values(alloc, text)?);
-    Ok(same(found, &expected))
+/// Whether a server time is that of a line.
+pub(crate) fn is_rounded(alloc: Global, line: &str) -> Result<bool, AllocError> {
+    let (time, rounded) = cell(line);
+    let time = number(time)?;
+    let result = format!(in alloc; "@{rounded}")?;
+    let after = format!(in alloc; "t: @{rounded}")?;
+    is_changed_at(alloc, time, "", "t time", after.as_str(), result.as_str())
 }
 
 #[test]
 fn transforms_of_fields(rt: HostRuntime) {
-    let alloc = rt.alloc();
-    for (before, changes, after, results) in &TRANSFORMED {
-        assert!(rt;
-            is_transformed(alloc, before, changes, TIME, after, results).expect(&rt, "memory"),
-            "{before}: {changes}"
-        );
-    }
-    for (time, rounded) in &SERVER_TIMES {
-        let result = format!(in alloc; "@{rounded}").expect(&rt, "memory");
-        let after = format!(in alloc; "t: @{rounded}").expect(&rt, "memory");
-        assert!(rt;
-            is_transformed(alloc, "", "t time", *time, &after, &result).expect(&rt, "memory"),
-            "at {time}"
-        );
-    }
+    holds(&rt, rt.alloc(), Line::Transformed, TRANSFORMED, 51);
+    holds(&rt, rt.alloc(), Line::ServerTime, SERVER_TIMES, 9);
 }
+
+// ---- rules
 
 fn overlaps(alloc: Global, write: &Write) -> Result<bool, AllocError> {
     match &write.act {
@@ -95,104 +78,69 @@ fn overlaps(alloc: Global, write: &Write) -> Result<bool, AllocError> {
     }
 }
 
-// Whether a write and its copy break this rule first, or none where it is 0.
-fn is_checked(alloc: Global, row: &(&str, &str, &str, u8)) -> Result<bool, AllocError> {
-    let mut writes = Writes::new(alloc);
-    is_checked_in(alloc, &mut writes, row)
+// Whether a write breaks this rule first, or none where it is 0.
+fn breaks(alloc: Global, write: &Write, rule: i64) -> Result<bool, AllocError> {
+    let broken = check(write);
+    Ok(
+        i64::from(broken.unwrap_or(0)) == rule
+            && write.name().len() == 2
+            && check_with(alloc, write)? == broken
+            && overlaps(alloc, write)? == (rule == 2),
+    )
 }
 
-fn is_checked_in(
-    alloc: Global,
-    writes: &mut Writes,
-    row: &(&str, &str, &str, u8),
-) -> Result<bool, AllocError> {
-    let act = act(alloc, "a", row.0, row.1)?;
-    writes.push(write_of(alloc, act, row.2, Precondition::None)?)?;
+// Whether a write and its copy do so.
+fn break_rule(alloc: Global, writes: &Writes, rule: i64) -> Result<bool, AllocError> {
     let copied = writes.copy(alloc)?;
-    break_rule(alloc, writes, &copied, row.3)
+    match (writes.as_slice(), copied.as_slice()) {
+        ([write], [copy]) => Ok(breaks(alloc, write, rule)? && breaks(alloc, copy, rule)?),
+        _ => Ok(false),
+    }
 }
 
-fn break_rule(
-    alloc: Global,
-    writes: &Writes,
-    copied: &Writes,
-    rule: u8,
-) -> Result<bool, AllocError> {
-    for write in writes.as_slice().iter().chain(copied.as_slice()) {
-        if check(write).unwrap_or(0) != rule || write.name().len() != 2 {
-            return Ok(false);
-        }
-        if check_with(alloc, write)? != check(write) || overlaps(alloc, write)? != (rule == 2) {
-            return Ok(false);
-        }
-    }
-    Ok(copied.len() == 1)
+/// Whether the write of a line breaks its rule.
+pub(crate) fn is_checked(alloc: Global, line: &str) -> Result<bool, AllocError> {
+    let (text, rule) = cell(line);
+    let rule = number(rule)?;
+    let mut writes = Writes::new(alloc);
+    add_writes(alloc, &mut writes, text)?;
+    break_rule(alloc, &writes, rule)
 }
 
 #[test]
 fn the_least_rule_that_is_broken(rt: HostRuntime) {
-    for row in &CHECKED {
-        assert!(rt;
-            is_checked(rt.alloc(), row).expect(&rt, "memory"),
-            "{} {}: {}",
-            row.0,
-            row.1,
-            row.2
-        );
-    }
+    holds(&rt, rt.alloc(), Line::Rule, CHECKED, 62);
     operations_are_lawful();
 }
 
+// ---- copies
+
 fn result(alloc: Global) -> Result<WriteResult, AllocError> {
-    let updated = Some(moment(TIME)?);
+    let updated = Some(micros(TIME)?);
     Ok(WriteResult {
         updated,
         transforms: values(alloc, "1 null")?,
     })
 }
 
-fn is_result(alloc: Global, some: &WriteResult) -> Result<bool, AllocError> {
-    let updated = moment(TIME)?;
-    let expected = values(alloc, "1 null")?;
-    Ok(
-        some.updated == Some(updated)
-            && some.transforms.len() == 2
-            && begin_alike(&some.transforms, &expected),
-    )
-}
-
-fn begin_alike(some: &Values, others: &Values) -> bool {
-    for (value, other) in some.as_slice().iter().zip(others.as_slice()) {
-        if !same(value, other) {
-            return false;
-        }
-    }
-    true
-}
-
-fn are_results(alloc: Global, results: &WriteResults) -> Result<bool, AllocError> {
-    for some in results.as_slice() {
-        if !is_result(alloc, some)? {
-            return Ok(false);
-        }
-    }
-    Ok(true)
+fn copied_results(alloc: Global) -> Result<WriteResults, AllocError> {
+    let mut results = WriteResults::new(alloc);
+    results.push(result(alloc)?)?;
+    results.copy(alloc)
 }
 
 fn results_are_copied(alloc: Global) -> Result<bool, AllocError> {
-    let mut results = WriteResults::new(alloc);
-    result_is_copied(alloc, &mut results)
-}
-
-fn result_is_copied(alloc: Global, results: &mut WriteResults) -> Result<bool, AllocError> {
-    results.push(result(alloc)?)?;
-    let copied = results.copy(alloc)?;
-    are_results(alloc, &copied)
+    let updated = Some(micros(TIME)?);
+    let copied = copied_results(alloc)?;
+    match copied.as_slice() {
+        [copy] => Ok(copy.updated == updated && are_values(alloc, &copy.transforms, "1 null")?),
+        _ => Ok(false),
+    }
 }
 
 fn change(alloc: Global) -> Result<Change, AllocError> {
-    let name = name_of(alloc, "a")?;
-    let after = document(alloc)?;
+    let name = name_in_c(alloc, "a")?;
+    let after = document(alloc, "a", "n: 1", 1, 2)?;
     Ok(Change {
         name,
         before: None,
@@ -200,55 +148,26 @@ fn change(alloc: Global) -> Result<Change, AllocError> {
     })
 }
 
-fn document(alloc: Global) -> Result<Document, AllocError> {
-    let created = moment(1)?;
-    let updated = moment(2)?;
-    Ok(Document {
-        name: name_of(alloc, "a")?,
-        fields: shared(alloc, "n: 1")?,
-        created,
-        updated,
-    })
-}
-
-fn is_change(alloc: Global, some: &Change) -> Result<bool, AllocError> {
-    let Some(after) = &some.after else {
-        return Ok(false);
-    };
-    let updated = moment(2)?;
-    let name = name_of(alloc, "a")?;
-    let expected = fields(alloc, "n: 1")?;
-    Ok(
-        some.name == name
-            && some.before.is_none()
-            && after.updated == updated
-            && fields_same(after.fields.as_fields(), &expected),
-    )
-}
-
-fn are_changes(alloc: Global, changes: &Changes) -> Result<bool, AllocError> {
-    for some in changes.as_slice() {
-        if !is_change(alloc, some)? {
-            return Ok(false);
-        }
-    }
-    Ok(true)
+fn copied_changes(alloc: Global) -> Result<Changes, AllocError> {
+    let mut changes = Changes::new(alloc);
+    changes.push(change(alloc)?)?;
+    changes.copy(alloc)
 }
 
 fn changes_are_copied(alloc: Global) -> Result<bool, AllocError> {
-    let mut changes = Changes::new(alloc);
-    change_is_copied(alloc, &mut changes)
-}
-
-fn change_is_copied(alloc: Global, changes: &mut Changes) -> Result<bool, AllocError> {
-    changes.push(change(alloc)?)?;
-    let copied = changes.copy(alloc)?;
-    are_changes(alloc, &copied)
+    let copied = copied_changes(alloc)?;
+    match copied.as_slice() {
+        [copy] => Ok(
+            is_named(alloc, copy, "a")?
+                && copy.before.is_none()
+                && is_document(alloc, &copy.after, "n: 1", 1, 2)?,
+        ),
+        _ => Ok(false),
+    }
 }
 
 #[test]
 fn results_and_changes_are_copied(rt: HostRuntime) {
-    let alloc = rt.alloc();
-    assert!(rt; results_are_copied(alloc).expect(&rt, "memory"));
-    assert!(rt; changes_are_copied(alloc).expect(&rt, "memory"));
+    assert!(rt; results_are_copied(rt.alloc()).expect(&rt, "memory"));
+    assert!(rt; changes_are_copied(rt.alloc()).expect(&rt, "memory"));
 }
