@@ -23,8 +23,14 @@ const ROUNDS: u32 = 20;
 /// Prints what a query over the collection costs beside so many other documents.
 pub fn measure(rt: &HostRuntime, others: u32) -> io::Result<()> {
     let mut store = Store::new(rt.alloc(), moment(0));
-    let absorbed = fill(rt.alloc(), &mut store, others)?;
-    measure_queries(rt, &store, others, absorbed)
+    let done = measure_filled(rt, &mut store, others);
+    drop(store);
+    done
+}
+
+fn measure_filled(rt: &HostRuntime, store: &mut Store, others: u32) -> io::Result<()> {
+    let absorbed = fill(rt.alloc(), store, others)?;
+    measure_queries(rt, store, others, absorbed)
 }
 
 fn measure_queries(rt: &HostRuntime, store: &Store, others: u32, absorbed: bool) -> io::Result<()> {
@@ -63,10 +69,16 @@ fn take_in(alloc: Global, store: &mut Store, commit: TimedChange) -> Result<bool
         to,
         changes,
     };
-    if !store.fits(&release) {
+    let done = absorb(alloc, store, &release);
+    drop(release);
+    done
+}
+
+fn absorb(alloc: Global, store: &mut Store, release: &Release) -> Result<bool, AllocError> {
+    if !store.fits(release) {
         return Ok(false);
     }
-    store.absorb(alloc, &release)?;
+    store.absorb(alloc, release)?;
     Ok(true)
 }
 
@@ -126,7 +138,9 @@ fn answered<L: Ledger>(alloc: Global, store: &Store, blank: Blank) -> Result<usi
 {
     let mut steps: Steps<L> = Steps::new(blank);
     let query = ten_asked(alloc)?;
-    count_of(alloc, store, &query, &mut steps)
+    let count = count_of(alloc, store, &query, &mut steps);
+    drop(query);
+    count
 }
 
 fn count_of<L: Ledger>(

@@ -21,7 +21,9 @@ pub fn measure(rt: &HostRuntime, count: u64) -> io::Result<()> {
 
 fn measure_names(rt: &HostRuntime, names: &[DocName]) -> io::Result<()> {
     let mut versions = Versions::new(rt.alloc(), moment(0));
-    measure_versions(rt, &mut versions, names)
+    let done = measure_versions(rt, &mut versions, names);
+    drop(versions);
+    done
 }
 
 fn measure_versions(

@@ -11,13 +11,17 @@ use std::alloc::Global;
 /// What is written of the value that is read.
 pub(crate) fn value_again(alloc: Global, v: &Value) -> Result<String, Bad> {
     let value = read_value(alloc, v, &Way::method("x"))?;
-    printed(alloc, write_value(alloc, &value))
+    let told = printed(alloc, write_value(alloc, &value));
+    drop(value);
+    told
 }
 
 /// What is written of the document that is read.
 pub(crate) fn document_again(alloc: Global, v: &Value) -> Result<String, Bad> {
     let document = document_of(alloc, v)?;
-    printed(alloc, write_document(alloc, &document))
+    let told = printed(alloc, write_document(alloc, &document));
+    drop(document);
+    told
 }
 
 pub(crate) fn document_of(alloc: Global, v: &Value) -> Result<Document, Bad> {

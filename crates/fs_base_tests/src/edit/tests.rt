@@ -100,12 +100,16 @@ fn after(alloc: Global, text: &str) -> Result<OpenFields, AllocError> {
 fn is_changed(alloc: Global, line: &str) -> Result<bool, AllocError> {
     let (given, wanted) = line.split_once("=>").unwrap_or((line, ""));
     let closed = after(alloc, given)?.close(alloc)?;
-    are(alloc, &closed, wanted)
+    let are_wanted = are(alloc, &closed, wanted);
+    drop(closed);
+    are_wanted
 }
 
 fn integer_after(alloc: Global, text: &str, path: &FieldPath) -> Result<Option<i64>, AllocError> {
     let fields = after(alloc, text)?;
-    Ok(fields.integer_at(path))
+    let n = fields.integer_at(path);
+    drop(fields);
+    Ok(n)
 }
 
 fn integer_at(alloc: Global, text: &str) -> Result<Option<i64>, AllocError> {

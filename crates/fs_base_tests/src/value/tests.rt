@@ -226,7 +226,9 @@ fn nested(alloc: Global, levels: u32, bottom: bool) -> Result<Value, AllocError>
 
 fn depth_of(alloc: Global, levels: u32) -> Result<u32, AllocError> {
     let value = nested(alloc, levels, true)?;
-    Ok(depth(&value))
+    let depth = depth(&value);
+    drop(value);
+    Ok(depth)
 }
 
 #[test]
@@ -294,7 +296,9 @@ fn long_text(alloc: Global, n: u32) -> Result<Value, AllocError> {
 
 fn counted(alloc: Global, n: Value) -> Result<u128, AllocError> {
     let document = document(alloc, "a", n)?;
-    Ok(size(&document))
+    let size = size(&document);
+    drop(document);
+    Ok(size)
 }
 
 fn value_counted(alloc: Global, line: &str) -> Result<u128, AllocError> {

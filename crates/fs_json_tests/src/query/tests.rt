@@ -107,7 +107,9 @@ fn is_lawful(alloc: Global, q: &Query, found: &[Document]) -> Result<bool, Alloc
 /// What a query answers over documents that are here and over those that are lent, where that is the same.
 pub(crate) fn answered(alloc: Global, q: &Query) -> Result<String, Bad> {
     let map = documents(alloc)?;
-    answered_twice(alloc, &map, q)
+    let told = answered_twice(alloc, &map, q);
+    drop(map);
+    told
 }
 
 fn answered_twice(alloc: Global, map: &DocumentMap, q: &Query) -> Result<String, Bad> {
@@ -142,7 +144,9 @@ fn shape_of(alloc: Global, normal: &Normal) -> Result<String, AllocError> {
 /// The paths of a query's whole order, and the number of its disjuncts.
 pub(crate) fn shape(alloc: Global, q: &Query) -> Result<String, Bad> {
     let normal = normal_form(alloc, q)?;
-    Ok(shape_of(alloc, &normal)?)
+    let shape = shape_of(alloc, &normal);
+    drop(normal);
+    Ok(shape?)
 }
 
 #[test]

@@ -52,7 +52,9 @@ fn query_of(alloc: Global, ask: Ask, v: &Value) -> Result<Query, Bad> {
 /// What a query tells that is read.
 pub(crate) fn query_told(alloc: Global, ask: Ask, v: &Value) -> Result<String, Bad> {
     let mut query = query_of(alloc, ask, v)?;
-    changed(alloc, ask, &mut query)
+    let told = changed(alloc, ask, &mut query);
+    drop(query);
+    told
 }
 
 fn changed(alloc: Global, ask: Ask, query: &mut Query) -> Result<String, Bad> {

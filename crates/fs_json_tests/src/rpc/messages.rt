@@ -17,11 +17,13 @@ fn read(alloc: Global, json: &str) -> Result<Message, Bad> {
 
 // What both writers write of a message, or what is written on the session `s`.
 fn written(alloc: Global, is_on: bool, message: Message) -> Result<String, Bad> {
-    if is_on {
+    let told = if is_on {
         printed(alloc, message_json_on(alloc, "s", &message))
     } else {
         written_twice(alloc, &message)
-    }
+    };
+    drop(message);
+    told
 }
 
 fn written_twice(alloc: Global, message: &Message) -> Result<String, Bad> {

@@ -23,7 +23,9 @@ fn written(alloc: Global, envelope: &Envelope) -> Result<String, Bad> {
 
 pub(crate) fn request_again(alloc: Global, json: &str) -> Result<String, Bad> {
     let envelope = read(alloc, json)?;
-    written(alloc, &envelope)
+    let told = written(alloc, &envelope);
+    drop(envelope);
+    told
 }
 
 fn session_request(alloc: Global, line: &Value) -> Result<SessionRequest, Bad> {
@@ -32,7 +34,9 @@ fn session_request(alloc: Global, line: &Value) -> Result<SessionRequest, Bad> {
 }
 
 fn line_of(alloc: Global, session: &Text, envelope: Envelope) -> Result<Value, AllocError> {
-    request_json_on(alloc, session, &envelope)
+    let line = request_json_on(alloc, session, &envelope);
+    drop(envelope);
+    line
 }
 
 // What is written of the request that a line of a script is read as.

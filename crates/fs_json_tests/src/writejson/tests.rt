@@ -23,7 +23,9 @@ fn write_of(alloc: Global, v: &Value) -> Result<Write, Bad> {
 /// What is written of the write that is read.
 pub(crate) fn write_again(alloc: Global, v: &Value) -> Result<String, Bad> {
     let write = write_of(alloc, v)?;
-    printed(alloc, write_write(alloc, &write))
+    let told = printed(alloc, write_write(alloc, &write));
+    drop(write);
+    told
 }
 
 fn push_write(alloc: Global, text: &mut String, write: &Write) -> Result<(), Bad> {
