@@ -1,5 +1,6 @@
 -- The numbers that requests may not pass. (This project's own.)
-use Rattle.std.specs.Prelude.{ℕ, ◌≤◌}
+use Rattle.std.specs.Prelude.{ℕ, ◌≤◌, unsigned_abs}
+use Rattle.fs_time.specs.Moment.{last_moment}
 use Rattle.fs_machine.specs.declared.limits.Limits.{Limits}
 
 abbrev pub greatest : Limits
@@ -10,7 +11,7 @@ greatest = record {
   batches = 1000000;
   journal = 134217728;
   ids = 18446744073709551615;
-  time = 253402300799999999;
+  time = unsigned_abs last_moment;
 }
 
 -- no session has a number so high

@@ -1,4 +1,5 @@
 //! Limits.
+use fs_time::Micros;
 
 /// The numbers that requests may not pass, by the names that refusals tell. A server may be given smaller ones, as tests do,
 /// but no greater.
@@ -35,7 +36,7 @@ impl Limits {
             batches: 1_000_000,
             journal: 134_217_728,
             ids: u64::MAX,
-            time: 253_402_300_799_999_999,
+            time: Micros::LAST.unsigned_abs(),
         }
     }
 

@@ -1,5 +1,5 @@
-//! What a commit is answered, written straight to its line: most lines of a script are commits, and a tree of JSON values for
-//! each would take a tenth of a run.
+//! What a commit is answered, written straight to its line: where a script has many commits, a tree of JSON values for each
+//! answer would take a tenth of its run.
 ghost use Rattle.std.specs.Prelude.{◌≡◌, ◌++◌, IfOk, OnOk};
 ghost use Rattle.std.specs.Bool.{OnTrue};
 ghost use Rattle.std.specs.List.{AllByRecursion};

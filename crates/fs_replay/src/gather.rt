@@ -5,12 +5,9 @@ ghost use Rattle.fs_replay.specs.Gathering.{GrowsBy};
 ghost use Rattle.fs_replay.specs.Limits.{longest_input};
 ghost use Rattle.fs_replay.specs.Moved.{Taken, TakenUpTo};
 
-use crate::limits::LONGEST_INPUT;
+use crate::limits::{LONGEST_INPUT, PIECE};
 use fs_edge::{Source, Status, Took};
 use std::alloc::{AllocError, Global};
-
-/// The bytes of one read, at most.
-const CHUNK: usize = 65_536;
 
 /// Why reading stopped.
 #[derive(Clone, Copy, Debug, PartialEq, Eq)]
@@ -97,10 +94,10 @@ pub fn gather<S: Source>(alloc: Global, source: &mut S) -> Result<Input, AllocEr
     ensures within { IfOk result (λ input. length input.bytes.items ≤ longest_input) }
     ensures full { IfOk result (λ input. (input.stop ≡ Stop.Full) ↔ (length input.bytes.items ≡ longest_input)) }
 {
-    let mut buffer = zeros(alloc, CHUNK)?;
+    let mut buffer = zeros(alloc, PIECE)?;
     let mut bytes = Vec::new(alloc);
     while bytes.len() < LONGEST_INPUT {
-        let room = CHUNK.min(LONGEST_INPUT - bytes.len());
+        let room = PIECE.min(LONGEST_INPUT - bytes.len());
         let stop = match take_next(source, &mut buffer[..room], &mut bytes)? {
             Took::Bytes(_) => continue,
             Took::End => Stop::End,

@@ -4,10 +4,8 @@ ghost use Rattle.std.specs.Bool.{OnTrue, OnFalse};
 ghost use Rattle.fs_edge.specs.Count.{Rose};
 ghost use Rattle.fs_replay.specs.Moved.{Gained, GainedFront};
 
+use crate::limits::PIECE;
 use fs_edge::{Gave, Sink};
-
-/// Output is given in pieces of about so many bytes.
-const PIECE: usize = 65_536;
 
 /// Gives all of a piece to a sink, asking again where it took a part. False where the sink failed, which then took
 /// some front of the piece.

@@ -42,6 +42,7 @@ pub record IsNext (docs : Docs) (old new : List (DocName × Staged)) (write : Wr
   pub done : one_write (get after (written_name write)) write time ≡ Ok (now_at docs new (written_name write), answer)
   pub shown : IsStage docs new (with_document after (written_name write) (now_at docs new (written_name write)))
 
+-- the changes, and before them the change of one more name, if it has one
 abbrev pub with_change : Option Change → List Change → List Change
 with_change None changes = changes
 with_change (Some c) changes = c ∷ changes

@@ -179,8 +179,8 @@ fn written(
     Ok((Some(document), answer))
 }
 
-// The write, where its act leaves these fields.
-fn carry_on(
+// What the write leaves and answers, where its act leaves these fields.
+fn carried_out(
     alloc: Global,
     there: Option<Document>,
     fields: SharedFields,
@@ -212,7 +212,7 @@ pub(crate) fn carry_out(
         return Err(Refusal::of(reason));
     }
     match fields_left(alloc, &write.act, &there)? {
-        Some(fields) => carry_on(alloc, there, fields, write, number, time),
+        Some(fields) => carried_out(alloc, there, fields, write, number, time),
         None => Ok((
             None,
             WriteResult {

@@ -1,7 +1,7 @@
 use Rattle.std.proofs.Common.{◌≡◌, ◌-◌, ◌≤◌, vec_len}
 use Rattle.fs_replay.specs.Limits.{longest_input}
 use Rattle.fs_replay.specs.Moved.{Taken}
-use Rattle.fs_replay.specs.declared.gather.TheConstants.{CHUNK}
+use Rattle.fs_replay.specs.declared.limits.TheConstants.{PIECE}
 use Rattle.fs_replay.proofs.gather.gather.Given as goal
 
 -- what was taken so far, in a buffer that keeps its size
@@ -11,7 +11,7 @@ invariant-loop-bytes g l = record {
   faults : g.S.Source.faults l.fn.source ≤ g.S.Source.faults l.source;
   ends : g.S.Source.ends l.fn.source ≤ g.S.Source.ends l.source;
   within : vec_len l.bytes ≤ longest_input;
-  buffer : vec_len l.buffer ≡ CHUNK;
+  buffer : vec_len l.buffer ≡ PIECE;
 }
 
 abbrev pub decreases-loop-bytes : goal.decreases-loop-bytes
