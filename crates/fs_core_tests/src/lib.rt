@@ -1,10 +1,13 @@
-//! Tests of writes, histories, versions, the store and the server, by the public calls of their libraries.
+//! Tests of writes, histories, versions, the store and the server, by the public calls of their libraries, and of scripts whose
+//! source or sink fails.
 #![tactic(auto)]
 
 #[cfg(test)]
 mod history;
 #[cfg(test)]
 mod now;
+#[cfg(test)]
+mod replay;
 #[cfg(test)]
 mod server;
 #[cfg(test)]
