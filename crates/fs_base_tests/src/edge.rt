@@ -1,16 +1,15 @@
 //! What the forms in memory do by their paces, and the real ones over readers and writers that fail or stop short.
+use crate::short::{moment, push, text};
 use fs_edge::{
     Clock, Door, Doors, Gave, Heard, Hearings, Link, MemoryClock, MemoryDoors, MemoryLink,
     MemorySink, MemorySource, Moments, Pace, Paces, RealSink, RealSource, Sent, Sink, Source,
     Status, Took,
 };
-use fs_path::{Bytes, Text};
-use fs_time::Micros;
+use fs_path::Bytes;
 use std::alloc::{AllocError, Global};
 use std::io;
 use std::io::{ErrorKind, Read, Write};
 use std::process::Abort;
-use std::test::Fail;
 
 /// A reader or writer that fails at its first call, and then moves at most two bytes at each.
 #[derive(Drop)]
@@ -49,11 +48,8 @@ impl<W: Write> Write for FailsOnce<W> {
 fn check_reads<S: Source>(rt: &impl Abort, source: &mut S, wants: &[(Took, &str)]) {
     for (want, text) in wants {
         let mut buffer = [0u8; 4];
-        let took = source.read(&mut buffer);
-        assert!(rt; took == *want, "{took:?}");
-        if let Took::Bytes(count) = took {
-            assert!(rt; &buffer[..count] == text.as_bytes());
-        }
+        assert!(rt; source.read(&mut buffer) == *want, "{text}");
+        assert!(rt; buffer.starts_with(text.as_bytes()), "{text}");
     }
 }
 
@@ -85,24 +81,22 @@ const READ_AFTER_A_FAILURE: [(Took, &str); 5] = [
     (Took::End, ""),
 ];
 
+fn bytes(rt: &impl Abort, alloc: Global) -> Bytes {
+    Bytes::from_slice(alloc, b"abcde").expect(rt, "memory")
+}
+
 #[test]
 fn a_source_in_memory_goes_by_its_paces(rt: HostRuntime) {
     let alloc = rt.alloc();
     let paces = Paces::of(vec![in alloc; Pace::AtMost(2), Pace::Fail].expect(&rt, "memory"));
-    let mut source = MemorySource::new(
-        Bytes::from_slice(alloc, b"abcde").expect(&rt, "memory"),
-        paces,
-    );
+    let mut source = MemorySource::new(bytes(&rt, alloc), paces);
     check_reads(&rt, &mut source, &BY_PACES);
 }
 
 #[test]
 fn sources_give_their_bytes_in_order(rt: HostRuntime) {
     let alloc = rt.alloc();
-    let mut free = MemorySource::new(
-        Bytes::from_slice(alloc, b"abcde").expect(&rt, "memory"),
-        Paces::free(alloc),
-    );
+    let mut free = MemorySource::new(bytes(&rt, alloc), Paces::free(alloc));
     check_reads(&rt, &mut free, &WHOLE);
     check_reads(&rt, &mut RealSource::new(b"abcde".as_slice()), &WHOLE);
 }
@@ -138,13 +132,19 @@ const GIVEN_AFTER_A_FAILURE: [(&str, Gave); 3] = [
     ("c", Gave::Bytes(1)),
 ];
 
+fn paces(rt: &impl Abort, alloc: Global, paces: &[Pace]) -> Paces {
+    Paces::of(Vec::from_slice(alloc, paces).expect(rt, "memory"))
+}
+
 #[test]
 fn a_sink_in_memory_goes_by_its_paces(rt: HostRuntime) {
     let alloc = rt.alloc();
-    let paces = vec![in alloc; Pace::AtMost(2), Pace::Fail, Pace::AtMost(0), Pace::Fail].expect(
-        &rt, "memory",
+    let paces = paces(
+        &rt,
+        alloc,
+        &[Pace::AtMost(2), Pace::Fail, Pace::AtMost(0), Pace::Fail],
     );
-    let mut sink = MemorySink::new(alloc, Paces::of(paces));
+    let mut sink = MemorySink::new(alloc, paces);
     check_writes(&rt, &mut sink, &GIVEN_BY_PACES);
     assert!(rt; sink.given().as_slice() == b"abc".as_slice());
 }
@@ -167,90 +167,75 @@ fn a_sink_goes_on_after_a_failure(rt: HostRuntime) {
     assert!(rt; written.as_slice() == b"abc".as_slice());
 }
 
-/// A link that hears a message and then nothing, and whose second call of `send` fails.
-fn link_of(alloc: Global, message: &str) -> Result<MemoryLink, AllocError> {
-    let paces = vec![in alloc; Pace::Free, Pace::Fail]?;
-    let first = Text::from_str(alloc, message)?;
+fn hearings(rt: &impl Abort, alloc: Global, message: &str) -> Hearings {
     let mut heard = Vec::new(alloc);
-    heard.push(Heard::Message(first))?;
-    heard.push(Heard::Quiet)?;
-    Ok(MemoryLink::new(alloc, Hearings::of(heard), Paces::of(paces)))
+    let first = Heard::Message(text(rt, alloc, message));
+    heard.push(first).expect(rt, "memory");
+    heard.push(Heard::Quiet).expect(rt, "memory");
+    Hearings::of(heard)
 }
 
-/// What a link hears next, in a word where it is no message.
-fn heard(alloc: Global, link: &mut MemoryLink) -> Result<Text, AllocError> {
-    match link.receive()? {
-        Heard::Message(text) => Ok(text),
-        Heard::Quiet => Text::from_str(alloc, "quiet"),
-        Heard::Closed => Text::from_str(alloc, "closed"),
-        Heard::Failed => Text::from_str(alloc, "failed"),
+/// A link that hears a message and then nothing, and whose second call of `send` fails.
+fn link_of(rt: &impl Abort, alloc: Global, message: &str) -> MemoryLink {
+    let paces = paces(rt, alloc, &[Pace::Free, Pace::Fail]);
+    MemoryLink::new(alloc, hearings(rt, alloc, message), paces)
+}
+
+/// Tells what a link hears next, in a word where it is no message.
+fn push_heard(rt: &impl Abort, link: &mut MemoryLink, told: &mut String) {
+    match link.receive().expect(rt, "memory") {
+        Heard::Message(text) => push(rt, told, text.as_str()),
+        Heard::Quiet => push(rt, told, "quiet"),
+        Heard::Closed => push(rt, told, "closed"),
+        Heard::Failed => push(rt, told, "failed"),
+    }
+    push(rt, told, " ");
+}
+
+fn push_sent(rt: &impl Abort, link: &mut MemoryLink, message: &str, told: &mut String) {
+    match link.send(message).expect(rt, "memory") {
+        Sent::Done => push(rt, told, "Done "),
+        Sent::Failed => push(rt, told, "Failed "),
     }
 }
 
-fn push_word(text: &mut String, word: &str) -> Result<(), AllocError> {
-    text.push_str(" ")?;
-    text.push_str(word)
-}
-
-fn push_heard(alloc: Global, link: &mut MemoryLink, text: &mut String) -> Result<(), AllocError> {
-    let word = heard(alloc, link)?;
-    push_word(text, word.as_str())
-}
-
-fn push_sent(link: &mut MemoryLink, message: &str, text: &mut String) -> Result<(), AllocError> {
-    let word = match link.send(message)? {
-        Sent::Done => "Done",
-        Sent::Failed => "Failed",
-    };
-    push_word(text, word)
-}
-
-/// What a link hears and sends, in their order, and then all that it has sent.
-fn push_told(alloc: Global, link: &mut MemoryLink, text: &mut String) -> Result<(), AllocError> {
-    push_heard(alloc, link, text)?;
-    push_sent(link, "lost", text)?;
-    push_sent(link, "two", text)?;
-    push_heard(alloc, link, text)?;
-    push_heard(alloc, link, text)?;
-    for i in 0..link.sent().len() {
-        push_word(text, link.sent().at(i).as_str())?;
-    }
-    Ok(())
-}
-
-fn link_told(alloc: Global) -> Result<String, AllocError> {
-    let mut text = String::new(alloc);
-    push_link_told(alloc, &mut text)?;
-    Ok(text)
-}
-
-fn push_link_told(alloc: Global, text: &mut String) -> Result<(), AllocError> {
-    let mut link = link_of(alloc, "one")?;
-    push_told(alloc, &mut link, text)
+/// Checks what a link hears and sends, in their order, and then what it has sent.
+fn check_link(rt: &impl Abort, alloc: Global, link: &mut MemoryLink, want: &str) {
+    let mut told = String::new(alloc);
+    push_heard(rt, link, &mut told);
+    push_sent(rt, link, "lost", &mut told);
+    push_sent(rt, link, "two", &mut told);
+    push_heard(rt, link, &mut told);
+    push_heard(rt, link, &mut told);
+    assert!(rt; link.sent().len() == 1);
+    push(rt, &mut told, link.sent().at(0).as_str());
+    assert!(rt; told.as_str() == want, "{told}");
 }
 
 #[test]
 fn a_link_in_memory_hears_and_sends_in_order(rt: HostRuntime) {
-    let told = link_told(rt.alloc()).expect(&rt, "memory");
-    assert!(rt; told.trim() == "one Failed Done quiet closed two", "{told}");
+    let alloc = rt.alloc();
+    let want = "one Failed Done quiet closed two";
+    check_link(&rt, alloc, &mut link_of(&rt, alloc, "one"), want);
+}
+
+fn has_failed(rt: &impl Abort, door: Result<Door<MemoryLink>, AllocError>) -> bool {
+    matches!(&door.expect(rt, "memory"), Door::Failed)
 }
 
 #[test]
 fn doors_without_links_fail(rt: HostRuntime) {
     let mut doors = MemoryDoors::new();
     assert!(rt; doors.listen(8080).expect(&rt, "memory") == Sent::Failed);
-    assert!(rt; matches!(&doors.accept().expect(&rt, "memory"), Door::Failed));
-    assert!(rt; matches!(&doors.dial(8080).expect(&rt, "memory"), Door::Failed));
+    assert!(rt; has_failed(&rt, doors.accept()));
+    assert!(rt; has_failed(&rt, doors.dial(8080)));
 }
 
 #[test]
 fn a_clock_in_memory_tells_its_last_moment_again(rt: HostRuntime) {
     let alloc = rt.alloc();
-    let first = Micros::new(1).expect(&rt, "a moment");
-    let second = Micros::new(2).expect(&rt, "a moment");
-    let mut clock = MemoryClock::new(Moments::of(vec![in alloc; first, second].expect(
-        &rt, "memory",
-    )));
+    let moments = Vec::from_slice(alloc, &[moment(&rt, 1), moment(&rt, 2)]);
+    let mut clock = MemoryClock::new(Moments::of(moments.expect(&rt, "memory")));
     for moment in &[1, 2, 2] {
         assert!(rt; clock.now().get() == *moment);
     }

@@ -1,4 +1,4 @@
 //! Tests of what fs_edit gives, by its public calls.
 
 mod tables;
-mod tests;
+pub(crate) mod tests;

@@ -12,6 +12,8 @@ mod short;
 #[cfg(test)]
 mod status;
 #[cfg(test)]
+mod table;
+#[cfg(test)]
 mod time;
 #[cfg(test)]
 mod value;

@@ -1,10 +1,9 @@
 //! The numbers, the names and the messages of refusals, by tables.
-use fs_path::{Place, Rule, Text};
+use crate::short::{moment, text};
+use fs_path::{Place, Rule};
 use fs_status::{Code, Id, Limit, LineFault, Reason, Refusal, message};
-use fs_time::Micros;
 use std::alloc::{AllocError, Global};
 use std::process::Abort;
-use std::test::Fail;
 
 const STATUSES: [(Code, u16, u32, &str); 8] = [
     (Code::InvalidArgument, 400, 3, "INVALID_ARGUMENT"),
@@ -41,20 +40,37 @@ const LINES: [(LineFault, &str); 3] = [
 #[test]
 fn each_status_has_its_numbers_and_its_name(rt: HostRuntime) {
     for (code, http, rpc, name) in &STATUSES {
-        assert!(rt; code.http() == *http && code.rpc() == *rpc, "{name}");
-        assert!(rt; code.status() == *name, "{name}");
+        assert!(rt;
+            code.http() == *http && code.rpc() == *rpc && code.status() == *name,
+            "{name}"
+        );
     }
 }
 
-fn query_place(alloc: Global) -> Result<Place, AllocError> {
-    Place::method(alloc, "runQuery")?.member(alloc, "structuredQuery")
+fn query_place(rt: &impl Abort, alloc: Global) -> Place {
+    let place = Place::method(alloc, "runQuery").expect(rt, "memory");
+    place.member(alloc, "structuredQuery").expect(rt, "memory")
 }
 
-fn copied(alloc: Global, refusal: Refusal) -> Result<Refusal, AllocError> {
-    refusal.copy(alloc)
+fn copied(rt: &impl Abort, alloc: Global, refusal: Refusal) -> Refusal {
+    refusal.copy(alloc).expect(rt, "memory")
 }
 
-/// Checks the status, the message and the index of a copy of a reason's refusal.
+/// Checks the status, the message and the index of a refusal.
+fn check(
+    rt: &impl Abort,
+    alloc: Global,
+    told: &Refusal,
+    code: Code,
+    index: Option<u32>,
+    want: &str,
+) {
+    assert!(rt; told.code == code && told.index == index, "{want}");
+    let text = message(alloc, told).expect(rt, "memory");
+    assert!(rt; text.as_str() == want, "{text:?}");
+}
+
+/// Checks those of a copy of a reason's refusal.
 fn expect(
     rt: &impl Abort,
     alloc: Global,
@@ -62,138 +78,80 @@ fn expect(
     code: Code,
     index: Option<u32>,
     want: &str,
-) -> Result<(), Fail> {
-    let told = copied(alloc, Refusal::of(reason)).expect(rt, "memory");
-    assert!(rt; told.code == code && told.index == index, "{want}");
-    let text = message(alloc, &told).expect(rt, "memory");
-    assert!(rt; text.as_str() == want, "{text:?}");
-    Ok(())
+) {
+    let told = copied(rt, alloc, Refusal::of(reason));
+    check(rt, alloc, &told, code, index, want);
+}
+
+/// Checks a refusal for an argument that isn't valid.
+fn invalid(rt: &impl Abort, alloc: Global, reason: Reason, want: &str) {
+    expect(rt, alloc, reason, Code::InvalidArgument, None, want);
 }
 
 #[test]
-fn each_rule_and_each_fault_of_a_line_is_told(rt: HostRuntime) -> Result<(), Fail> {
+fn each_rule_and_each_fault_of_a_line_is_told(rt: HostRuntime) {
     let alloc = rt.alloc();
     for (rule, want) in &RULES {
-        let reason = Reason::Rule(*rule, query_place(alloc)?);
-        expect(&rt, alloc, reason, Code::InvalidArgument, None, want)?;
+        let reason = Reason::Rule(*rule, query_place(&rt, alloc));
+        invalid(&rt, alloc, reason, want);
     }
     for (line, want) in &LINES {
-        let reason = Reason::Line(*line);
-        expect(&rt, alloc, reason, Code::InvalidArgument, None, want)?;
+        invalid(&rt, alloc, Reason::Line(*line), want);
     }
-    Ok(())
 }
 
 #[test]
-fn each_reason_of_a_read_is_told(rt: HostRuntime) -> Result<(), Fail> {
+fn each_reason_of_a_read_is_told(rt: HostRuntime) {
     let alloc = rt.alloc();
-    let t1 = Micros::new(1_704_067_200_000_001).ok_or("a moment")?;
-    let t2 = Micros::new(1_704_067_200_000_002).ok_or("a moment")?;
-    let none = "no document at 2024-01-01T00:00:00.000001Z";
-    expect(
-        &rt,
-        alloc,
-        Reason::NoDocument(t1),
-        Code::NotFound,
-        None,
-        none,
-    )?;
-    let old = "read time 2024-01-01T00:00:00.000001Z is before 2024-01-01T00:00:00.000002Z";
-    expect(
-        &rt,
-        alloc,
-        Reason::TooOld(t1, t2),
-        Code::FailedPrecondition,
-        None,
-        old,
-    )?;
-    let new = "read time 2024-01-01T00:00:00.000002Z is after 2024-01-01T00:00:00.000001Z";
-    expect(
-        &rt,
-        alloc,
-        Reason::TooNew(t2, t1),
-        Code::InvalidArgument,
-        None,
-        new,
-    )
+    let t1 = moment(&rt, 1_704_067_200_000_001);
+    let t2 = moment(&rt, 1_704_067_200_000_002);
+    let reason = Reason::NoDocument(t1);
+    let want = "no document at 2024-01-01T00:00:00.000001Z";
+    expect(&rt, alloc, reason, Code::NotFound, None, want);
+    let reason = Reason::TooOld(t1, t2);
+    let want = "read time 2024-01-01T00:00:00.000001Z is before 2024-01-01T00:00:00.000002Z";
+    expect(&rt, alloc, reason, Code::FailedPrecondition, None, want);
+    let reason = Reason::TooNew(t2, t1);
+    let want = "read time 2024-01-01T00:00:00.000002Z is after 2024-01-01T00:00:00.000001Z";
+    invalid(&rt, alloc, reason, want);
 }
 
 #[test]
-fn what_is_not_built_or_not_there_is_told(rt: HostRuntime) -> Result<(), Fail> {
+fn what_is_not_built_or_not_there_is_told(rt: HostRuntime) {
     let alloc = rt.alloc();
-    let method = Reason::Method(Text::from_str(alloc, "listDocuments")?);
-    expect(
-        &rt,
-        alloc,
-        method,
-        Code::Unimplemented,
-        None,
-        "method listDocuments",
-    )?;
-    let limit = Reason::AtLimit(Text::from_str(alloc, "writes")?, 500);
-    expect(
-        &rt,
-        alloc,
-        limit,
-        Code::ResourceExhausted,
-        None,
-        "limit writes 500",
-    )?;
-    expect(
-        &rt,
-        alloc,
-        Reason::Memory,
-        Code::OutOfMemory,
-        None,
-        "out of memory",
-    )
+    let method = Reason::Method(text(&rt, alloc, "listDocuments"));
+    let want = "method listDocuments";
+    expect(&rt, alloc, method, Code::Unimplemented, None, want);
+    let limit = Reason::AtLimit(text(&rt, alloc, "writes"), 500);
+    let want = "limit writes 500";
+    expect(&rt, alloc, limit, Code::ResourceExhausted, None, want);
+    let (memory, want) = (Reason::Memory, "out of memory");
+    expect(&rt, alloc, memory, Code::OutOfMemory, None, want);
 }
 
 #[test]
-fn each_reason_of_a_write_names_it(rt: HostRuntime) -> Result<(), Fail> {
-    let t1 = Micros::new(1_704_067_200_000_001).ok_or("a moment")?;
-    let reasons = [
-        (
-            Reason::Missing(2),
-            Code::NotFound,
-            2,
-            "write 2: document missing",
-        ),
-        (
-            Reason::Exists(0),
-            Code::AlreadyExists,
-            0,
-            "write 0: document exists",
-        ),
-        (
-            Reason::OtherTime(1, Some(t1)),
-            Code::FailedPrecondition,
-            1,
-            "write 1: update time is 2024-01-01T00:00:00.000001Z",
-        ),
-        (
-            Reason::OtherTime(499, None),
-            Code::FailedPrecondition,
-            499,
-            "write 499: update time is none",
-        ),
-        (
-            Reason::DeepAfter(3),
-            Code::InvalidArgument,
-            3,
-            "write 3: E6",
-        ),
-        (
-            Reason::LargeAfter(4, 1_048_577),
-            Code::InvalidArgument,
-            4,
-            "write 4: document has 1048577 bytes",
-        ),
-    ];
-    for (reason, code, write, want) in reasons {
-        expect(&rt, rt.alloc(), reason, code, Some(write), want)?;
-    }
-    Ok(())
+fn each_reason_of_a_write_names_it(rt: HostRuntime) {
+    let alloc = rt.alloc();
+    let t1 = moment(&rt, 1_704_067_200_000_001);
+    let reason = Reason::Missing(2);
+    let want = "write 2: document missing";
+    expect(&rt, alloc, reason, Code::NotFound, Some(2), want);
+    let reason = Reason::Exists(0);
+    let want = "write 0: document exists";
+    expect(&rt, alloc, reason, Code::AlreadyExists, Some(0), want);
+    let code = Code::FailedPrecondition;
+    let reason = Reason::OtherTime(1, Some(t1));
+    let want = "write 1: update time is 2024-01-01T00:00:00.000001Z";
+    expect(&rt, alloc, reason, code, Some(1), want);
+    let reason = Reason::OtherTime(499, None);
+    let want = "write 499: update time is none";
+    expect(&rt, alloc, reason, code, Some(499), want);
+    let code = Code::InvalidArgument;
+    let reason = Reason::DeepAfter(3);
+    expect(&rt, alloc, reason, code, Some(3), "write 3: E6");
+    let reason = Reason::LargeAfter(4, 1_048_577);
+    let want = "write 4: document has 1048577 bytes";
+    expect(&rt, alloc, reason, code, Some(4), want);
 }
 
 fn is_limit_of_writes(limit: &Option<Limit>) -> bool {
@@ -205,36 +163,40 @@ fn is_limit_of_writes(limit: &Option<Limit>) -> bool {
 
 #[test]
 fn a_limit_is_named_by_its_refusal(rt: HostRuntime) {
-    let refusal = Refusal::at_limit(rt.alloc(), "writes", 500).expect(&rt, "memory");
-    assert!(rt; refusal.code == Code::ResourceExhausted && is_limit_of_writes(&refusal.limit));
-    let text = message(rt.alloc(), &refusal).expect(&rt, "memory");
-    assert!(rt; text.as_str() == "limit writes 500");
+    let alloc = rt.alloc();
+    let refusal = Refusal::at_limit(alloc, "writes", 500).expect(&rt, "memory");
+    assert!(rt; is_limit_of_writes(&refusal.limit));
+    check(
+        &rt,
+        alloc,
+        &refusal,
+        Code::ResourceExhausted,
+        None,
+        "limit writes 500",
+    );
 }
 
 #[test]
 fn want_of_memory_is_a_refusal_too(rt: HostRuntime) {
-    assert!(rt; Refusal::from(AllocError).code == Code::OutOfMemory);
+    let refusal = Refusal::from(AllocError);
+    assert!(rt; refusal.code == Code::OutOfMemory);
 }
 
-fn whole(alloc: Global) -> Result<Refusal, AllocError> {
-    let name = Text::from_str(alloc, "writes")?;
-    Ok(Refusal {
+fn whole(rt: &impl Abort, alloc: Global) -> Refusal {
+    let name = text(rt, alloc, "writes");
+    Refusal {
         code: Code::ResourceExhausted,
         reason: Reason::Line(LineFault::DoesNotApply),
         index: Some(2),
         conflict: Some(Id::new(7)),
         limit: Some(Limit { name, number: 500 }),
-    })
-}
-
-fn whole_copied(alloc: Global) -> Result<Refusal, AllocError> {
-    copied(alloc, whole(alloc)?)
+    }
 }
 
 #[test]
 fn a_copy_names_the_same(rt: HostRuntime) {
-    let copy = whole_copied(rt.alloc()).expect(&rt, "memory");
-    assert!(rt; copy.index == Some(2));
-    assert!(rt; copy.conflict == Some(Id::new(7)));
+    let alloc = rt.alloc();
+    let copy = copied(&rt, alloc, whole(&rt, alloc));
+    assert!(rt; copy.index == Some(2) && copy.conflict == Some(Id::new(7)));
     assert!(rt; is_limit_of_writes(&copy.limit));
 }

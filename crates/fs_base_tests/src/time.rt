@@ -1,8 +1,11 @@
 //! Texts and the moments that they are, counted from outside.
 
+use crate::short::push;
+use crate::table::{Line, holds};
 use fs_time::{Micros, TimeError, print, read_rfc3339};
 use std::alloc::Global;
-use std::test::Fail;
+use std::fmt::Write;
+use std::process::Abort;
 
 // A text, the microseconds that it reads as, and how those are printed.
 const READINGS: &str = r#"2024-01-01T00:00:00Z => 1704067200000000 2024-01-01T00:00:00Z
@@ -98,30 +101,24 @@ const READINGS: &str = r#"2024-01-01T00:00:00Z => 1704067200000000 2024-01-01T00
 T => bad text
 Z => bad text"#;
 
-// What a text reads as.
-fn answer(alloc: Global, text: &str) -> Result<String, Fail> {
+fn push_moment(rt: &impl Abort, alloc: Global, told: &mut String, t: Micros) {
+    write!(told, "{} ", t.get()).expect(rt, "memory");
+    push(rt, told, print(alloc, t).expect(rt, "memory").as_str());
+}
+
+/// Tells what a text reads as.
+pub(crate) fn tell_moment(rt: &impl Abort, alloc: Global, text: &str, told: &mut String) {
     match read_rfc3339(alloc, text) {
-        Ok(t) => {
-            let printed = print(alloc, t)?;
-            let printed = printed.as_str();
-            Ok(format!(in alloc; "{} {printed}", t.get())?)
-        }
-        Err(TimeError::OutOfRange) => Ok(format!(in alloc; "out of range")?),
-        Err(TimeError::BadText) => Ok(format!(in alloc; "bad text")?),
-        Err(error) => Err(Fail::from(error)),
+        Ok(t) => push_moment(rt, alloc, told, t),
+        Err(TimeError::OutOfRange) => push(rt, told, "out of range"),
+        Err(TimeError::BadText) => push(rt, told, "bad text"),
+        Err(TimeError::Memory(_)) => push(rt, told, "out of memory"),
     }
 }
 
 #[test]
-fn texts_are_read_and_printed(rt: HostRuntime) -> Result<(), Fail> {
-    for line in READINGS.lines() {
-        let Some((text, want)) = line.split_once(" => ") else {
-            return Err(Fail::new("a line without an answer"));
-        };
-        let got = answer(rt.alloc(), text)?;
-        assert_eq!(rt; got.as_str(), want, "{text}");
-    }
-    Ok(())
+fn texts_are_read_and_printed(rt: HostRuntime) {
+    holds(&rt, rt.alloc(), Line::Moment, READINGS);
 }
 
 #[test]

@@ -18,17 +18,21 @@ const ROUNDS: u32 = 2_000_000;
 
 fn main(rt: HostRuntime) -> io::Result<()> {
     for word in env::args(&rt)? {
-        if word.as_str() == "measure" {
-            measure(&rt)?;
-        }
-        if let Some(count) = word.as_str().strip_prefix("versions=") {
-            versions::measure(&rt, count.parse::<u64>().unwrap_or(0))?;
-        }
-        if let Some(count) = word.as_str().strip_prefix("store=") {
-            store::measure(&rt, count.parse::<u32>().unwrap_or(0))?;
-        }
+        measure_what(&rt, word.as_str())?;
     }
     Ok(())
+}
+
+// What a word names, with its number.
+fn measure_what(rt: &HostRuntime, word: &str) -> io::Result<()> {
+    let (what, count) = word.split_once("=").unwrap_or((word, ""));
+    let count = count.parse::<u32>().unwrap_or(0);
+    match what {
+        "measure" => measure(rt),
+        "versions" => versions::measure(rt, count),
+        "store" => store::measure(rt, count),
+        _ => Ok(()),
+    }
 }
 
 fn measure(rt: &HostRuntime) -> io::Result<()> {
@@ -37,8 +41,8 @@ fn measure(rt: &HostRuntime) -> io::Result<()> {
 }
 
 fn measure_names(rt: &HostRuntime) -> io::Result<()> {
-    let one = a_name(rt.alloc(), "m000001")?;
-    let other = a_name(rt.alloc(), "m000002")?;
+    let one = a_name(rt.alloc(), "m00000", 1)?;
+    let other = a_name(rt.alloc(), "m00000", 2)?;
     compare(rt, &one, &other)
 }
 
@@ -90,17 +94,15 @@ fn copies_of(alloc: Global, document: &Document) -> Result<u32, AllocError> {
     Ok(copies)
 }
 
-fn a_name(alloc: Global, id: &str) -> Result<DocName, AllocError> {
-    let path = format!(in alloc; "demo/(default)/rooms/r12/messages/{id}")?;
+// The name of a message: the front of its id, and a number.
+fn a_name(alloc: Global, front: &str, number: u64) -> Result<DocName, AllocError> {
+    let path = format!(in alloc; "demo/(default)/rooms/r12/messages/{front}{number}")?;
     DocName::of_path(path).ok_or(AllocError)
 }
 
+// A text of so many bytes, each of which is an `a`.
 fn text(alloc: Global, bytes: usize) -> Result<Value, AllocError> {
-    let mut text = String::new(alloc);
-    for _ in 0..bytes {
-        text.push('a')?;
-    }
-    Ok(Value::String(Text::of(text)))
+    Ok(Value::String(Text::of(format!(in alloc; "{:a<bytes$}", "")?)))
 }
 
 fn put(alloc: Global, fields: &mut Fields, key: &str, value: Value) -> Result<(), AllocError> {
@@ -111,17 +113,19 @@ fn put_text(alloc: Global, fields: &mut Fields, key: &str, bytes: usize) -> Resu
     put(alloc, fields, key, text(alloc, bytes)?)
 }
 
-fn put_scalars(alloc: Global, fields: &mut Fields) -> Result<(), AllocError> {
+fn put_all(alloc: Global, fields: &mut Fields) -> Result<(), AllocError> {
     put_text(alloc, fields, "name", 24)?;
     put_text(alloc, fields, "text", 120)?;
     put(alloc, fields, "count", Value::Integer(4_611_686_018))?;
     put(alloc, fields, "open", Value::Boolean(true))?;
     put(alloc, fields, "none", Value::Null)?;
-    put(alloc, fields, "at", Value::Timestamp(now()))?;
+    put(alloc, fields, "at", Value::Timestamp(moment(NOW)))?;
     let data = Bytes::from_slice(alloc, b"ABCDEFGHIJKLMNOPQRSTUVWXYZabc")?;
     put(alloc, fields, "data", Value::Bytes(data))?;
-    let owner = a_name(alloc, "u000001")?;
-    put(alloc, fields, "owner", Value::Reference(owner))
+    let owner = a_name(alloc, "u00000", 1)?;
+    put(alloc, fields, "owner", Value::Reference(owner))?;
+    put_tags(alloc, fields)?;
+    put_place(alloc, fields)
 }
 
 fn put_tags(alloc: Global, fields: &mut Fields) -> Result<(), AllocError> {
@@ -139,29 +143,41 @@ fn put_place(alloc: Global, fields: &mut Fields) -> Result<(), AllocError> {
     put(alloc, fields, "place", Value::Map(place))
 }
 
-fn put_all(alloc: Global, fields: &mut Fields) -> Result<(), AllocError> {
-    put_scalars(alloc, fields)?;
-    put_tags(alloc, fields)?;
-    put_place(alloc, fields)
-}
-
 fn some_fields(alloc: Global) -> Result<SharedFields, AllocError> {
     let mut fields = Fields::new(alloc);
     put_all(alloc, &mut fields)?;
     SharedFields::of(alloc, fields)
 }
 
-fn now() -> Micros {
-    Micros::new(1_704_067_200_000_001).unwrap()
+// One integer.
+fn one_field(alloc: Global, n: i64) -> Result<SharedFields, AllocError> {
+    let mut fields = Fields::new(alloc);
+    put(alloc, &mut fields, "n", Value::Integer(n))?;
+    SharedFields::of(alloc, fields)
+}
+
+const NOW: u64 = 1_704_067_200_000_001;
+
+// The moment of so many microseconds, which is now at the latest.
+fn moment(micros: u64) -> Micros {
+    match Micros::new(micros.min(NOW) as i64) {
+        Some(time) => time,
+        None => unreachable!(),
+    }
 }
 
 fn a_document(alloc: Global) -> Result<Document, AllocError> {
-    let name = a_name(alloc, "m000001")?;
+    let name = a_name(alloc, "m00000", 1)?;
     let fields = some_fields(alloc)?;
-    Ok(Document {
+    Ok(document_of(name, fields, moment(NOW)))
+}
+
+// The document that was made at a time.
+fn document_of(name: DocName, fields: SharedFields, time: Micros) -> Document {
+    Document {
         name,
         fields,
-        created: now(),
-        updated: now(),
-    })
+        created: time,
+        updated: time,
+    }
 }

@@ -1,13 +1,14 @@
 //! Times queries of the store: over a collection, beside so many documents of another one.
 ghost use Rattle.std.specs.Prelude.{◌≡◌, ◌<◌};
 
+use crate::{document_of, moment, one_field};
 use fs_edge::Steps;
 use fs_path::{DocName, Ids, Scope, Text};
 use fs_query::{Filter, Orders, Query};
 use fs_status::Id;
 use fs_store::{Release, Store};
 use fs_time::Micros;
-use fs_value::{Document, Fields, SharedFields, Value};
+use fs_value::Document;
 use fs_write::{Change, Changes, TimedChange, TimedChanges};
 use std::alloc::{AllocError, Global};
 use std::io;
@@ -45,13 +46,6 @@ fn measure_queries(rt: &HostRuntime, store: &Store, others: u32, absorbed: bool)
     )
 }
 
-fn moment(n: i64) -> Micros {
-    match Micros::new(n.clamp(0, 1_000_000_000)) {
-        Some(time) => time,
-        None => unreachable!(),
-    }
-}
-
 // Whether the documents were taken in: those of the collection, and the others.
 fn fill(alloc: Global, store: &mut Store, others: u32) -> Result<bool, AllocError> {
     Ok(
@@ -87,27 +81,22 @@ fn created(
     alloc: Global,
     collection: &str,
     count: u32,
-    time: i64,
+    time: u64,
 ) -> Result<TimedChange, AllocError> {
     let mut changes = Changes::new(alloc);
     for i in 0..count {
-        changes.push(creation(alloc, collection, i, time)?)?;
+        changes.push(creation(alloc, collection, i, moment(time))?)?;
     }
     Ok(TimedChange {
         time: moment(time),
-        id: Id::new(time.unsigned_abs()),
+        id: Id::new(time),
         changes,
     })
 }
 
-fn creation(alloc: Global, collection: &str, i: u32, time: i64) -> Result<Change, AllocError> {
+fn creation(alloc: Global, collection: &str, i: u32, time: Micros) -> Result<Change, AllocError> {
     let name = a_name(alloc, collection, i)?;
-    let after = Document {
-        name: a_name(alloc, collection, i)?,
-        fields: a_field(alloc, i)?,
-        created: moment(time),
-        updated: moment(time),
-    };
+    let after = a_document(alloc, collection, i, time)?;
     Ok(Change {
         name,
         before: None,
@@ -115,15 +104,20 @@ fn creation(alloc: Global, collection: &str, i: u32, time: i64) -> Result<Change
     })
 }
 
+fn a_document(
+    alloc: Global,
+    collection: &str,
+    i: u32,
+    time: Micros,
+) -> Result<Document, AllocError> {
+    let name = a_name(alloc, collection, i)?;
+    let fields = one_field(alloc, i as i64)?;
+    Ok(document_of(name, fields, time))
+}
+
 fn a_name(alloc: Global, collection: &str, i: u32) -> Result<DocName, AllocError> {
     let path = format!(in alloc; "demo/(default)/{collection}/d{i:07}")?;
     DocName::of_path(path).ok_or(AllocError)
-}
-
-fn a_field(alloc: Global, i: u32) -> Result<SharedFields, AllocError> {
-    let mut fields = Fields::new(alloc);
-    fields.put(Text::from_str(alloc, "n")?, Value::Integer(i as i64))?;
-    SharedFields::of(alloc, fields)
 }
 
 fn ask(alloc: Global, store: &Store) -> Result<usize, AllocError> {

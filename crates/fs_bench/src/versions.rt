@@ -1,7 +1,8 @@
 //! Times version chains: a million versions of so many documents, put in one by one, and looked up again.
-use fs_path::{DocName, Text};
+use crate::{a_name, document_of, moment, one_field};
+use fs_path::DocName;
 use fs_time::Micros;
-use fs_value::{Document, Fields, SharedFields, Value};
+use fs_value::SharedFields;
 use fs_versions::Versions;
 use fs_write::{Change, Changes};
 use std::alloc::{AllocError, Global};
@@ -14,7 +15,7 @@ const ROUNDS: u64 = 1_000_000;
 const STRIDE: u64 = 611_953;
 
 /// Prints what a version costs where there are so many documents.
-pub fn measure(rt: &HostRuntime, count: u64) -> io::Result<()> {
+pub fn measure(rt: &HostRuntime, count: u32) -> io::Result<()> {
     let names = names(rt.alloc(), count)?;
     measure_names(rt, &names)
 }
@@ -41,7 +42,7 @@ fn measure_installs(
     versions: &mut Versions,
     names: &[DocName],
 ) -> io::Result<()> {
-    let fields = some_fields(rt.alloc())?;
+    let fields = one_field(rt.alloc(), 1)?;
     time_installs(rt, versions, names, &fields)
 }
 
@@ -85,27 +86,12 @@ fn measure_compaction(rt: &HostRuntime, versions: &mut Versions) -> io::Result<(
     println!(rt; "a compaction to half of the time: {compacting} ms")
 }
 
-// The moment of a round.
-fn moment(round: u64) -> Micros {
-    match Micros::new(round.min(ROUNDS) as i64) {
-        Some(time) => time,
-        None => unreachable!(),
-    }
-}
-
-fn names(alloc: Global, count: u64) -> Result<Vec<DocName>, AllocError> {
+fn names(alloc: Global, count: u32) -> Result<Vec<DocName>, AllocError> {
     let mut names = Vec::new(alloc);
     for i in 0..count {
-        let path = format!(in alloc; "demo/(default)/rooms/r12/messages/m{i}")?;
-        names.push(DocName::of_path(path).ok_or(AllocError)?)?;
+        names.push(a_name(alloc, "m", u64::from(i))?)?;
     }
     Ok(names)
-}
-
-fn some_fields(alloc: Global) -> Result<SharedFields, AllocError> {
-    let mut fields = Fields::new(alloc);
-    fields.put(Text::from_str(alloc, "n")?, Value::Integer(1))?;
-    SharedFields::of(alloc, fields)
 }
 
 // The change of a round: the document that it comes to is set. All documents share their fields.
@@ -115,21 +101,24 @@ fn change(
     fields: &SharedFields,
     round: u64,
 ) -> Result<Option<Change>, AllocError> {
-    let Some(name) = name_of(names, round) else {
-        return Ok(None);
-    };
-    let time = moment(round);
-    let after = Document {
-        name: name.copy(alloc)?,
-        fields: fields.copy()?,
-        created: time,
-        updated: time,
-    };
-    Ok(Some(Change {
+    match name_of(names, round) {
+        Some(name) => Ok(Some(change_of(alloc, name, fields, moment(round))?)),
+        None => Ok(None),
+    }
+}
+
+fn change_of(
+    alloc: Global,
+    name: &DocName,
+    fields: &SharedFields,
+    time: Micros,
+) -> Result<Change, AllocError> {
+    let after = document_of(name.copy(alloc)?, fields.copy()?, time);
+    Ok(Change {
         name: name.copy(alloc)?,
         before: None,
         after: Some(after),
-    }))
+    })
 }
 
 fn name_of(names: &[DocName], round: u64) -> Option<&DocName> {

@@ -1,66 +1,69 @@
 //! The journal, what it counts, and which writes touch a read.
-use crate::short::{cell, fields, micros, name_of, query, writes};
-use crate::table::{Line, holds, tell};
+use crate::short::{cell, cut, fields_of, micros, name_of, query, writes};
+use crate::table::{Says, holds};
 use fs_history::{Batch, Journal, Read, Reads, histories_are_lawful, touches};
+use fs_path::DocName;
 use fs_status::Id;
 use fs_value::{Document, Documents};
-use std::alloc::{AllocError, Global};
+use std::alloc::Global;
+use std::process::Abort;
 
 // ---- reads
 
-fn document(alloc: Global, path: &str) -> Result<Document, AllocError> {
-    let time = micros(1)?;
-    let name = name_of(alloc, path)?;
-    let fields = fields(alloc, 1)?;
-    Ok(Document {
-        name,
-        fields,
+fn document(rt: &impl Abort, alloc: Global, path: &str) -> Document {
+    let time = micros(rt, 1);
+    Document {
+        name: name_of(rt, alloc, path),
+        fields: fields_of(rt, alloc, 1),
         created: time,
         updated: time,
-    })
+    }
 }
 
-fn documents(alloc: Global, paths: &str) -> Result<Documents, AllocError> {
+fn documents(rt: &impl Abort, alloc: Global, paths: &str) -> Documents {
     let mut documents = Documents::new(alloc);
     for path in paths.split_whitespace() {
-        documents.push(document(alloc, path)?)?;
+        documents
+            .push(document(rt, alloc, path))
+            .expect(rt, "memory");
     }
-    Ok(documents)
+    documents
 }
 
-fn read_of_query(alloc: Global, text: &str) -> Result<Read, AllocError> {
-    let (scope, paths) = text.split_once(" ").unwrap_or((text, ""));
-    let shown = documents(alloc, paths)?;
-    let query = query(alloc, scope)?;
-    Ok(Read::Query { query, shown })
+fn read_of_query(rt: &impl Abort, alloc: Global, text: &str) -> Read {
+    let (scope, paths) = cut(text, " ");
+    Read::Query {
+        query: query(rt, alloc, scope),
+        shown: documents(rt, alloc, paths),
+    }
 }
 
-fn read_of_name(alloc: Global, text: &str) -> Result<Read, AllocError> {
-    let (path, n) = text.split_once("=").unwrap_or((text, "-"));
-    let name = name_of(alloc, path)?;
+fn read_of_name(rt: &impl Abort, alloc: Global, text: &str) -> Read {
+    let (path, n) = cut(text, "=");
+    let name = name_of(rt, alloc, path);
     let shown = match n {
         "-" => None,
-        _ => Some(document(alloc, path)?),
+        _ => Some(document(rt, alloc, path)),
     };
-    Ok(Read::Name { name, shown })
+    Read::Name { name, shown }
 }
 
 // `c/a=1` shows a document, `c/a=-` none, and `?c c/a c/b` is a query and the documents that it showed.
-fn read(alloc: Global, text: &str) -> Result<Read, AllocError> {
+fn read(rt: &impl Abort, alloc: Global, text: &str) -> Read {
     match text.strip_prefix("?") {
-        Some(text) => read_of_query(alloc, text),
-        None => read_of_name(alloc, text),
+        Some(text) => read_of_query(rt, alloc, text),
+        None => read_of_name(rt, alloc, text),
     }
 }
 
-fn reads(alloc: Global, text: &str) -> Result<Reads, AllocError> {
+fn reads(rt: &impl Abort, alloc: Global, text: &str) -> Reads {
     let mut reads = Reads::new(alloc);
     for one in text.split(", ") {
         if !one.is_empty() {
-            reads.push(read(alloc, one)?)?;
+            reads.push(read(rt, alloc, one)).expect(rt, "memory");
         }
     }
-    Ok(reads)
+    reads
 }
 
 // ---- the journal
@@ -76,38 +79,29 @@ none | ?c c/a c/b | 944
 none | ?c | 1008
 c/a=1 | c/a=1, ?**c c/a, c/b=- | 1258"#;
 
-fn batch(alloc: Global, number: u64, texts: &str, shown: &str) -> Result<Batch, AllocError> {
-    let time = micros(i64::try_from(number).unwrap_or(i64::MAX))?;
-    let writes = writes(alloc, texts)?;
-    let reads = reads(alloc, shown)?;
-    Ok(Batch {
-        time,
+fn batch(rt: &impl Abort, alloc: Global, number: u64, texts: &str, shown: &str) -> Batch {
+    Batch {
+        time: micros(rt, i64::try_from(number).unwrap_or(i64::MAX)),
         id: Id::new(number),
-        writes,
-        reads,
-    })
+        writes: writes(rt, alloc, texts),
+        reads: reads(rt, alloc, shown),
+    }
 }
 
-fn is_added(journal: &mut Journal, batch: Batch) -> Result<bool, AllocError> {
-    if !journal.ends_before(batch.time) {
-        return Ok(false);
-    }
-    journal.reserve(1)?;
+fn add(rt: &impl Abort, journal: &mut Journal, batch: Batch) {
+    assert!(rt; journal.ends_before(batch.time));
+    journal.reserve(1).expect(rt, "memory");
     journal.push(batch);
-    Ok(true)
 }
 
-// Adds the batch of a line, at the next time, and tells whether the journal counts what the line says.
-fn counts(alloc: Global, journal: &mut Journal, line: &str) -> Result<bool, AllocError> {
-    let (texts, rest) = cell(line);
-    let (shown, bytes) = cell(rest);
-    let number = journal.count().saturating_add(1);
-    if !is_added(journal, batch(alloc, number, texts, shown)?)? {
-        return Ok(false);
-    }
-    match bytes.parse::<u128>() {
-        Ok(bytes) => Ok(journal.bytes() == bytes),
-        Err(_) => Ok(false),
+// The batch of a line is added, at the next time, and the journal counts what the line says.
+impl Says for Journal {
+    fn is_so(&mut self, rt: &impl Abort, alloc: Global, line: &str) -> bool {
+        let (texts, rest) = cell(line);
+        let (shown, bytes) = cell(rest);
+        let number = self.count().saturating_add(1);
+        add(rt, self, batch(rt, alloc, number, texts, shown));
+        self.bytes() == bytes.parse::<u128>().unwrap_or(0)
     }
 }
 
@@ -120,34 +114,16 @@ fn are_numbered(journal: &Journal) -> bool {
     journal.count() == 9
 }
 
-fn ends_at(journal: &Journal, time: i64) -> Result<bool, AllocError> {
-    let time = micros(time)?;
-    let next = micros(time.get().saturating_add(1))?;
-    Ok(!journal.ends_before(time) && journal.ends_before(next))
-}
-
-fn tell_counts_in(
-    alloc: Global,
-    journal: &mut Journal,
-    wrong: &mut String,
-) -> Result<(), AllocError> {
-    for line in COUNTED.lines() {
-        tell(wrong, counts(alloc, journal, line)?, line)?;
-    }
-    let is_so = are_numbered(journal) && ends_at(journal, 9)?;
-    tell(wrong, is_so, "numbers and times")
-}
-
-fn tell_counts(alloc: Global, wrong: &mut String) -> Result<(), AllocError> {
-    let mut journal = Journal::new(alloc);
-    tell_counts_in(alloc, &mut journal, wrong)
-}
-
 #[test]
 fn what_a_journal_counts(rt: HostRuntime) {
-    let mut wrong = String::new(rt.alloc());
-    tell_counts(rt.alloc(), &mut wrong).expect(&rt, "memory");
-    assert!(rt; wrong.is_empty(), "{wrong}");
+    let alloc = rt.alloc();
+    let mut journal = Journal::new(alloc);
+    holds(&rt, alloc, &mut journal, COUNTED, 9);
+    assert!(rt;
+        are_numbered(&journal)
+            && !journal.ends_before(micros(&rt, 9))
+            && journal.ends_before(micros(&rt, 10))
+    );
     histories_are_lawful();
 }
 
@@ -169,26 +145,27 @@ c/a/d/a | ?**d | true
 d/a | ?**d | true
 c/a | ?**d | false"#;
 
-fn is_touched(alloc: Global, path: &str, read: &Read) -> Result<bool, AllocError> {
-    let name = name_of(alloc, path)?;
-    Ok(touches(&name, read))
-}
-
-fn touches_one(alloc: Global, path: &str, text: &str) -> Result<bool, AllocError> {
-    let read = read(alloc, text)?;
-    let is_touched = is_touched(alloc, path, &read);
+fn is_touched(name: &DocName, read: Read) -> bool {
+    let is_touched = touches(name, &read);
     drop(read);
     is_touched
 }
 
-/// Whether a write touches a read where a line says so.
-pub(crate) fn touches_so(alloc: Global, line: &str) -> Result<bool, AllocError> {
-    let (path, rest) = cell(line);
-    let (text, wanted) = cell(rest);
-    Ok(touches_one(alloc, path, text)? == (wanted == "true"))
+// Writes that touch a read where a line says so.
+#[derive(Drop)]
+struct Touching;
+
+impl Says for Touching {
+    fn is_so(&mut self, rt: &impl Abort, alloc: Global, line: &str) -> bool {
+        let (path, rest) = cell(line);
+        let (text, wanted) = cell(rest);
+        let is_wanted = wanted == "true";
+        let name = name_of(rt, alloc, path);
+        is_touched(&name, read(rt, alloc, text)) == is_wanted
+    }
 }
 
 #[test]
 fn which_writes_touch_a_read(rt: HostRuntime) {
-    holds(&rt, rt.alloc(), Line::Touch, TOUCHED, 14);
+    holds(&rt, rt.alloc(), &mut Touching, TOUCHED, 14);
 }

@@ -4,5 +4,5 @@ mod asked;
 mod limits;
 mod steps;
 mod tables;
-pub(crate) mod tests;
+mod tests;
 mod told;

@@ -4,73 +4,86 @@ use fs_path::{DocName, Ids, Root, Scope, Text};
 use fs_query::{Filter, Orders, Query};
 use fs_time::Micros;
 use fs_value::{Document, Documents, Fields, SharedFields, Value};
-use fs_write::{Act, Precondition, Transforms, Write, Writes};
+use fs_write::{Act, Change, Precondition, Transforms, Write, WriteResult, Writes};
 use std::alloc::{AllocError, Global};
 use std::fmt::Write as _;
+use std::process::Abort;
 
-pub(crate) fn number(text: &str) -> Result<i64, AllocError> {
-    match text.parse::<i64>() {
-        Ok(n) => Ok(n),
-        Err(_) => Err(AllocError),
-    }
+pub(crate) fn number(rt: &impl Abort, text: &str) -> i64 {
+    text.parse::<i64>().expect(rt, "a number")
 }
 
-pub(crate) fn micros(n: i64) -> Result<Micros, AllocError> {
-    Micros::new(n).ok_or(AllocError)
+pub(crate) fn micros(rt: &impl Abort, n: i64) -> Micros {
+    Micros::new(n).expect(rt, "a moment")
 }
 
-pub(crate) fn moment(text: &str) -> Result<Micros, AllocError> {
-    micros(number(text)?)
+pub(crate) fn moment(rt: &impl Abort, text: &str) -> Micros {
+    micros(rt, number(rt, text))
+}
+
+pub(crate) fn text_of(rt: &impl Abort, alloc: Global, text: &str) -> Text {
+    Text::from_str(alloc, text).expect(rt, "memory")
+}
+
+/// What stands before a mark, and what stands behind it.
+pub(crate) fn cut<'a>(text: &'a str, mark: &str) -> (&'a str, &'a str) {
+    text.split_once(mark).unwrap_or((text, ""))
 }
 
 /// A cell of a line, and what stands behind ` | `. `none` is an empty cell.
 pub(crate) fn cell(text: &str) -> (&str, &str) {
-    let (one, rest) = text.split_once(" | ").unwrap_or((text, ""));
+    let (one, rest) = cut(text, " | ");
     (one.strip_prefix("none").unwrap_or(one), rest)
 }
 
 /// The root of all names that name no database.
-pub(crate) fn root(alloc: Global) -> Result<Root, AllocError> {
-    let project = Text::from_str(alloc, "demo")?;
-    let database = Text::from_str(alloc, "(default)")?;
-    Ok(Root { project, database })
+pub(crate) fn root(rt: &impl Abort, alloc: Global) -> Root {
+    Root {
+        project: text_of(rt, alloc, "demo"),
+        database: text_of(rt, alloc, "(default)"),
+    }
+}
+
+/// The name demo/above/below.
+pub(crate) fn name_in(rt: &impl Abort, alloc: Global, above: &str, below: &str) -> DocName {
+    let path = format!(in alloc; "demo/{above}/{below}").expect(rt, "memory");
+    DocName::of_path(path).expect(rt, "a name")
 }
 
 /// `c/a` is demo/(default)/c/a, and `other:c/a` is demo/other/c/a.
-pub(crate) fn name_of(alloc: Global, text: &str) -> Result<DocName, AllocError> {
+pub(crate) fn name_of(rt: &impl Abort, alloc: Global, text: &str) -> DocName {
     let (database, path) = text.split_once(":").unwrap_or(("(default)", text));
-    DocName::of_path(format!(in alloc; "demo/{database}/{path}")?).ok_or(AllocError)
+    name_in(rt, alloc, database, path)
 }
 
 // ---- queries
 
-fn ids(alloc: Global, path: &str) -> Result<Ids, AllocError> {
+fn ids(rt: &impl Abort, alloc: Global, path: &str) -> Ids {
     let mut ids = Ids::new(alloc);
     for id in path.split("/") {
         if !id.is_empty() {
-            ids.push(Text::from_str(alloc, id)?)?;
+            ids.push(text_of(rt, alloc, id)).expect(rt, "memory");
         }
     }
-    Ok(ids)
+    ids
 }
 
 /// `c` and `c/a/d` are collections. `**d` is each collection with an id, and `c/a/**d` each below a document.
-pub(crate) fn scope(alloc: Global, text: &str) -> Result<Scope, AllocError> {
+pub(crate) fn scope(rt: &impl Abort, alloc: Global, text: &str) -> Scope {
     let (above, last) = text.rsplit_once("/").unwrap_or(("", text));
     let group = last.strip_prefix("**");
-    let parent = ids(alloc, above)?;
-    let id = Text::from_str(alloc, group.unwrap_or(last))?;
-    Ok(match group {
+    let parent = ids(rt, alloc, above);
+    let id = text_of(rt, alloc, group.unwrap_or(last));
+    match group {
         Some(_) => Scope::Group { parent, id },
         None => Scope::Collection { parent, id },
-    })
+    }
 }
 
 /// The query for all documents of a scope.
-pub(crate) fn query(alloc: Global, text: &str) -> Result<Query, AllocError> {
-    let scope = scope(alloc, text)?;
-    Ok(Query {
-        scope,
+pub(crate) fn query(rt: &impl Abort, alloc: Global, text: &str) -> Query {
+    Query {
+        scope: scope(rt, alloc, text),
         filter: Filter::All,
         orders: Orders::new(alloc),
         start: None,
@@ -78,56 +91,63 @@ pub(crate) fn query(alloc: Global, text: &str) -> Result<Query, AllocError> {
         offset: 0,
         limit: None,
         select: None,
-    })
+    }
 }
 
 // ---- writes
 
-/// The fields `{n: 1}`.
-pub(crate) fn fields(alloc: Global, n: i64) -> Result<SharedFields, AllocError> {
+/// The fields with this one alone.
+pub(crate) fn field(rt: &impl Abort, alloc: Global, key: &str, value: Value) -> Fields {
     let mut fields = Fields::new(alloc);
-    fields.put(Text::from_str(alloc, "n")?, Value::Integer(n))?;
-    SharedFields::of(alloc, fields)
+    fields
+        .put(text_of(rt, alloc, key), value)
+        .expect(rt, "memory");
+    fields
 }
 
-fn set(alloc: Global, path: &str, n: &str) -> Result<Act, AllocError> {
-    let fields = fields(alloc, number(n)?)?;
-    let name = name_of(alloc, path)?;
-    Ok(Act::Set { name, fields })
+/// Fields as a document holds them.
+pub(crate) fn shared(rt: &impl Abort, alloc: Global, fields: Fields) -> SharedFields {
+    SharedFields::of(alloc, fields).expect(rt, "memory")
+}
+
+/// The fields `{n: 1}`.
+pub(crate) fn fields_of(rt: &impl Abort, alloc: Global, n: i64) -> SharedFields {
+    shared(rt, alloc, field(rt, alloc, "n", Value::Integer(n)))
 }
 
 // `c/a=1` sets c/a to {n: 1}, and `c/a=-` deletes it.
-fn act(alloc: Global, text: &str) -> Result<Act, AllocError> {
-    let (path, n) = text.split_once("=").unwrap_or((text, "-"));
+fn act(rt: &impl Abort, alloc: Global, text: &str) -> Act {
+    let (path, n) = cut(text, "=");
+    let name = name_of(rt, alloc, path);
     match n {
-        "-" => Ok(Act::Delete {
-            name: name_of(alloc, path)?,
-        }),
-        _ => set(alloc, path, n),
+        "-" => Act::Delete { name },
+        _ => Act::Set {
+            name,
+            fields: fields_of(rt, alloc, number(rt, n)),
+        },
     }
 }
 
 // `?c/a=1` does so where c/a is there, and else is refused.
-fn write(alloc: Global, text: &str) -> Result<Write, AllocError> {
+fn write(rt: &impl Abort, alloc: Global, text: &str) -> Write {
     let (text, condition) = match text.strip_prefix("?") {
         Some(text) => (text, Precondition::Exists(true)),
         None => (text, Precondition::None),
     };
-    let act = act(alloc, text)?;
-    Ok(Write {
-        act,
+    Write {
+        act: act(rt, alloc, text),
         transforms: Transforms::new(alloc),
         condition,
-    })
+    }
 }
 
 /// Writes as `c/a=1 c/b=-`.
-pub(crate) fn writes(alloc: Global, text: &str) -> Result<Writes, AllocError> {
+pub(crate) fn writes(rt: &impl Abort, alloc: Global, text: &str) -> Writes {
     let mut writes = Writes::new(alloc);
     for one in text.split_whitespace() {
-        writes.push(write(alloc, one)?)?;
+        writes.push(write(rt, alloc, one)).expect(rt, "memory");
     }
-    Ok(writes)
+    writes
 }
 
 // ---- what is found
@@ -152,8 +172,8 @@ pub(crate) fn push_in_row(
     push_n(text, document)
 }
 
-/// Adds a name's document, as ` c/a=1`, or ` c/a=-` where there is none.
-pub(crate) fn push_named(
+// Adds a name's document, as ` c/a=1`, or ` c/a=-` where there is none.
+fn push_named(
     text: &mut String,
     name: &DocName,
     document: Option<&Document>,
@@ -163,36 +183,78 @@ pub(crate) fn push_named(
     push_n(text, document)
 }
 
-/// Adds the versions of a chain, as ` 2:1 5:-`.
-pub(crate) fn push_versions(text: &mut String, versions: &[Version]) -> Result<(), AllocError> {
-    for version in versions {
-        let time = version.time.get();
-        write!(text, " {time}:")?;
-        push_n(text, version.after.as_ref())?;
+/// What stands in a row, with a space before it.
+pub(crate) trait InRow {
+    fn push_to(&self, text: &mut String) -> Result<(), AllocError>;
+}
+
+/// Adds a time, in microseconds.
+pub(crate) fn push_moment(text: &mut String, time: Micros) -> Result<(), AllocError> {
+    let time = time.get();
+    write!(text, "{time}")
+}
+
+/// Adds each of a row.
+pub(crate) fn push_row<T: InRow>(text: &mut String, row: &[T]) -> Result<(), AllocError> {
+    for one in row {
+        one.push_to(text)?;
     }
     Ok(())
 }
 
+// A version, as ` 2:1` or ` 5:-`.
+impl InRow for Version {
+    fn push_to(&self, text: &mut String) -> Result<(), AllocError> {
+        let time = self.time.get();
+        write!(text, " {time}:")?;
+        push_n(text, self.after.as_ref())
+    }
+}
+
+// A document, as ` c/a=1`.
+impl InRow for Document {
+    fn push_to(&self, text: &mut String) -> Result<(), AllocError> {
+        push_named(text, &self.name, Some(self))
+    }
+}
+
+// What a document that differs afterwards is then, as ` c/a=1` or ` c/a=-`.
+impl InRow for Change {
+    fn push_to(&self, text: &mut String) -> Result<(), AllocError> {
+        push_named(text, &self.name, self.after.as_ref())
+    }
+}
+
+// The update time that a write reports, or `-`.
+impl InRow for WriteResult {
+    fn push_to(&self, text: &mut String) -> Result<(), AllocError> {
+        text.push_str(" ")?;
+        match self.updated {
+            Some(time) => push_moment(text, time),
+            None => text.push_str("-"),
+        }
+    }
+}
+
+/// A row of these.
+pub(crate) fn row_of<T: InRow>(rt: &impl Abort, alloc: Global, row: &[T]) -> String {
+    let mut text = String::new(alloc);
+    push_row(&mut text, row).expect(rt, "memory");
+    text
+}
+
 /// Whether documents are those at these places of `paths`, of which a row has `n` of each, or `-`.
 pub(crate) fn are_those(
+    rt: &impl Abort,
     alloc: Global,
     documents: &Documents,
     paths: &[&str],
     places: &str,
     row: &str,
-) -> Result<bool, AllocError> {
-    let mut found = String::new(alloc);
+) -> bool {
     let mut wanted = String::new(alloc);
-    push_documents(&mut found, documents)?;
-    push_places(&mut wanted, paths, places, row)?;
-    Ok(found.as_str() == wanted.as_str())
-}
-
-fn push_documents(text: &mut String, documents: &Documents) -> Result<(), AllocError> {
-    for document in documents.as_slice() {
-        push_named(text, &document.name, Some(document))?;
-    }
-    Ok(())
+    push_places(&mut wanted, paths, places, row).expect(rt, "memory");
+    row_of(rt, alloc, documents.as_slice()).as_str() == wanted.as_str()
 }
 
 fn push_place(text: &mut String, paths: &[&str], place: &str, row: &str) -> Result<(), AllocError> {

@@ -2,4 +2,4 @@
 
 mod database;
 mod tables;
-pub(crate) mod tests;
+mod tests;

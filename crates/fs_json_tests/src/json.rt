@@ -1,5 +1,5 @@
 //! Scalars and members that are read, and what is written, by tables.
-use crate::made::{Make, demo, json, printed};
+use crate::made::{Make, demo, json};
 use crate::table::holds;
 use fs_json::{
     Bad, at_most_one_of, base64_forms, bytes, document_name, field_path, integer, list, member,
@@ -9,43 +9,41 @@ use fs_json::{
 use fs_path::{Bytes, DocName, FieldPath, Text, Way, print_document, print_field};
 use fs_time::Micros;
 use serde_json::Value;
-use std::alloc::Global;
+use std::alloc::{AllocError, Global};
+use std::fmt::Display;
+use std::process::Abort;
 
 /// What the reader gives that a text names, of the JSON behind its name.
-pub(crate) fn read(alloc: Global, text: &str) -> Result<String, Bad> {
+pub(crate) fn read(rt: &impl Abort, alloc: Global, text: &str) -> Result<String, Bad> {
     let (reader, text) = text.split_once(" ").unwrap_or((text, ""));
-    let v = json(alloc, text)?;
-    scalar(alloc, reader, &v, &Way::method("x"))
+    let v = json(rt, alloc, text);
+    match reader {
+        "document_name" => name_shown(alloc, name(rt, alloc, &v)),
+        _ => scalar(alloc, reader, &v, &Way::method("x")),
+    }
 }
 
 fn scalar(alloc: Global, reader: &str, v: &Value, here: &Way<'_>) -> Result<String, Bad> {
     match reader {
-        "integer" | "small" | "time" => number_shown(alloc, number(alloc, reader, v, here)),
-        "truth" => truth_shown(alloc, truth(alloc, v, here)),
+        "integer" => shown(alloc, integer(alloc, v, here)),
+        "small" => shown(alloc, small(alloc, v, here)),
+        "truth" => shown(alloc, truth(alloc, v, here)),
+        "time" => time_shown(alloc, time(alloc, v, here)),
         "list" => list_shown(alloc, list(alloc, v, here)),
         "text" => text_shown(text(alloc, v, here)),
         "bytes" => bytes_shown(alloc, bytes(alloc, v, here)),
         "field_path" => path_shown(alloc, field_path(alloc, v, here)),
         "reference" => name_shown(alloc, reference(alloc, v, here)),
-        "document_name" => name_shown(alloc, name(alloc, v, here)),
         _ => members(alloc, reader, v, here),
     }
 }
 
-fn number(alloc: Global, reader: &str, v: &Value, here: &Way<'_>) -> Result<i64, Bad> {
-    match reader {
-        "integer" => integer(alloc, v, here),
-        "small" => Ok(i64::from(small(alloc, v, here)?)),
-        _ => Ok(time(alloc, v, here)?.get()),
-    }
-}
-
-fn number_shown(alloc: Global, read: Result<i64, Bad>) -> Result<String, Bad> {
+fn shown<T: Display + Copy>(alloc: Global, read: Result<T, Bad>) -> Result<String, Bad> {
     Ok(read?.to_string(alloc)?)
 }
 
-fn truth_shown(alloc: Global, read: Result<bool, Bad>) -> Result<String, Bad> {
-    word(alloc, if read? { "true" } else { "false" })
+fn time_shown(alloc: Global, read: Result<Micros, Bad>) -> Result<String, Bad> {
+    Ok(read?.get().to_string(alloc)?)
 }
 
 fn list_shown(alloc: Global, read: Result<&Vec<Value>, Bad>) -> Result<String, Bad> {
@@ -72,9 +70,9 @@ fn name_shown(alloc: Global, read: Result<DocName, Bad>) -> Result<String, Bad> 
     Ok(print_document(alloc, &name)?.into_string())
 }
 
-fn name(alloc: Global, v: &Value, here: &Way<'_>) -> Result<DocName, Bad> {
-    let root = demo(alloc)?;
-    document_name(alloc, &root, v, here)
+fn name(rt: &impl Abort, alloc: Global, v: &Value) -> Result<DocName, Bad> {
+    let root = demo(rt, alloc);
+    document_name(alloc, &root, v, &Way::method("x"))
 }
 
 fn word(alloc: Global, word: &str) -> Result<String, Bad> {
@@ -87,7 +85,7 @@ const NAMES: [&str; 4] = ["delete", "readTime", "updateTime", "nullValue"];
 fn members(alloc: Global, reader: &str, v: &Value, here: &Way<'_>) -> Result<String, Bad> {
     match reader {
         "member" => member_shown(alloc, member(alloc, v, "readTime", here)),
-        "required" => required_shown(alloc, required(alloc, v, "readTime", here)),
+        "required" => shown(alloc, required(alloc, v, "readTime", here)),
         "only" => only_shown(alloc, only(alloc, v, &NAMES, here)),
         "refuse_unbuilt" => unbuilt(alloc, refuse_unbuilt(alloc, v, &NAMES, here)),
         "one_of" => one_shown(alloc, one_of(alloc, v, &NAMES, here)),
@@ -100,10 +98,6 @@ fn member_shown(alloc: Global, read: Result<Option<&Value>, Bad>) -> Result<Stri
         Some(found) => text_of(alloc, found),
         None => word(alloc, "none"),
     }
-}
-
-fn required_shown(alloc: Global, read: Result<&Value, Bad>) -> Result<String, Bad> {
-    text_of(alloc, read?)
 }
 
 fn text_of(alloc: Global, v: &Value) -> Result<String, Bad> {
@@ -125,7 +119,6 @@ fn unbuilt(alloc: Global, read: Result<(), Bad>) -> Result<String, Bad> {
 
 fn one_shown(alloc: Global, read: Result<(&str, &Value), Bad>) -> Result<String, Bad> {
     let (name, found) = read?;
-    let found = text_of(alloc, found)?;
     Ok(format!(in alloc; "{name} {found}")?)
 }
 
@@ -267,29 +260,23 @@ at_most_one_of [] => G at x"#;
 
 #[test]
 fn scalars_are_read(rt: HostRuntime) {
-    holds(&rt, rt.alloc(), Make::Read, &[], SCALARS);
+    holds(&rt, Make::Read, &[], SCALARS);
     base64_forms();
 }
 
 #[test]
 fn members_are_found(rt: HostRuntime) {
-    holds(&rt, rt.alloc(), Make::Read, &[], MEMBERS);
+    holds(&rt, Make::Read, &[], MEMBERS);
 }
 
 /// What is written of an integer, a text, bytes and a time.
-pub(crate) fn scalar_written(alloc: Global, kind: &str) -> Result<String, Bad> {
+pub(crate) fn scalar_written(alloc: Global, kind: &str) -> Result<Value, AllocError> {
     match kind {
-        "most" => printed(alloc, write_integer(alloc, i64::MAX)),
-        "least" => printed(alloc, write_integer(alloc, i64::MIN)),
-        "text" => printed(alloc, write_text(alloc, &Text::from_str(alloc, r#"a"é"#)?)),
-        "bytes" => printed(
-            alloc,
-            write_bytes(alloc, &Bytes::from_slice(alloc, b"\xff\xef")?),
-        ),
-        _ => match Micros::new(1_704_067_200_123_000) {
-            Some(t) => printed(alloc, write_time(alloc, t)),
-            None => word(alloc, "no moment"),
-        },
+        "most" => write_integer(alloc, i64::MAX),
+        "least" => write_integer(alloc, i64::MIN),
+        "text" => write_text(alloc, &Text::from_str(alloc, r#"a"é"#)?),
+        "bytes" => write_bytes(alloc, &Bytes::from_slice(alloc, b"\xff\xef")?),
+        _ => write_time(alloc, Micros::new(1_704_067_200_123_000).ok_or(AllocError)?),
     }
 }
 
@@ -301,5 +288,5 @@ time => "2024-01-01T00:00:00.123Z""#;
 
 #[test]
 fn what_is_written(rt: HostRuntime) {
-    holds(&rt, rt.alloc(), Make::Scalar, &[], WRITTEN);
+    holds(&rt, Make::Scalar, &[], WRITTEN);
 }

@@ -7,10 +7,11 @@ use crate::rpc::requests::{request_again, request_on};
 use crate::valjson::{array_len, document_again, value_again};
 use crate::writejson::tests::{draft_told, list_again, mask_again, result_written, write_again};
 use fs_json::{Bad, time};
-use fs_path::{Root, Rule, Text, Way};
+use fs_path::{Root, Text, Way};
 use fs_time::Micros;
 use serde_json::Value;
 use std::alloc::{AllocError, Global};
+use std::process::Abort;
 
 /// What is made of a text.
 #[derive(Clone, Copy)]
@@ -69,70 +70,85 @@ impl Make {
     }
 }
 
-pub(crate) fn made(alloc: Global, make: Make, text: &str) -> Result<String, Bad> {
+pub(crate) fn made(rt: &impl Abort, alloc: Global, make: Make, text: &str) -> Result<String, Bad> {
     match make {
-        Make::Read => read(alloc, text),
-        Make::Scalar => scalar_written(alloc, text),
-        Make::Json(form) => made_of_json(alloc, form, text),
-        Make::WriteResult => result_written(alloc, text),
-        Make::Kept => kept(alloc, text),
-        Make::Message => message_again(alloc, text),
-        Make::MessageOn => message_on(alloc, text),
-        Make::Request => request_again(alloc, text),
-        Make::RequestOn => request_on(alloc, text),
-        Make::Refusal => refused(alloc, text),
-        Make::Error => error(alloc, text),
-        Make::Missing => missing(alloc, text),
+        Make::Read => read(rt, alloc, text),
+        Make::Scalar => Ok(printed(rt, alloc, scalar_written(alloc, text))),
+        Make::Json(form) => made_of_json(rt, alloc, form, text),
+        Make::WriteResult => Ok(result_written(rt, alloc, text)),
+        Make::Kept => Ok(kept(rt, alloc, text)),
+        Make::Message => message_again(rt, alloc, text),
+        Make::MessageOn => message_on(rt, alloc, text),
+        Make::Request => request_again(rt, alloc, text),
+        Make::RequestOn => Ok(request_on(rt, alloc, text)),
+        Make::Refusal => Ok(refused(rt, alloc, text)),
+        Make::Error => Ok(error(rt, alloc, text)),
+        Make::Missing => Ok(missing(rt, alloc, text)),
     }
 }
 
-fn made_of_json(alloc: Global, form: Form, text: &str) -> Result<String, Bad> {
-    let v = json(alloc, text)?;
-    again(alloc, form, &v)
-}
-
-fn again(alloc: Global, form: Form, v: &Value) -> Result<String, Bad> {
+fn made_of_json(rt: &impl Abort, alloc: Global, form: Form, text: &str) -> Result<String, Bad> {
+    let v = json(rt, alloc, text);
     match form {
-        Form::Value => value_again(alloc, v),
-        Form::Document => document_again(alloc, v),
-        Form::Array => array_len(alloc, v),
-        Form::Query(ask) => query_told(alloc, ask, v),
-        Form::Filtered => filtered_again(alloc, v),
-        Form::Write => write_again(alloc, v),
-        Form::Writes => list_again(alloc, v),
-        Form::Mask => mask_again(alloc, v),
-        Form::Draft => draft_told(alloc, v),
+        Form::Value => value_again(rt, alloc, &v),
+        Form::Document => document_again(rt, alloc, &v),
+        Form::Array => array_len(alloc, &v),
+        Form::Query(ask) => query_told(rt, alloc, ask, &v),
+        Form::Filtered => filtered_again(rt, alloc, &v),
+        Form::Write => write_again(rt, alloc, &v),
+        Form::Writes => list_again(rt, alloc, &v),
+        Form::Mask => mask_again(rt, alloc, &v),
+        Form::Draft => Ok(draft_told(rt, alloc, &v)),
     }
 }
 
-pub(crate) fn json(alloc: Global, text: &str) -> Result<Value, Bad> {
-    match Value::from_str(alloc, text) {
-        Ok(v) => Ok(v),
-        Err(_) => Err(Bad::at(alloc, Rule::G, &Way::method("no JSON"))),
-    }
+pub(crate) fn json(rt: &impl Abort, alloc: Global, text: &str) -> Value {
+    Value::from_str(alloc, text).expect(rt, "JSON")
 }
 
-pub(crate) fn printed(alloc: Global, v: Result<Value, AllocError>) -> Result<String, Bad> {
-    Ok(v?.to_string(alloc)?)
+pub(crate) fn printed(rt: &impl Abort, alloc: Global, v: Result<Value, AllocError>) -> String {
+    shown(rt, alloc, &v.expect(rt, "memory"))
+}
+
+pub(crate) fn shown(rt: &impl Abort, alloc: Global, v: &Value) -> String {
+    v.to_string(alloc).expect(rt, "memory")
+}
+
+/// A copy of a text.
+pub(crate) fn word(rt: &impl Abort, alloc: Global, text: &str) -> String {
+    String::from_str(alloc, text).expect(rt, "memory")
+}
+
+/// Puts a word at the end of a text, behind a space if another is there.
+pub(crate) fn push_word(text: &mut String, word: &str) -> Result<(), AllocError> {
+    if !text.is_empty() {
+        text.push_str(" ")?;
+    }
+    text.push_str(word)
 }
 
 /// The text that both are, or both.
-pub(crate) fn both(alloc: Global, one: &str, other: &str) -> Result<String, Bad> {
+pub(crate) fn both(rt: &impl Abort, alloc: Global, one: &str, other: &str) -> String {
     if one == other {
-        Ok(String::from_str(alloc, one)?)
+        word(rt, alloc, one)
     } else {
-        Ok(format!(in alloc; "{one} and {other}")?)
+        format!(in alloc; "{one} and {other}").expect(rt, "memory")
     }
 }
 
-/// The root of all names.
-pub(crate) fn demo(alloc: Global) -> Result<Root, AllocError> {
-    let project = Text::from_str(alloc, "demo")?;
-    let database = Text::from_str(alloc, "(default)")?;
-    Ok(Root { project, database })
+pub(crate) fn a_text(rt: &impl Abort, alloc: Global, text: &str) -> Text {
+    Text::from_str(alloc, text).expect(rt, "memory")
 }
 
-pub(crate) fn moment(alloc: Global, text: &str) -> Result<Micros, Bad> {
-    let v = Value::try_from_str(alloc, text)?;
-    time(alloc, &v, &Way::method("x"))
+/// The root of all names.
+pub(crate) fn demo(rt: &impl Abort, alloc: Global) -> Root {
+    Root {
+        project: a_text(rt, alloc, "demo"),
+        database: a_text(rt, alloc, "(default)"),
+    }
+}
+
+pub(crate) fn moment(rt: &impl Abort, alloc: Global, text: &str) -> Micros {
+    let v = Value::try_from_str(alloc, text).expect(rt, "memory");
+    time(alloc, &v, &Way::method("x")).expect(rt, "a moment")
 }

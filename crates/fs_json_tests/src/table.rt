@@ -6,26 +6,24 @@ use std::alloc::{AllocError, Global};
 use std::process::Abort;
 
 // The table with what its short forms stand for, in the order in which they are spelled out.
-fn spelled_out(alloc: Global, short: &[(&str, &str)], table: &str) -> Result<String, AllocError> {
-    let mut text = String::from_str(alloc, table)?;
+fn spelled_out(rt: &impl Abort, alloc: Global, short: &[(&str, &str)], table: &str) -> String {
+    let mut text = String::from_str(alloc, table).expect(rt, "memory");
     for (form, long) in short {
-        text = text.as_str().replace(alloc, form, long)?;
+        text = text
+            .as_str()
+            .replace(alloc, form, long)
+            .expect(rt, "memory");
     }
-    Ok(text)
-}
-
-// A line's text, and what is to be made of it.
-fn parts(line: &str) -> Option<(&str, &str)> {
-    let (text, want) = line.split_once(" =>")?;
-    Some((text, want.trim()))
+    text
 }
 
 // What was made, or the refusal with its place.
-fn shown(alloc: Global, made: Result<String, Bad>) -> Result<String, Bad> {
+fn shown(alloc: Global, made: Result<String, Bad>) -> Result<String, AllocError> {
     match made {
-        Err(Bad::At(rule, place)) => Ok(refusal(alloc, rule, place.as_str())?),
-        Err(Bad::Method(name)) => Ok(method(alloc, name.as_str())?),
-        other => other,
+        Ok(text) => Ok(text),
+        Err(Bad::At(rule, place)) => refusal(alloc, rule, place.as_str()),
+        Err(Bad::Method(name)) => method(alloc, name.as_str()),
+        Err(Bad::Memory(e)) => Err(e),
     }
 }
 
@@ -37,55 +35,30 @@ fn method(alloc: Global, name: &str) -> Result<String, AllocError> {
     format!(in alloc; "method {name}")
 }
 
-// What is told of a line of which something else is made, and no text of another.
-fn wrong(alloc: Global, make: Make, line: &str) -> Result<String, Bad> {
-    let (text, want) = parts(line).unwrap_or((line, "an arrow"));
+// Asserts that a line gives what stands behind its arrow.
+fn line_holds(rt: &impl Abort, alloc: Global, make: Make, line: &str) {
+    let (text, want) = line.split_once(" =>").unwrap_or((line, "an arrow"));
+    let want = want.trim();
     // Most tables leave out what is the same.
     let want = if want.is_empty() && !make.may_be_nothing() {
         text
     } else {
         want
     };
-    let made = shown(alloc, made(alloc, make, text))?;
-    Ok(told(alloc, line, made.as_str(), want)?)
-}
-
-fn told(alloc: Global, line: &str, made: &str, want: &str) -> Result<String, AllocError> {
-    if made.trim() == want {
-        Ok(String::new(alloc))
-    } else {
-        format!(in alloc; "{line} gives {made}")
-    }
-}
-
-fn first_wrong_line(alloc: Global, make: Make, table: &str) -> Result<String, Bad> {
-    for line in table.lines() {
-        let wrong = wrong(alloc, make, line)?;
-        if !wrong.is_empty() {
-            return Ok(wrong);
-        }
-    }
-    Ok(String::new(alloc))
-}
-
-fn first_wrong(
-    alloc: Global,
-    make: Make,
-    short: &[(&str, &str)],
-    table: &str,
-) -> Result<String, Bad> {
-    let table = spelled_out(alloc, short, table)?;
-    first_wrong_line(alloc, make, table.as_str())
+    let made = shown(alloc, made(rt, alloc, make, text)).expect(rt, "memory");
+    assert!(rt; made.trim() == want, "{line} gives {made}");
 }
 
 /// Asserts that each line of a table gives what stands behind its arrow.
-pub(crate) fn holds(
-    rt: &impl Abort,
-    alloc: Global,
+pub(crate) fn holds<R: Abort + AllocGlobal>(
+    rt: &R,
     make: Make,
     short: &[(&str, &str)],
     table: &str,
 ) {
-    let wrong = first_wrong(alloc, make, short, table).expect(rt, "memory");
-    assert!(rt; wrong.is_empty(), "{wrong}");
+    let alloc = rt.alloc();
+    let table = spelled_out(rt, alloc, short, table);
+    for line in table.lines() {
+        line_holds(rt, alloc, make, line);
+    }
 }

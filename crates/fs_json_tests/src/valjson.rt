@@ -7,37 +7,39 @@ use fs_valjson::{read_array, read_document, read_list, read_value, write_documen
 use fs_value::Document;
 use serde_json::Value;
 use std::alloc::Global;
+use std::process::Abort;
 
 /// What is written of the value that is read.
-pub(crate) fn value_again(alloc: Global, v: &Value) -> Result<String, Bad> {
+pub(crate) fn value_again(rt: &impl Abort, alloc: Global, v: &Value) -> Result<String, Bad> {
     let value = read_value(alloc, v, &Way::method("x"))?;
-    let told = printed(alloc, write_value(alloc, &value));
+    let told = printed(rt, alloc, write_value(alloc, &value));
     drop(value);
-    told
+    Ok(told)
 }
 
 /// What is written of the document that is read.
-pub(crate) fn document_again(alloc: Global, v: &Value) -> Result<String, Bad> {
-    let document = document_of(alloc, v)?;
-    let told = printed(alloc, write_document(alloc, &document));
+pub(crate) fn document_again(rt: &impl Abort, alloc: Global, v: &Value) -> Result<String, Bad> {
+    let document = document_of(rt, alloc, v)?;
+    let told = printed(rt, alloc, write_document(alloc, &document));
     drop(document);
-    told
+    Ok(told)
 }
 
-pub(crate) fn document_of(alloc: Global, v: &Value) -> Result<Document, Bad> {
-    let root = demo(alloc)?;
+pub(crate) fn document_of(rt: &impl Abort, alloc: Global, v: &Value) -> Result<Document, Bad> {
+    let root = demo(rt, alloc);
     read_document(alloc, &root, v, &Way::method("x"))
 }
 
 /// How many values are read.
 pub(crate) fn array_len(alloc: Global, v: &Value) -> Result<String, Bad> {
     let here = Way::method("x");
-    let values = if v.as_array().is_some() {
-        read_list(alloc, v, &here)?
+    let read = if v.as_array().is_some() {
+        read_list(alloc, v, &here)
     } else {
-        read_array(alloc, v, &here)?
+        read_array(alloc, v, &here)
     };
-    Ok(values.len().to_string(alloc)?)
+    let len = read?.len();
+    Ok(len.to_string(alloc)?)
 }
 
 // Where nothing stands behind the arrow, the same text is written.
@@ -127,21 +129,15 @@ pub(crate) const SHORT: [(&str, &str); 1] = [("~", "projects/demo/databases/(def
 
 #[test]
 fn values_are_read_and_written(rt: HostRuntime) {
-    holds(&rt, rt.alloc(), Make::Json(Form::Value), &[], VALUES);
+    holds(&rt, Make::Json(Form::Value), &[], VALUES);
 }
 
 #[test]
 fn documents_are_read_and_written(rt: HostRuntime) {
-    holds(
-        &rt,
-        rt.alloc(),
-        Make::Json(Form::Document),
-        &SHORT,
-        DOCUMENTS,
-    );
+    holds(&rt, Make::Json(Form::Document), &SHORT, DOCUMENTS);
 }
 
 #[test]
 fn arrays_are_read(rt: HostRuntime) {
-    holds(&rt, rt.alloc(), Make::Json(Form::Array), &[], ARRAYS);
+    holds(&rt, Make::Json(Form::Array), &[], ARRAYS);
 }

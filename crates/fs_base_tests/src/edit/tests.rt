@@ -1,46 +1,11 @@
 //! Changes of opened fields, by tables.
 use crate::edit::tables::{CHANGED, FOUND};
-use crate::short::{are, path, read, read_behind};
+use crate::short::{are, numbers, path, read, value};
+use crate::table::{Line, holds};
 use fs_edit::OpenFields;
 use fs_path::FieldPath;
-use fs_value::{Fields, Value, Values};
-use std::alloc::{AllocError, Global};
-
-/// What is done at a path.
-#[derive(Drop)]
-enum Change {
-    /// The value is taken out.
-    Unset,
-    Set(Value),
-    /// These are appended to an array, each unless it is there.
-    Append(Values),
-    /// These are taken out of an array.
-    Remove(Values),
-}
-
-fn x_of(alloc: Global, fields: &Fields) -> Result<Value, AllocError> {
-    match fields.find("x") {
-        Some(value) => value.copy(alloc),
-        None => Err(AllocError),
-    }
-}
-
-// A value in short, as it stands behind a key.
-fn value(alloc: Global, text: &str) -> Result<Value, AllocError> {
-    let fields = read_behind(alloc, 'x', text)?;
-    x_of(alloc, &fields)
-}
-
-// Numbers of one digit.
-fn numbers(alloc: Global, text: &str) -> Result<Values, AllocError> {
-    let mut values = Values::new(alloc);
-    for c in text.trim().chars() {
-        if let Some(n) = c.to_digit(10) {
-            values.push(Value::Integer(i64::from(n)))?;
-        }
-    }
-    Ok(values)
-}
+use std::alloc::Global;
+use std::process::Abort;
 
 // A change's sign, its path, and what it gives.
 fn parts(change: &str) -> (char, &str, &str) {
@@ -56,98 +21,55 @@ fn parts(change: &str) -> (char, &str, &str) {
     ('=', at, given)
 }
 
-fn change_of(alloc: Global, sign: char, text: &str) -> Result<Change, AllocError> {
-    match sign {
-        '-' => Ok(Change::Unset),
-        '+' => Ok(Change::Append(numbers(alloc, text)?)),
-        '~' => Ok(Change::Remove(numbers(alloc, text)?)),
-        _ => Ok(Change::Set(value(alloc, text)?)),
-    }
-}
-
+// The fields after what is done at a path.
 fn changed(
+    rt: &impl Abort,
     alloc: Global,
     fields: OpenFields,
     path: &FieldPath,
-    change: Change,
-) -> Result<OpenFields, AllocError> {
-    match change {
-        Change::Unset => fields.unset(alloc, path),
-        Change::Set(value) => fields.set(alloc, path, value),
-        Change::Append(values) => fields.append_missing(alloc, path, &values),
-        Change::Remove(values) => fields.remove_all(alloc, path, &values),
+    sign: char,
+    given: &str,
+) -> OpenFields {
+    match sign {
+        '-' => fields.unset(alloc, path),
+        '+' => fields.append_missing(alloc, path, &numbers(rt, alloc, given)),
+        '~' => fields.remove_all(alloc, path, &numbers(rt, alloc, given)),
+        _ => fields.set(alloc, path, value(rt, alloc, given)),
     }
+    .expect(rt, "memory")
 }
 
-fn next(alloc: Global, fields: OpenFields, change: &str) -> Result<OpenFields, AllocError> {
-    let (sign, at, text) = parts(change);
-    let path = path(alloc, at)?;
-    changed(alloc, fields, &path, change_of(alloc, sign, text)?)
+fn next(rt: &impl Abort, alloc: Global, fields: OpenFields, change: &str) -> OpenFields {
+    let (sign, at, given) = parts(change);
+    changed(rt, alloc, fields, &path(rt, alloc, at), sign, given)
 }
 
 // The fields of the first text, opened, after the changes of the second.
-fn after(alloc: Global, text: &str) -> Result<OpenFields, AllocError> {
+fn after(rt: &impl Abort, alloc: Global, text: &str) -> OpenFields {
     let (first, changes) = text.split_once('|').unwrap_or((text, ""));
-    let mut fields = OpenFields::open(alloc, read(alloc, first)?)?;
+    let mut fields = OpenFields::open(alloc, read(rt, alloc, first)).expect(rt, "memory");
     for change in changes.split(',') {
         if !change.trim().is_empty() {
-            fields = next(alloc, fields, change)?;
+            fields = next(rt, alloc, fields, change);
         }
     }
-    Ok(fields)
+    fields
 }
 
-fn is_changed(alloc: Global, line: &str) -> Result<bool, AllocError> {
-    let (given, wanted) = line.split_once("=>").unwrap_or((line, ""));
-    let closed = after(alloc, given)?.close(alloc)?;
-    let are_wanted = are(alloc, &closed, wanted);
-    drop(closed);
-    are_wanted
+/// Whether changes lead to the fields that a text has.
+pub(crate) fn is_changed(rt: &impl Abort, alloc: Global, given: &str, wanted: &str) -> bool {
+    let closed = after(rt, alloc, given).close(alloc).expect(rt, "memory");
+    are(rt, alloc, &closed, wanted)
 }
 
-fn integer_after(alloc: Global, text: &str, path: &FieldPath) -> Result<Option<i64>, AllocError> {
-    let fields = after(alloc, text)?;
-    let n = fields.integer_at(path);
-    drop(fields);
-    Ok(n)
-}
-
-fn integer_at(alloc: Global, text: &str) -> Result<Option<i64>, AllocError> {
-    let (fields, at) = text.split_once('?').unwrap_or((text, "a"));
-    let path = path(alloc, at)?;
-    integer_after(alloc, fields, &path)
-}
-
-fn integer(alloc: Global, text: &str) -> Result<Option<i64>, AllocError> {
-    let fields = read_behind(alloc, 'x', text)?;
-    match fields.find("x") {
-        Some(Value::Integer(n)) => Ok(Some(*n)),
-        _ => Ok(None),
-    }
-}
-
-fn is_found(alloc: Global, line: &str) -> Result<bool, AllocError> {
-    let (given, wanted) = line.split_once("=>").unwrap_or((line, ""));
-    let found = integer_at(alloc, given)?;
-    let wanted = integer(alloc, wanted)?;
-    Ok(found == wanted)
-}
-
-fn holds(alloc: Global, line: &str) -> Result<bool, AllocError> {
-    if line.is_empty() {
-        Ok(true)
-    } else if line.contains('?') {
-        is_found(alloc, line)
-    } else {
-        is_changed(alloc, line)
-    }
+/// The integer at a path after changes.
+pub(crate) fn integer_at(rt: &impl Abort, alloc: Global, text: &str) -> Option<i64> {
+    let (given, at) = text.split_once('?').expect(rt, "a path");
+    after(rt, alloc, given).integer_at(&path(rt, alloc, at))
 }
 
 #[test]
 fn opened_fields_after_changes(rt: HostRuntime) {
-    for table in &[CHANGED, FOUND] {
-        for line in table.lines() {
-            assert!(rt; holds(rt.alloc(), line).expect(&rt, "memory"), "{line}");
-        }
-    }
+    holds(&rt, rt.alloc(), Line::Changed, CHANGED);
+    holds(&rt, rt.alloc(), Line::Found, FOUND);
 }

@@ -1,34 +1,9 @@
 //! Values at paths, by a table.
-use crate::short::{are, path, read};
+use crate::short::{are, path, read, value};
 use fs_path::FieldPath;
 use fs_value::{Fields, Value, get, same, set, unset};
-use std::alloc::{AllocError, Global};
-
-fn alike(a: Option<&Value>, b: Option<&Value>) -> bool {
-    match a {
-        Some(v) => match b {
-            Some(w) => same(v, w),
-            None => false,
-        },
-        None => b.is_none(),
-    }
-}
-
-// Sets the value at the path, or takes out what is there where none is given.
-fn change(
-    alloc: Global,
-    fields: &mut Fields,
-    path: &FieldPath,
-    v: Option<&Value>,
-) -> Result<(), AllocError> {
-    match v {
-        Some(v) => set(alloc, fields, path, v.copy(alloc)?),
-        None => {
-            unset(fields, path);
-            Ok(())
-        }
-    }
-}
+use std::alloc::Global;
+use std::process::Abort;
 
 // The fields before, a path, what is there, what is set there (nothing: it is unset), and the fields after. A value is
 // that of `x`.
@@ -66,48 +41,44 @@ const CHANGES: [(&str, &str, &str, &str, &str); 26] = [
     ("b2", "b", "x2", "", ""),
 ];
 
-// Whether the value is that of `x`, or none where `x` has none.
-fn is_of_x(alloc: Global, v: Option<&Value>, text: &str) -> Result<bool, AllocError> {
-    let wanted = read(alloc, text)?;
-    Ok(alike(v, wanted.find("x")))
-}
-
-fn change_to(
-    alloc: Global,
-    fields: &mut Fields,
-    path: &FieldPath,
-    text: &str,
-) -> Result<(), AllocError> {
-    let given = read(alloc, text)?;
-    change(alloc, fields, path, given.find("x"))
-}
-
-fn is_changed_at(
-    alloc: Global,
-    fields: &mut Fields,
-    path: &FieldPath,
-    row: &(&str, &str, &str, &str, &str),
-) -> Result<bool, AllocError> {
-    if !is_of_x(alloc, get(fields, path), row.2)? {
-        return Ok(false);
+// Whether the value is that of `x`, or none where there is no text.
+fn is_of_x(rt: &impl Abort, alloc: Global, v: Option<&Value>, text: &str) -> bool {
+    match v {
+        Some(v) => !text.is_empty() && same(v, &value(rt, alloc, text)),
+        None => text.is_empty(),
     }
-    change_to(alloc, fields, path, row.3)?;
-    Ok(are(alloc, fields, row.4)? && is_of_x(alloc, get(fields, path), row.3)?)
 }
 
-fn is_changed(alloc: Global, row: &(&str, &str, &str, &str, &str)) -> Result<bool, AllocError> {
-    let mut fields = read(alloc, row.0)?;
-    let path = path(alloc, row.1)?;
-    is_changed_at(alloc, &mut fields, &path, row)
+// Sets the value of `x` at the path, or takes out what is there where there is no text.
+fn change(rt: &impl Abort, alloc: Global, fields: &mut Fields, path: &FieldPath, text: &str) {
+    if text.is_empty() {
+        unset(fields, path);
+    } else {
+        let x = value(rt, alloc, text);
+        set(alloc, fields, path, x).expect(rt, "memory");
+    }
+}
+
+fn check(rt: &impl Abort, alloc: Global, row: &(&str, &str, &str, &str, &str)) {
+    let mut fields = read(rt, alloc, row.0);
+    let path = path(rt, alloc, row.1);
+    assert!(rt;
+        is_of_x(rt, alloc, get(&fields, &path), row.2),
+        "at {}",
+        row.1
+    );
+    change(rt, alloc, &mut fields, &path, row.3);
+    assert!(rt; are(rt, alloc, &fields, row.4), "at {}", row.1);
+    assert!(rt;
+        is_of_x(rt, alloc, get(&fields, &path), row.3),
+        "at {}",
+        row.1
+    );
 }
 
 #[test]
 fn values_at_paths(rt: HostRuntime) {
     for row in &CHANGES {
-        assert!(rt;
-            is_changed(rt.alloc(), row).expect(&rt, "memory"),
-            "at {}",
-            row.1
-        );
+        check(&rt, rt.alloc(), row);
     }
 }

@@ -1,9 +1,10 @@
 //! What the contracts don't say: values in order, counted sizes and copies, by tables.
-use fs_path::{Bytes, DocName, Text};
-use fs_time::Micros;
+use crate::short::{append, moment, name, put, text};
+use fs_path::{Bytes, Text};
 use fs_value::*;
-use std::alloc::{AllocError, Global};
+use std::alloc::Global;
 use std::cmp::Ordering;
+use std::process::Abort;
 
 // The words for the kinds, in their order.
 const KINDS: [&str; 9] = [
@@ -98,63 +99,53 @@ const COUNTED: [(&str, u128); 11] = [
     ("map c=qux a=foo b=bar", 72),
 ];
 
-fn number(s: &str) -> Result<i64, AllocError> {
-    match s.parse::<i64>() {
-        Ok(n) => Ok(n),
-        Err(_) => Err(AllocError),
-    }
+fn string(rt: &impl Abort, alloc: Global, s: &str) -> Value {
+    Value::String(text(rt, alloc, s))
 }
 
-fn string(alloc: Global, s: &str) -> Result<Value, AllocError> {
-    Ok(Value::String(Text::from_str(alloc, s)?))
+fn number(rt: &impl Abort, s: &str) -> i64 {
+    s.parse::<i64>().expect(rt, "a number")
 }
 
-fn bytes(alloc: Global, numbers: &str) -> Result<Value, AllocError> {
+fn bytes(rt: &impl Abort, alloc: Global, numbers: &str) -> Bytes {
     let mut bytes = Vec::new(alloc);
     for n in numbers.split_whitespace() {
-        match n.parse::<u8>() {
-            Ok(byte) => bytes.push(byte)?,
-            Err(_) => return Err(AllocError),
-        }
+        let byte = n.parse::<u8>().expect(rt, "a byte");
+        bytes.push(byte).expect(rt, "memory");
     }
-    Ok(Value::Bytes(Bytes::of(bytes)))
+    Bytes::of(bytes)
 }
 
-fn array(alloc: Global, numbers: &str) -> Result<Value, AllocError> {
+fn array(rt: &impl Abort, alloc: Global, numbers: &str) -> Values {
     let mut values = Values::new(alloc);
     for n in numbers.split_whitespace() {
-        values.push(Value::Integer(number(n)?))?;
+        append(rt, &mut values, Value::Integer(number(rt, n)));
     }
-    Ok(Value::Array(values))
+    values
 }
 
-fn fields(alloc: Global, pairs: &str) -> Result<Fields, AllocError> {
+fn fields(rt: &impl Abort, alloc: Global, pairs: &str) -> Fields {
     let mut fields = Fields::new(alloc);
     for pair in pairs.split_whitespace() {
-        let (key, content) = pair.split_once('=').ok_or(AllocError)?;
-        fields.put(Text::from_str(alloc, key)?, string(alloc, content)?)?;
+        let (key, content) = pair.split_once('=').expect(rt, "a key");
+        put(rt, alloc, &mut fields, key, string(rt, alloc, content));
     }
-    Ok(fields)
-}
-
-fn name(alloc: Global, path: &str) -> Result<DocName, AllocError> {
-    let path = String::from_str(alloc, path)?;
-    DocName::of_path(path).ok_or(AllocError)
+    fields
 }
 
 // The value that a line of a table says.
-fn value(alloc: Global, line: &str) -> Result<Value, AllocError> {
-    let (kind, content) = line.split_once(' ').ok_or(AllocError)?;
+fn value(rt: &impl Abort, alloc: Global, line: &str) -> Value {
+    let (kind, content) = line.split_once(' ').expect(rt, "a kind");
     match kind {
-        "null" => Ok(Value::Null),
-        "boolean" => Ok(Value::Boolean(content == "true")),
-        "integer" => Ok(Value::Integer(number(content)?)),
-        "timestamp" => Ok(Value::Timestamp(Micros::new(number(content)?).ok_or(AllocError)?)),
-        "string" => string(alloc, content),
-        "bytes" => bytes(alloc, content),
-        "reference" => Ok(Value::Reference(name(alloc, content)?)),
-        "array" => array(alloc, content),
-        _ => Ok(Value::Map(fields(alloc, content)?)),
+        "null" => Value::Null,
+        "boolean" => Value::Boolean(content == "true"),
+        "integer" => Value::Integer(number(rt, content)),
+        "timestamp" => Value::Timestamp(moment(rt, number(rt, content))),
+        "string" => string(rt, alloc, content),
+        "bytes" => Value::Bytes(bytes(rt, alloc, content)),
+        "reference" => Value::Reference(name(rt, alloc, content)),
+        "array" => Value::Array(array(rt, alloc, content)),
+        _ => Value::Map(fields(rt, alloc, content)),
     }
 }
 
@@ -175,26 +166,20 @@ fn stands_at(value: &Value, i: usize, values: &Values) -> bool {
     true
 }
 
-fn rising(alloc: Global) -> Result<Values, AllocError> {
+fn rising(rt: &impl Abort, alloc: Global) -> Values {
     let mut values = Values::new(alloc);
     for line in &RISING {
-        let some = value(alloc, line)?;
-        values.push(some)?;
+        append(rt, &mut values, value(rt, alloc, line));
     }
-    Ok(values)
-}
-
-fn copied_rising(alloc: Global) -> Result<Values, AllocError> {
-    let values = rising(alloc)?;
-    values.copy(alloc)
+    values
 }
 
 #[test]
 fn values_of_all_kinds_in_their_order(rt: HostRuntime) {
     let alloc = rt.alloc();
-    let values = copied_rising(alloc).expect(&rt, "memory");
+    let values = rising(&rt, alloc).copy(alloc).expect(&rt, "memory");
     for (i, line) in RISING.iter().enumerate() {
-        let some = value(alloc, line).expect(&rt, "memory");
+        let some = value(&rt, alloc, line);
         assert!(rt;
             is_of_kind(&some, line) && stands_at(&some, i, &values),
             "{line}"
@@ -202,252 +187,208 @@ fn values_of_all_kinds_in_their_order(rt: HostRuntime) {
     }
 }
 
-// An array or a map round a value, which makes it one deeper.
-fn around(alloc: Global, inner: Value, in_map: bool) -> Result<Value, AllocError> {
-    if in_map {
-        let mut fields = Fields::new(alloc);
-        fields.push_last(Text::from_str(alloc, "a")?, inner)?;
-        return Ok(Value::Map(fields));
-    }
+// An array round a value, which makes it one deeper.
+fn in_array(rt: &impl Abort, alloc: Global, inner: Value) -> Value {
     let mut values = Values::new(alloc);
-    values.push(inner)?;
-    values.push(Value::Null)?;
-    Ok(Value::Array(values))
+    append(rt, &mut values, inner);
+    append(rt, &mut values, Value::Null);
+    Value::Array(values)
+}
+
+// The field `a` alone.
+fn with_a(rt: &impl Abort, alloc: Global, inner: Value) -> Fields {
+    let mut fields = Fields::new(alloc);
+    let key = text(rt, alloc, "a");
+    fields.push_last(key, inner).expect(rt, "memory");
+    fields
 }
 
 // A value of that depth, with a truth value at its bottom.
-fn nested(alloc: Global, levels: u32, bottom: bool) -> Result<Value, AllocError> {
+fn nested(rt: &impl Abort, alloc: Global, levels: u32, bottom: bool) -> Value {
     let mut value = Value::Boolean(bottom);
     for i in 1..levels {
-        value = around(alloc, value, i % 2 == 0)?;
+        value = match i % 2 {
+            0 => Value::Map(with_a(rt, alloc, value)),
+            _ => in_array(rt, alloc, value),
+        };
     }
-    Ok(value)
+    value
 }
 
-fn depth_of(alloc: Global, levels: u32) -> Result<u32, AllocError> {
-    let value = nested(alloc, levels, true)?;
-    let depth = depth(&value);
-    drop(value);
-    Ok(depth)
+fn depth_of(value: Value) -> u32 {
+    depth(&value)
 }
 
 #[test]
 fn depth_from_1_to_21(rt: HostRuntime) {
     let alloc = rt.alloc();
     for levels in 1..DEEPEST_VALUE + 2 {
-        let depth = depth_of(alloc, levels).expect(&rt, "memory");
+        let depth = depth_of(nested(&rt, alloc, levels, true));
         assert!(rt; depth == levels, "{levels}");
     }
-    for empty in &["array ", "map "] {
-        let value = value(alloc, empty).expect(&rt, "memory");
-        assert!(rt; depth(&value) == 1, "{empty}");
-    }
+    assert!(rt; depth_of(value(&rt, alloc, "array ")) == 1);
+    assert!(rt; depth_of(value(&rt, alloc, "map ")) == 1);
 }
 
 // A comparison that came twice to each inner value would not end.
 #[test]
 fn values_of_depth_100_are_compared(rt: HostRuntime) {
     let alloc = rt.alloc();
-    let deep = nested(alloc, 100, true).expect(&rt, "memory");
+    let deep = nested(&rt, alloc, 100, true);
     keys_rise(&deep);
     let copied = deep.copy(alloc).expect(&rt, "memory");
     assert!(rt; same(&deep, &copied));
-    let other = nested(alloc, 100, false).expect(&rt, "memory");
+    let other = nested(&rt, alloc, 100, false);
     assert!(rt; compare(&deep, &other) == Ordering::Greater);
 }
 
-// `demo/(default)/c/{id}`.
-fn name_in_c(alloc: Global, id: &str) -> Result<DocName, AllocError> {
-    let path = format!(in alloc; "demo/(default)/c/{id}")?;
-    name(alloc, path.as_str())
-}
-
-fn put_n(alloc: Global, fields: &mut Fields, n: Value) -> Result<(), AllocError> {
-    let key = Text::from_str(alloc, "n")?;
-    fields.put(key, n)
-}
-
 // The field `n` alone.
-fn with_n(alloc: Global, n: Value) -> Result<SharedFields, AllocError> {
-    let mut fields = Fields::with_capacity(alloc, 1)?;
-    put_n(alloc, &mut fields, n)?;
-    SharedFields::of(alloc, fields)
+fn with_n(rt: &impl Abort, alloc: Global, n: Value) -> SharedFields {
+    let mut fields = Fields::with_capacity(alloc, 1).expect(rt, "memory");
+    put(rt, alloc, &mut fields, "n", n);
+    SharedFields::of(alloc, fields).expect(rt, "memory")
 }
 
-// `demo/(default)/c/{id}` with the field `n`.
-fn document(alloc: Global, id: &str, n: Value) -> Result<Document, AllocError> {
-    let t = Micros::new(1).ok_or(AllocError)?;
-    let fields = with_n(alloc, n)?;
-    Ok(Document {
-        name: name_in_c(alloc, id)?,
-        fields,
+const A: &str = "demo/(default)/c/a";
+
+const B: &str = "demo/(default)/c/b";
+
+// A document with the field `n`.
+fn document(rt: &impl Abort, alloc: Global, path: &str, n: Value) -> Document {
+    let t = moment(rt, 1);
+    Document {
+        name: name(rt, alloc, path),
+        fields: with_n(rt, alloc, n),
         created: t,
         updated: t,
-    })
-}
-
-fn long_text(alloc: Global, n: u32) -> Result<Value, AllocError> {
-    let mut s = String::new(alloc);
-    for _ in 0..n {
-        s.push('s')?;
     }
-    Ok(Value::String(Text::of(s)))
 }
 
-fn counted(alloc: Global, n: Value) -> Result<u128, AllocError> {
-    let document = document(alloc, "a", n)?;
-    let size = size(&document);
-    drop(document);
-    Ok(size)
+fn counted(rt: &impl Abort, alloc: Global, n: Value) -> u128 {
+    size(&document(rt, alloc, A, n))
 }
 
-fn value_counted(alloc: Global, line: &str) -> Result<u128, AllocError> {
-    counted(alloc, value(alloc, line)?)
-}
-
-fn all_counted(alloc: Global) -> Result<u128, AllocError> {
-    let mut all = Values::new(alloc);
-    for (line, _) in &COUNTED {
-        all.push(value(alloc, line)?)?;
-    }
-    counted(alloc, Value::Array(all))
-}
-
-fn long_counted(alloc: Global, n: u32) -> Result<u128, AllocError> {
-    counted(alloc, long_text(alloc, n)?)
+fn long_text(rt: &impl Abort, alloc: Global, n: usize) -> Value {
+    Value::String(Text::of("s".repeat(alloc, n).expect(rt, "memory")))
 }
 
 // The values of the table are 82 together. 1,048,576 is the greatest size that is stored.
 #[test]
 fn counted_size_of_a_document(rt: HostRuntime) {
     let alloc = rt.alloc();
+    let mut all = Values::new(alloc);
     for (line, count) in &COUNTED {
-        let counted = value_counted(alloc, line).expect(&rt, "memory");
+        let counted = counted(&rt, alloc, value(&rt, alloc, line));
         assert!(rt; counted == *count, "{line}");
+        append(&rt, &mut all, value(&rt, alloc, line));
     }
-    assert!(rt; all_counted(alloc).expect(&rt, "memory") == 136);
-    assert!(rt; long_counted(alloc, 1_048_521).expect(&rt, "memory") == 1_048_576);
+    assert!(rt; counted(&rt, alloc, Value::Array(all)) == 136);
+    let long = long_text(&rt, alloc, 1_048_521);
+    assert!(rt; counted(&rt, alloc, long) == 1_048_576);
 }
 
 fn has_keys(some: &Fields, keys: &str) -> bool {
-    let mut left = some.as_slice().iter();
-    for key in keys.split_whitespace() {
-        match left.next() {
-            Some(field) if field.key.as_str() == key && some.find(key).is_some() => {}
-            _ => return false,
+    for (key, field) in keys.split_whitespace().zip(some.as_slice()) {
+        if field.key.as_str() != key || some.find(key).is_none() {
+            return false;
         }
     }
-    left.next().is_none()
+    keys.split_whitespace().count() == some.len()
+}
+
+fn lacks_others(some: &Fields) -> bool {
+    some.find("aa").is_none() && some.find("z").is_none() && some.find("").is_none()
 }
 
 #[test]
 fn fields_stand_in_the_order_of_their_keys(rt: HostRuntime) {
     let alloc = rt.alloc();
-    let some = fields(alloc, "b=1 a=2 é=3 c=4 a=5").expect(&rt, "memory");
-    let other = fields(alloc, "a=5 b=1 c=4 é=3").expect(&rt, "memory");
-    assert!(rt; has_keys(&some, "a b c é"));
-    assert!(rt; some.find("aa").is_none() && some.find("z").is_none() && some.find("").is_none());
+    let some = fields(&rt, alloc, "b=1 a=2 é=3 c=4 a=5");
+    assert!(rt; has_keys(&some, "a b c é") && lacks_others(&some));
+    let other = fields(&rt, alloc, "a=5 b=1 c=4 é=3");
     assert!(rt; fields_same(&some, &other));
-    assert!(rt; Fields::of(other.into_vec()).len() == 4);
-    let mut one = Fields::new(alloc);
-    one.push_last(
-        Text::from_str(alloc, "a").expect(&rt, "memory"),
-        Value::Boolean(true),
-    )
-    .expect(&rt, "memory");
+    let whole = Fields::of(other.into_vec());
+    assert!(rt; whole.len() == 4);
+    let one = with_a(&rt, alloc, Value::Boolean(true));
     assert!(rt; has_keys(&one, "a"));
 }
 
 fn has_integer(fields: &Fields, n: i64) -> bool {
     match fields.find("n") {
-        Some(value) => same(value, &Value::Integer(n)),
-        None => false,
+        Some(Value::Integer(m)) => *m == n,
+        _ => false,
     }
 }
 
 // The documents `a` and `b`, of which `b` was put twice.
-fn of_two(alloc: Global) -> Result<DocumentMap, AllocError> {
+fn of_two(rt: &impl Abort, alloc: Global) -> DocumentMap {
     let mut documents = DocumentMap::new(alloc);
-    for (id, n) in &[("b", 1), ("a", 2), ("b", 3)] {
-        let one = document(alloc, id, Value::Integer(*n))?;
-        documents.put(alloc, one)?;
+    for (path, n) in &[(B, 1), (A, 2), (B, 3)] {
+        let one = document(rt, alloc, path, Value::Integer(*n));
+        documents.put(alloc, one).expect(rt, "memory");
     }
-    Ok(documents)
+    documents
 }
 
-fn documents_copied(alloc: Global, map: &DocumentMap) -> Result<Documents, AllocError> {
-    let documents = map.documents(alloc)?;
-    documents.copy(alloc)
-}
-
-fn both_documents(alloc: Global) -> Result<Documents, AllocError> {
-    let map = of_two(alloc)?;
-    documents_copied(alloc, &map)
+fn both_documents(rt: &impl Abort, alloc: Global) -> Documents {
+    let documents = of_two(rt, alloc).documents(alloc).expect(rt, "memory");
+    documents.copy(alloc).expect(rt, "memory")
 }
 
 #[test]
 fn documents_stand_in_the_order_of_their_names(rt: HostRuntime) {
-    let all = both_documents(rt.alloc()).expect(&rt, "memory");
+    let all = both_documents(&rt, rt.alloc());
     assert!(rt; all.len() == 2);
     for (d, (id, n)) in all.as_slice().iter().zip(&[("a", 2), ("b", 3)]) {
-        assert!(rt; d.name.len() == 2 && d.name.id(1) == *id);
-        assert!(rt; has_integer(d.fields.as_fields(), *n));
+        assert!(rt;
+            d.name.len() == 2 && d.name.id(1) == *id && has_integer(d.fields.as_fields(), *n)
+        );
     }
-}
-
-fn lent_count(alloc: Global, map: &DocumentMap) -> Result<usize, AllocError> {
-    Ok(map.lent(alloc)?.len())
-}
-
-fn copied_count(alloc: Global, map: &DocumentMap) -> Result<usize, AllocError> {
-    let copy = map.copy(alloc)?;
-    Ok(copy.len())
 }
 
 #[test]
 fn documents_by_their_names(rt: HostRuntime) {
     let alloc = rt.alloc();
-    let b = name_in_c(alloc, "b").expect(&rt, "memory");
-    let mut documents = of_two(alloc).expect(&rt, "memory");
+    let b = name(&rt, alloc, B);
+    let mut documents = of_two(&rt, alloc);
     assert!(rt; documents.get(&b).is_some());
-    assert!(rt; lent_count(alloc, &documents).expect(&rt, "memory") == 2);
-    assert!(rt; documents.remove(&b).is_some());
-    assert!(rt; documents.get(&b).is_none());
-    assert!(rt; copied_count(alloc, &documents).expect(&rt, "memory") == 1);
+    let taken = documents.remove(&b).is_some();
+    assert!(rt; taken && documents.get(&b).is_none());
+    let copied = documents.copy(alloc).expect(&rt, "memory").len();
+    assert!(rt; copied == 1);
 }
 
-fn put(alloc: Global, d: &mut Document, n: i64) -> Result<(), AllocError> {
-    let key = Text::from_str(alloc, "n")?;
-    d.fields.put(alloc, key, Value::Integer(n))
+// The fields with another `n`.
+fn changed(rt: &impl Abort, alloc: Global, shared: SharedFields, n: i64) -> SharedFields {
+    let mut fields = shared.into_fields(alloc).expect(rt, "memory");
+    let key = text(rt, alloc, "n");
+    fields.put(key, Value::Integer(n)).expect(rt, "memory");
+    SharedFields::of(alloc, fields).expect(rt, "memory")
 }
 
-// The first change copies the fields, and the others are made in place.
+// The first change is made on a copy of the fields, since the document holds them too, and the other in place.
 #[test]
 fn a_change_of_a_document_or_its_copy_leaves_the_other(rt: HostRuntime) {
     let alloc = rt.alloc();
-    let mut first = document(alloc, "a", Value::Integer(1)).expect(&rt, "memory");
-    let mut copied = first.copy(alloc).expect(&rt, "memory");
-    put(alloc, &mut copied, 2).expect(&rt, "memory");
-    put(alloc, &mut copied, 3).expect(&rt, "memory");
-    assert!(rt; has_integer(first.fields.as_fields(), 1));
-    put(alloc, &mut first, 4).expect(&rt, "memory");
-    assert!(rt; has_integer(copied.fields.as_fields(), 3));
-    assert!(rt; has_integer(first.fields.as_fields(), 4));
+    let first = document(&rt, alloc, A, Value::Integer(1));
+    let again = first.copy(alloc).expect(&rt, "memory");
+    let shared = again.fields.copy().expect(&rt, "memory");
+    let other = changed(&rt, alloc, shared, 2);
+    assert!(rt; has_integer(first.fields.as_fields(), 1) && has_integer(other.as_fields(), 2));
+    let other = changed(&rt, alloc, other, 3);
+    assert!(rt; has_integer(again.fields.as_fields(), 1) && has_integer(other.as_fields(), 3));
 }
 
-fn has_taken(alloc: Global, shared: SharedFields, n: i64) -> Result<bool, AllocError> {
-    let fields = shared.into_fields(alloc)?;
-    Ok(has_integer(&fields, n))
+fn has_taken(rt: &impl Abort, alloc: Global, shared: SharedFields, n: i64) -> bool {
+    has_integer(&shared.into_fields(alloc).expect(rt, "memory"), n)
 }
 
 #[test]
 fn shared_fields_are_taken_out_whole(rt: HostRuntime) {
     let alloc = rt.alloc();
-    let mut first = document(alloc, "a", Value::Integer(4)).expect(&rt, "memory");
+    let first = document(&rt, alloc, A, Value::Integer(4));
     let again = first.fields.copy().expect(&rt, "memory");
-    put(alloc, &mut first, 5).expect(&rt, "memory");
     let shared = again.copy().expect(&rt, "memory");
-    assert!(rt; has_taken(alloc, again, 4).expect(&rt, "memory"));
-    assert!(rt; has_taken(alloc, shared, 4).expect(&rt, "memory"));
-    assert!(rt; has_integer(first.fields.as_fields(), 5));
+    assert!(rt; has_taken(&rt, alloc, again, 4) && has_taken(&rt, alloc, shared, 4));
+    assert!(rt; has_integer(first.fields.as_fields(), 4));
 }

@@ -1,88 +1,69 @@
 //! Requests as steps write them.
-use crate::short::{moment, name_of, query, root, writes};
+use crate::short::{cut, moment, name_of, query, root, writes};
 use fs_path::Names;
 use fs_rpc::Request;
 use fs_time::Micros;
-use std::alloc::{AllocError, Global};
-
-fn commit(alloc: Global, text: &str) -> Result<Request, AllocError> {
-    let database = root(alloc)?;
-    let writes = writes(alloc, text)?;
-    Ok(Request::Commit { database, writes })
-}
-
-// ---- reads
+use std::alloc::Global;
+use std::process::Abort;
 
 // The time as of which something is read, if one is asked for.
-fn time_of(text: &str) -> Result<Option<Micros>, AllocError> {
+fn time_of(rt: &impl Abort, text: &str) -> Option<Micros> {
     match text {
-        "" => Ok(None),
-        _ => Ok(Some(moment(text)?)),
+        "" => None,
+        _ => Some(moment(rt, text)),
     }
 }
 
-fn get_document(
-    alloc: Global,
-    path: &str,
-    read_time: Option<Micros>,
-) -> Result<Request, AllocError> {
-    let name = name_of(alloc, path)?;
-    Ok(Request::GetDocument {
-        name,
-        mask: None,
-        read_time,
-    })
-}
-
-fn names(alloc: Global, paths: &str) -> Result<Names, AllocError> {
+fn names(rt: &impl Abort, alloc: Global, paths: &str) -> Names {
     let mut names = Names::new(alloc);
     for path in paths.split_whitespace() {
-        names.push(name_of(alloc, path)?)?;
+        names.push(name_of(rt, alloc, path)).expect(rt, "memory");
     }
-    Ok(names)
+    names
+}
+
+fn commit(rt: &impl Abort, alloc: Global, text: &str) -> Request {
+    Request::Commit {
+        database: root(rt, alloc),
+        writes: writes(rt, alloc, text),
+    }
 }
 
 fn batch_get_documents(
+    rt: &impl Abort,
     alloc: Global,
     paths: &str,
     read_time: Option<Micros>,
-) -> Result<Request, AllocError> {
-    let database = root(alloc)?;
-    let documents = names(alloc, paths)?;
-    Ok(Request::BatchGetDocuments {
-        database,
-        documents,
+) -> Request {
+    Request::BatchGetDocuments {
+        database: root(rt, alloc),
+        documents: names(rt, alloc, paths),
         mask: None,
         read_time,
-    })
-}
-
-fn run_query(alloc: Global, scope: &str, read_time: Option<Micros>) -> Result<Request, AllocError> {
-    let database = root(alloc)?;
-    let query = query(alloc, scope)?;
-    Ok(Request::RunQuery {
-        database,
-        query,
-        read_time,
-    })
-}
-
-// What is read stands before ` @` and a time.
-fn read(alloc: Global, method: &str, text: &str) -> Result<Request, AllocError> {
-    let (what, time) = text.split_once(" @").unwrap_or((text, ""));
-    let read_time = time_of(time)?;
-    match method {
-        "get" => get_document(alloc, what, read_time),
-        "all" => batch_get_documents(alloc, what, read_time),
-        "query" => run_query(alloc, what, read_time),
-        _ => Err(AllocError),
     }
 }
 
-/// The request of a method, as `commit` and `c/a=1`, or `get` and `c/a @1`.
-pub(crate) fn request(alloc: Global, method: &str, text: &str) -> Result<Request, AllocError> {
+fn run_query(rt: &impl Abort, alloc: Global, scope: &str, read_time: Option<Micros>) -> Request {
+    Request::RunQuery {
+        database: root(rt, alloc),
+        query: query(rt, alloc, scope),
+        read_time,
+    }
+}
+
+/// The request of a method, as `commit` and `c/a=1`, or `get` and `c/a @1`: what is read stands before ` @` and a time.
+pub(crate) fn request(rt: &impl Abort, alloc: Global, method: &str, text: &str) -> Request {
+    let (what, time) = cut(text, " @");
+    let read_time = time_of(rt, time);
     match method {
-        "commit" => commit(alloc, text),
-        _ => read(alloc, method, text),
+        "commit" => commit(rt, alloc, what),
+        "all" => batch_get_documents(rt, alloc, what, read_time),
+        "query" => run_query(rt, alloc, what, read_time),
+        "get" => Request::GetDocument {
+            name: name_of(rt, alloc, what),
+            mask: None,
+            read_time,
+        },
+        _ => panic!(rt; "no such step"),
     }
 }

@@ -1,15 +1,13 @@
 //! Limits as cases write them.
+use crate::short::cut;
 use fs_machine::Limits;
-use std::alloc::AllocError;
+use std::process::Abort;
 
 // Another number under a name, as `ids 2`.
-fn set_limit(limits: &mut Limits, text: &str) -> Result<(), AllocError> {
-    let (name, number) = text.split_once(" ").unwrap_or((text, "0"));
-    let Ok(number) = number.parse::<u64>() else {
-        return Err(AllocError);
-    };
+fn set_limit(rt: &impl Abort, limits: &mut Limits, text: &str) {
+    let (name, number) = cut(text, " ");
+    let number = number.parse::<u64>().expect(rt, "a limit");
     match name {
-        "greatest" => {}
         "writes" => limits.writes = number,
         "outbox" => limits.outbox = number,
         "sessions" => limits.sessions = number,
@@ -17,16 +15,17 @@ fn set_limit(limits: &mut Limits, text: &str) -> Result<(), AllocError> {
         "journal" => limits.journal = number,
         "ids" => limits.ids = number,
         "time" => limits.time = number,
-        _ => return Err(AllocError),
+        _ => panic!(rt; "no such limit"),
     }
-    Ok(())
 }
 
 /// The limits of `writes 1, ids 2`, of which the others are the greatest; all are in `greatest`.
-pub(crate) fn limits_of(text: &str) -> Result<Limits, AllocError> {
+pub(crate) fn limits_of(rt: &impl Abort, text: &str) -> Limits {
     let mut limits = Limits::greatest();
     for one in text.split(", ") {
-        set_limit(&mut limits, one)?;
+        if one != "greatest" {
+            set_limit(rt, &mut limits, one);
+        }
     }
-    Ok(limits)
+    limits
 }

@@ -2,93 +2,99 @@
 use crate::server::asked::request;
 use crate::server::limits::limits_of;
 use crate::server::told::{
-    push_answer, push_chain, push_messages, push_moment, push_open, push_outcome, push_settled,
+    push_answer, push_chain, push_messages, push_open, push_outcome, push_settled,
 };
-use crate::short::{micros, moment, name_of, root};
+use crate::short::{cut, micros, moment, name_of, push_moment, root};
 use fs_machine::{Config, Outcome};
 use fs_rpc::Envelope;
 use fs_server::Server;
 use fs_status::Reason;
 use std::alloc::{AllocError, Global};
 use std::fmt::Write as _;
+use std::process::Abort;
 
 /// A server with these limits, at moment 0.
-pub(crate) fn server(alloc: Global, limits: &str) -> Result<Server, AllocError> {
-    let start = micros(0)?;
-    let limits = limits_of(limits)?;
-    if !limits.are_allowed() {
-        return Err(AllocError);
-    }
-    let root = root(alloc)?;
-    Ok(Server::new(alloc, Config { root }, limits, start))
+pub(crate) fn server(rt: &impl Abort, alloc: Global, limits: &str) -> Server {
+    let limits = limits_of(rt, limits);
+    assert!(rt; limits.are_allowed());
+    let config = Config {
+        root: root(rt, alloc),
+    };
+    Server::new(alloc, config, limits, micros(rt, 0))
 }
 
-fn session(text: &str) -> Result<u32, AllocError> {
-    match text.parse::<u32>() {
-        Ok(number) => Ok(number),
-        Err(_) => Err(AllocError),
-    }
+fn session(rt: &impl Abort, text: &str) -> u32 {
+    text.parse::<u32>().expect(rt, "a session")
+}
+
+fn envelope(rt: &impl Abort, alloc: Global, method: &str, text: &str) -> Envelope {
+    let request = request(rt, alloc, method, text);
+    Envelope { id: None, request }
 }
 
 // A request comes only where no commit is pending.
 fn reply(
+    rt: &impl Abort,
     alloc: Global,
     server: &mut Server,
     number: u32,
     envelope: &Envelope,
     told: &mut String,
 ) -> Result<(), AllocError> {
-    if server.next_pending().is_some() {
-        return Err(AllocError);
-    }
+    assert!(rt; server.next_pending().is_none());
     let answer = server.request(alloc, number, envelope);
     let done = push_answer(told, alloc, &answer);
     drop(answer);
     done
 }
 
-fn envelope(alloc: Global, method: &str, text: &str) -> Result<Envelope, AllocError> {
-    let request = request(alloc, method, text)?;
-    Ok(Envelope { id: None, request })
-}
-
 // A request on a session.
 fn ask(
+    rt: &impl Abort,
     alloc: Global,
     server: &mut Server,
     method: &str,
     text: &str,
     told: &mut String,
 ) -> Result<(), AllocError> {
-    let (number, text) = text.split_once(" ").unwrap_or((text, ""));
-    let number = session(number)?;
-    let envelope = envelope(alloc, method, text)?;
-    let done = reply(alloc, server, number, &envelope, told);
+    let (number, text) = cut(text, " ");
+    let number = session(rt, number);
+    let envelope = envelope(rt, alloc, method, text);
+    let done = reply(rt, alloc, server, number, &envelope, told);
     drop(envelope);
     done
 }
 
 // ---- commits that are pending
 
-fn settle(alloc: Global, server: &mut Server, told: &mut String) -> Result<(), AllocError> {
-    let Some(commit) = server.next_pending() else {
-        return Err(AllocError);
-    };
+fn settle(
+    rt: &impl Abort,
+    alloc: Global,
+    server: &mut Server,
+    told: &mut String,
+) -> Result<(), AllocError> {
+    let commit = server.next_pending().expect(rt, "a pending commit");
     let outcome = server.outcome(alloc, commit);
     // the server tells want of memory as a refusal, which is no outcome
     if let Outcome::Refused(refusal) = &outcome
         && let Reason::Memory = &refusal.reason
     {
-        return Err(AllocError);
+        panic!(rt; "memory");
     }
     push_settled(told, server.settle(alloc, commit, outcome))
 }
 
-fn outcome(alloc: Global, server: &Server, told: &mut String) -> Result<(), AllocError> {
-    match server.next_pending() {
-        Some(commit) => push_outcome(told, alloc, &server.outcome(alloc, commit)),
-        None => Err(AllocError),
-    }
+fn outcome(
+    rt: &impl Abort,
+    alloc: Global,
+    server: &Server,
+    told: &mut String,
+) -> Result<(), AllocError> {
+    let commit = server.next_pending().expect(rt, "a pending commit");
+    let outcome = server.outcome(alloc, commit);
+    let done = push_outcome(told, alloc, &outcome);
+    drop(outcome);
+    done
 }
 
 fn next(server: &Server, told: &mut String) -> Result<(), AllocError> {
@@ -103,60 +109,76 @@ fn next(server: &Server, told: &mut String) -> Result<(), AllocError> {
 
 // ---- steps
 
-fn leave(server: &mut Server, text: &str, told: &mut String) -> Result<(), AllocError> {
-    server.leave(session(text)?);
+fn open(alloc: Global, server: &mut Server, told: &mut String) -> Result<(), AllocError> {
+    let opened = server.open(alloc);
+    let done = push_open(told, alloc, &opened);
+    drop(opened);
+    done
+}
+
+fn leave(
+    rt: &impl Abort,
+    server: &mut Server,
+    text: &str,
+    told: &mut String,
+) -> Result<(), AllocError> {
+    server.leave(session(rt, text));
     told.push_str("gone")
 }
 
 fn take(
+    rt: &impl Abort,
     alloc: Global,
     server: &mut Server,
     text: &str,
     told: &mut String,
 ) -> Result<(), AllocError> {
-    let messages = server.take_outbox(alloc, session(text)?);
+    let messages = server.take_outbox(alloc, session(rt, text));
     push_messages(told, &messages)
 }
 
 fn tick(
+    rt: &impl Abort,
     alloc: Global,
     server: &mut Server,
     text: &str,
     told: &mut String,
 ) -> Result<(), AllocError> {
-    let released = server.tick(alloc, moment(text)?)?;
+    let released = server.tick(alloc, moment(rt, text)).expect(rt, "memory");
     push_moment(told, released)
 }
 
-fn compact(server: &mut Server, text: &str, told: &mut String) -> Result<(), AllocError> {
-    let floor = server.compact(moment(text)?);
-    push_moment(told, floor)
-}
-
-fn chain(alloc: Global, server: &Server, text: &str, told: &mut String) -> Result<(), AllocError> {
-    let name = name_of(alloc, text)?;
+fn chain(
+    rt: &impl Abort,
+    alloc: Global,
+    server: &Server,
+    text: &str,
+    told: &mut String,
+) -> Result<(), AllocError> {
+    let name = name_of(rt, alloc, text);
     push_chain(told, server.chain(&name))
 }
 
-/// Carries out a step, as `commit 0 c/a=1`, and tells what it answers. One that can't be carried out is an error.
+/// Carries out a step, as `commit 0 c/a=1`, and tells what it answers.
 pub(crate) fn answer(
+    rt: &impl Abort,
     alloc: Global,
     server: &mut Server,
     step: &str,
     told: &mut String,
 ) -> Result<(), AllocError> {
-    let (word, rest) = step.split_once(" ").unwrap_or((step, ""));
+    let (word, rest) = cut(step, " ");
     match word {
-        "open" => push_open(told, alloc, &server.open(alloc)),
-        "leave" => leave(server, rest, told),
-        "take" => take(alloc, server, rest, told),
+        "open" => open(alloc, server, told),
+        "leave" => leave(rt, server, rest, told),
+        "take" => take(rt, alloc, server, rest, told),
         "next" => next(server, told),
-        "outcome" => outcome(alloc, server, told),
-        "settle" => settle(alloc, server, told),
-        "tick" => tick(alloc, server, rest, told),
-        "compact" => compact(server, rest, told),
+        "outcome" => outcome(rt, alloc, server, told),
+        "settle" => settle(rt, alloc, server, told),
+        "tick" => tick(rt, alloc, server, rest, told),
+        "compact" => push_moment(told, server.compact(moment(rt, rest))),
         "released" => push_moment(told, server.released()),
-        "chain" => chain(alloc, server, rest, told),
-        _ => ask(alloc, server, word, rest, told),
+        "chain" => chain(rt, alloc, server, rest, told),
+        _ => ask(rt, alloc, server, word, rest, told),
     }
 }

@@ -1,7 +1,7 @@
 //! What calls of a server answer, as steps write it. Each adds to a text, what stands in a row with a space before it.
-use crate::short::{push_in_row, push_n, push_named, push_versions};
+use crate::short::{InRow, push_in_row, push_n, push_row};
 use fs_machine::{Answer, Messages, Outcome, Settled};
-use fs_rpc::{Answers, BatchAnswer, Message};
+use fs_rpc::{BatchAnswer, Message};
 use fs_server::Chain;
 use fs_status::{Id, Reason, Refusal, message};
 use fs_time::Micros;
@@ -9,11 +9,6 @@ use fs_value::Documents;
 use fs_write::{Changes, WriteResults};
 use std::alloc::{AllocError, Global};
 use std::fmt::Write as _;
-
-pub(crate) fn push_moment(text: &mut String, time: Micros) -> Result<(), AllocError> {
-    let time = time.get();
-    write!(text, "{time}")
-}
 
 // ---- refusals
 
@@ -50,26 +45,14 @@ fn push_refusal(text: &mut String, alloc: Global, refusal: &Refusal) -> Result<(
 
 // ---- messages
 
-// The update time that each write reports, or `-`.
-fn push_results(text: &mut String, results: &WriteResults) -> Result<(), AllocError> {
-    for result in results.as_slice() {
-        text.push_str(" ")?;
-        match result.updated {
-            Some(time) => push_moment(text, time)?,
-            None => text.push_str("-")?,
+// `n` of a document, or `-` where there is none.
+impl InRow for BatchAnswer {
+    fn push_to(&self, text: &mut String) -> Result<(), AllocError> {
+        match self {
+            BatchAnswer::Found(document, _) => push_in_row(text, Some(document)),
+            BatchAnswer::Missing(_, _) => push_in_row(text, None),
         }
     }
-    Ok(())
-}
-
-fn push_answers(text: &mut String, answers: &Answers) -> Result<(), AllocError> {
-    for answer in answers.as_slice() {
-        match answer {
-            BatchAnswer::Found(document, _) => push_in_row(text, Some(document))?,
-            BatchAnswer::Missing(_, _) => push_in_row(text, None)?,
-        }
-    }
-    Ok(())
 }
 
 fn push_committed(
@@ -79,7 +62,7 @@ fn push_committed(
 ) -> Result<(), AllocError> {
     let time = time.get();
     write!(text, "at {time}:")?;
-    push_results(text, results)
+    push_row(text, results.as_slice())
 }
 
 fn push_found(text: &mut String, documents: &Documents, time: Micros) -> Result<(), AllocError> {
@@ -94,7 +77,7 @@ fn push_message(text: &mut String, message: &Message) -> Result<(), AllocError> 
     match message {
         Message::Commit { time, results, .. } => push_committed(text, *time, results),
         Message::GetDocument { document, .. } => push_n(text, Some(document)),
-        Message::BatchGetDocuments { answers, .. } => push_answers(text, answers),
+        Message::BatchGetDocuments { answers, .. } => push_row(text, answers.as_slice()),
         Message::RunQuery {
             documents,
             time,
@@ -154,10 +137,7 @@ fn push_changes(text: &mut String, changes: &Changes) -> Result<(), AllocError> 
     if changes.is_empty() {
         return text.push_str("nothing");
     }
-    for change in changes.as_slice() {
-        push_named(text, &change.name, change.after.as_ref())?;
-    }
-    Ok(())
+    push_row(text, changes.as_slice())
 }
 
 pub(crate) fn push_outcome(
@@ -186,7 +166,7 @@ pub(crate) fn push_settled(text: &mut String, settled: Settled) -> Result<(), Al
 /// The versions of a chain, as ` 2:1 5:-`, or `none`.
 pub(crate) fn push_chain(text: &mut String, chain: Option<&Chain>) -> Result<(), AllocError> {
     match chain {
-        Some(chain) => push_versions(text, chain.as_slice()),
+        Some(chain) => push_row(text, chain.as_slice()),
         None => text.push_str("none"),
     }
 }

@@ -1,11 +1,12 @@
 //! A database whose releases are lines of a table, and the store that takes them in.
-use crate::now::{changes_of, take_in};
-use crate::short::{micros, moment};
+use crate::now::commit;
+use crate::short::{cut, micros, moment};
 use fs_status::Id;
 use fs_store::{Release, Store};
 use fs_value::DocumentMap;
 use fs_write::{TimedChange, TimedChanges};
-use std::alloc::{AllocError, Global};
+use std::alloc::Global;
+use std::process::Abort;
 
 /// The documents of now, to which commits are carried out, and the store.
 #[derive(Drop)]
@@ -16,68 +17,68 @@ pub(crate) struct Database {
 }
 
 impl Database {
-    pub(crate) fn new(alloc: Global) -> Result<Database, AllocError> {
-        let start = micros(0)?;
-        Ok(Database {
+    pub(crate) fn new(rt: &impl Abort, alloc: Global) -> Database {
+        Database {
             now: DocumentMap::new(alloc),
             commits: 0,
-            store: Store::new(alloc, start),
-        })
+            store: Store::new(alloc, micros(rt, 0)),
+        }
     }
 
     // Carries out a commit, as `2 c/a=1`.
-    fn commit(&mut self, alloc: Global, text: &str) -> Result<TimedChange, AllocError> {
-        let (time, texts) = text.split_once(" ").unwrap_or((text, ""));
-        let time = moment(time)?;
-        let changes = changes_of(alloc, &self.now, texts, time)?;
-        take_in(alloc, &mut self.now, &changes)?;
+    fn commit(&mut self, rt: &impl Abort, alloc: Global, text: &str) -> TimedChange {
+        let (time, texts) = cut(text, " ");
+        let time = moment(rt, time);
         self.commits = self.commits.saturating_add(1);
-        Ok(TimedChange {
+        TimedChange {
             time,
             id: Id::new(self.commits),
-            changes,
-        })
+            changes: commit(rt, alloc, &mut self.now, texts, time),
+        }
     }
 
-    fn commit_all(&mut self, alloc: Global, text: &str) -> Result<TimedChanges, AllocError> {
+    fn commit_all(&mut self, rt: &impl Abort, alloc: Global, text: &str) -> TimedChanges {
         let mut changes = TimedChanges::new(alloc);
-        for commit in text.split(";") {
-            let commit = commit.trim();
-            if !commit.is_empty() {
-                changes.push(self.commit(alloc, commit)?)?;
+        for one in text.split(";") {
+            let one = one.trim();
+            if !one.is_empty() {
+                changes
+                    .push(self.commit(rt, alloc, one))
+                    .expect(rt, "memory");
             }
         }
-        Ok(changes)
+        changes
     }
 
     /// Carries out the commits of a release, as `0 4 | 2 c/a=1; 4 d/b=1`.
-    pub(crate) fn release(&mut self, alloc: Global, line: &str) -> Result<Release, AllocError> {
-        let (times, commits) = line.split_once(" |").unwrap_or((line, ""));
-        let (from, to) = times.split_once(" ").unwrap_or((times, ""));
-        let from = moment(from)?;
-        let to = moment(to)?;
-        let changes = self.commit_all(alloc, commits)?;
-        Ok(Release { from, to, changes })
+    pub(crate) fn release(&mut self, rt: &impl Abort, alloc: Global, line: &str) -> Release {
+        let (times, commits) = cut(line, " |");
+        let (from, to) = cut(times, " ");
+        Release {
+            from: moment(rt, from),
+            to: moment(rt, to),
+            changes: self.commit_all(rt, alloc, commits),
+        }
     }
 
     /// The same, and the store takes the release in if it fits.
-    pub(crate) fn take_in(&mut self, alloc: Global, line: &str) -> Result<bool, AllocError> {
-        let release = self.release(alloc, line)?;
-        taken_in(alloc, &mut self.store, &release)
+    pub(crate) fn take_in(&mut self, rt: &impl Abort, alloc: Global, line: &str) -> bool {
+        let release = self.release(rt, alloc, line);
+        is_taken_in(rt, alloc, &mut self.store, &release)
     }
 }
 
 // Where memory is wanting, nothing has changed, and the second time it goes well.
-fn taken_in(alloc: Global, store: &mut Store, release: &Release) -> Result<bool, AllocError> {
+fn is_taken_in(rt: &impl Abort, alloc: Global, store: &mut Store, release: &Release) -> bool {
     if !store.fits(release) {
-        return Ok(false);
+        return false;
     }
     let before = store.absorbed();
-    if let Err(_) = store.absorb(alloc, release) {
+    if store.absorb(alloc, release).is_err() {
         if store.absorbed() != before || !store.fits(release) {
-            return Ok(false);
+            return false;
         }
-        store.absorb(alloc, release)?;
+        store.absorb(alloc, release).expect(rt, "memory");
     }
-    Ok(true)
+    true
 }

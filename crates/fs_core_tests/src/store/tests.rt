@@ -1,10 +1,10 @@
 //! What a store shows at each time, before and after compactions, and which releases fit it.
 ghost use Rattle.std.specs.Prelude.{◌≡◌, ◌<◌, ◌≤ℤ◌};
 
-use crate::short::{are_those, micros, moment, name_of, push_in_row, query};
+use crate::short::{are_those, cut, micros, moment, name_of, push_in_row, query};
 use crate::store::database::Database;
 use crate::store::tables::{PATHS, RELEASES, SCOPES, SHOWN, UNFIT};
-use crate::table::{Line, holds, tell};
+use crate::table::{Says, are_so, holds};
 use fs_edge::Steps;
 use fs_query::Query;
 use fs_status::Id;
@@ -14,40 +14,35 @@ use fs_value::Documents;
 use fs_write::{Change, Changes, TimedChange, TimedChanges};
 use std::alloc::{AllocError, Global};
 use std::marker::Brand;
+use std::process::Abort;
 use std::sync::ledger::{Blank, Ledger};
 
 // ---- what is shown
 
-fn push_at(
-    alloc: Global,
-    text: &mut String,
-    store: &Store,
-    path: &str,
-    at: Micros,
-) -> Result<(), AllocError>
+fn push_at(rt: &impl Abort, alloc: Global, text: &mut String, store: &Store, path: &str, at: Micros)
     requires from { store.now.chains.floor ≤ℤ at }
     requires to { at ≤ℤ store.now.absorbed }
 {
-    let name = name_of(alloc, path)?;
-    push_in_row(text, store.get(&name, at))
+    let name = name_of(rt, alloc, path);
+    push_in_row(text, store.get(&name, at)).expect(rt, "memory");
 }
 
 // Whether `n` of each document is as in a row.
-fn has_row(alloc: Global, store: &Store, at: Micros, row: &str) -> Result<bool, AllocError>
+fn has_row(rt: &impl Abort, alloc: Global, store: &Store, at: Micros, row: &str) -> bool
     requires from { store.now.chains.floor ≤ℤ at }
     requires to { at ≤ℤ store.now.absorbed }
 {
     let mut text = String::new(alloc);
-    for path in &PATHS {
-        push_at(alloc, &mut text, store, path, at)?;
-    }
-    Ok(text.trim() == row)
+    push_at(rt, alloc, &mut text, store, PATHS[0], at);
+    push_at(rt, alloc, &mut text, store, PATHS[1], at);
+    push_at(rt, alloc, &mut text, store, PATHS[2], at);
+    text.trim() == row
 }
 
 fn answer<L: Ledger>(
     alloc: Global,
     store: &Store,
-    asked: &Query,
+    asked: Query,
     at: Micros,
     blank: Blank,
 ) -> Result<Documents, AllocError>
@@ -58,126 +53,107 @@ fn answer<L: Ledger>(
     requires to { at ≤ℤ store.now.absorbed }
 {
     let mut steps: Steps<L> = Steps::new(blank);
-    store.run(alloc, asked, at, &mut steps)
+    let found = store.run(alloc, &asked, at, &mut steps);
+    drop(asked);
+    found
 }
 
-fn found(alloc: Global, store: &Store, scope: &str, at: Micros) -> Result<Documents, AllocError>
+fn found(alloc: Global, store: &Store, asked: Query, at: Micros) -> Result<Documents, AllocError>
     requires from { store.now.chains.floor ≤ℤ at }
     requires to { at ≤ℤ store.now.absorbed }
 {
-    let asked = query(alloc, scope)?;
-    answer::<Brand>(alloc, store, &asked, at, Blank::new(1))
+    answer::<Brand>(alloc, store, asked, at, Blank::new(1))
 }
 
 // Whether the query of a line of the scopes answers what a row says.
 fn has_scope(
+    rt: &impl Abort,
     alloc: Global,
     store: &Store,
     at: Micros,
     line: &str,
     row: &str,
-) -> Result<bool, AllocError>
+) -> bool
     requires from { store.now.chains.floor ≤ℤ at }
     requires to { at ≤ℤ store.now.absorbed }
 {
-    let (scope, places) = line.split_once(" |").unwrap_or((line, ""));
-    let documents = found(alloc, store, scope, at)?;
-    are_those(alloc, &documents, &PATHS, places, row)
+    let (scope, places) = cut(line, " |");
+    let documents = found(alloc, store, query(rt, alloc, scope), at).expect(rt, "memory");
+    are_those(rt, alloc, &documents, &PATHS, places, row)
 }
 
-fn has_scopes(alloc: Global, store: &Store, at: Micros, row: &str) -> Result<bool, AllocError>
+fn has_scopes(rt: &impl Abort, alloc: Global, store: &Store, at: Micros, row: &str) -> bool
     requires from { store.now.chains.floor ≤ℤ at }
     requires to { at ≤ℤ store.now.absorbed }
 {
     for line in SCOPES.lines() {
-        if !has_scope(alloc, store, at, line, row)? {
-            return Ok(false);
+        if !has_scope(rt, alloc, store, at, line, row) {
+            return false;
         }
     }
-    Ok(true)
+    true
 }
 
-// Whether a line of the table is shown, if its time can be read.
-fn shows(alloc: Global, store: &Store, line: &str) -> Result<bool, AllocError> {
-    let (time, row) = line.split_once(" | ").unwrap_or((line, ""));
-    let at = moment(time)?;
-    if at < store.floor() || store.absorbed() < at {
-        return Ok(true);
-    }
-    Ok(has_row(alloc, store, at, row)? && has_scopes(alloc, store, at, row)?)
+// What a store shows at the time of a line, if it can be read.
+#[derive(Drop)]
+struct Shown<'a> {
+    store: &'a Store,
 }
 
-fn shows_all(alloc: Global, store: &Store) -> Result<bool, AllocError> {
-    for line in SHOWN.lines() {
-        if !shows(alloc, store, line)? {
-            return Ok(false);
+impl Says for Shown<'_> {
+    fn is_so(&mut self, rt: &impl Abort, alloc: Global, line: &str) -> bool {
+        let store = self.store;
+        let (time, row) = cut(line, " | ");
+        let at = moment(rt, time);
+        if at < store.floor() || store.absorbed() < at {
+            return true;
         }
+        has_row(rt, alloc, store, at, row) && has_scopes(rt, alloc, store, at, row)
     }
-    Ok(true)
+}
+
+fn shows_all(rt: &impl Abort, alloc: Global, store: &Store) -> bool {
+    are_so(rt, alloc, &mut Shown { store }, SHOWN)
 }
 
 // ---- after releases and compactions
 
-fn tell_releases(
-    alloc: Global,
-    database: &mut Database,
-    wrong: &mut String,
-) -> Result<(), AllocError> {
-    tell(wrong, shows_all(alloc, &database.store)?, "no release")?;
-    for line in RELEASES.lines() {
-        let is_so = database.take_in(alloc, line)? && shows_all(alloc, &database.store)?;
-        tell(wrong, is_so, line)?;
+// The release of a line is taken in.
+impl Says for Database {
+    fn is_so(&mut self, rt: &impl Abort, alloc: Global, line: &str) -> bool {
+        self.take_in(rt, alloc, line) && shows_all(rt, alloc, &self.store)
     }
-    Ok(())
 }
 
-fn shows_from(alloc: Global, store: &mut Store, floor: Micros) -> Result<bool, AllocError> {
-    if store.floor() <= floor && floor <= store.absorbed() {
-        store.compact(floor);
+// The floor rises to the time of a line.
+impl Says for Store {
+    fn is_so(&mut self, rt: &impl Abort, alloc: Global, line: &str) -> bool {
+        let floor = moment(rt, cut(line, " | ").0);
+        if self.floor() <= floor && floor <= self.absorbed() {
+            self.compact(floor);
+        }
+        self.floor() == floor && shows_all(rt, alloc, self)
     }
-    Ok(store.floor() == floor && shows_all(alloc, store)?)
-}
-
-fn tell_floors(alloc: Global, store: &mut Store, wrong: &mut String) -> Result<(), AllocError> {
-    for line in SHOWN.lines() {
-        let (floor, _) = line.split_once(" | ").unwrap_or((line, ""));
-        tell(wrong, shows_from(alloc, store, moment(floor)?)?, line)?;
-    }
-    Ok(())
 }
 
 // How many versions a document has.
-fn count_of(alloc: Global, store: &Store, path: &str) -> Result<usize, AllocError> {
-    let name = name_of(alloc, path)?;
+fn count_of(rt: &impl Abort, alloc: Global, store: &Store, path: &str) -> usize {
+    let name = name_of(rt, alloc, path);
     match store.chain(&name) {
-        Some(chain) => Ok(chain.len()),
-        None => Ok(0),
+        Some(chain) => chain.len(),
+        None => 0,
     }
-}
-
-fn tell_unlike_in(
-    alloc: Global,
-    database: &mut Database,
-    wrong: &mut String,
-) -> Result<(), AllocError> {
-    tell_releases(alloc, database, wrong)?;
-    tell_floors(alloc, &mut database.store, wrong)?;
-    tell(wrong, count_of(alloc, &database.store, "c/b")? == 0, "c/b")?;
-    tell(wrong, count_of(alloc, &database.store, "c/a")? == 1, "c/a")
-}
-
-fn tell_unlike(alloc: Global, wrong: &mut String) -> Result<(), AllocError> {
-    let mut database = Database::new(alloc)?;
-    let done = tell_unlike_in(alloc, &mut database, wrong);
-    drop(database);
-    done
 }
 
 #[test]
 fn each_time_after_each_release_and_compaction(rt: HostRuntime) {
-    let mut wrong = String::new(rt.alloc());
-    tell_unlike(rt.alloc(), &mut wrong).expect(&rt, "memory");
-    assert!(rt; wrong.is_empty(), "{wrong}");
+    let alloc = rt.alloc();
+    let mut database = Database::new(&rt, alloc);
+    assert!(rt; shows_all(&rt, alloc, &database.store));
+    holds(&rt, alloc, &mut database, RELEASES, 5);
+    holds(&rt, alloc, &mut database.store, SHOWN, 13);
+    let store = &database.store;
+    assert!(rt; count_of(&rt, alloc, store, "c/b") == 0 && count_of(&rt, alloc, store, "c/a") == 1);
 }
 
 // ---- releases that don't fit
@@ -185,130 +161,98 @@ fn each_time_after_each_release_and_compaction(rt: HostRuntime) {
 // A release that fits behind the first one.
 const NEXT: &str = "4 5 | 5 c/a=2 d/b=2";
 
-fn take_first(alloc: Global, database: &mut Database) -> Result<(), AllocError> {
-    let (first, _) = RELEASES.split_once("\n").unwrap_or((RELEASES, ""));
-    match database.take_in(alloc, first)? {
-        true => Ok(()),
-        false => Err(AllocError),
+// A database with the first release.
+fn behind_first(rt: &impl Abort, alloc: Global) -> Database {
+    let mut database = Database::new(rt, alloc);
+    let (first, _) = cut(RELEASES, "\n");
+    assert!(rt; database.take_in(rt, alloc, first));
+    database
+}
+
+fn does_not_fit(rt: &impl Abort, alloc: Global, database: &mut Database, line: &str) -> bool {
+    let release = database.release(rt, alloc, line);
+    !database.store.fits(&release)
+}
+
+// Releases that don't fit behind the first one.
+#[derive(Drop)]
+struct Unfit;
+
+impl Says for Unfit {
+    fn is_so(&mut self, rt: &impl Abort, alloc: Global, line: &str) -> bool {
+        does_not_fit(rt, alloc, &mut behind_first(rt, alloc), line)
     }
-}
-
-fn does_not_fit(alloc: Global, database: &mut Database, line: &str) -> Result<bool, AllocError> {
-    let release = database.release(alloc, line)?;
-    Ok(!database.store.fits(&release))
-}
-
-fn is_unfit_behind_first(
-    alloc: Global,
-    database: &mut Database,
-    line: &str,
-) -> Result<bool, AllocError> {
-    take_first(alloc, database)?;
-    does_not_fit(alloc, database, line)
-}
-
-/// Whether a release doesn't fit behind the first one.
-pub(crate) fn is_unfit(alloc: Global, line: &str) -> Result<bool, AllocError> {
-    let mut database = Database::new(alloc)?;
-    let is_unfit = is_unfit_behind_first(alloc, &mut database, line);
-    drop(database);
-    is_unfit
 }
 
 // The changes of the one commit of a release.
-fn copied_changes(alloc: Global, release: &Release) -> Result<Vec<Change>, AllocError> {
+fn copied_changes(rt: &impl Abort, alloc: Global, release: &Release) -> Vec<Change> {
     match release.changes.as_slice() {
-        [commit] => Ok(commit.changes.copy(alloc)?.into_vec()),
-        _ => Err(AllocError),
+        [commit] => commit.changes.copy(alloc).expect(rt, "memory").into_vec(),
+        _ => panic!(rt; "no single commit"),
     }
 }
 
-// A release from 4 to 5 with one commit of these changes.
-fn release_of(alloc: Global, changes: Vec<Change>) -> Result<Release, AllocError> {
-    let from = micros(4)?;
-    let to = micros(5)?;
-    let mut commits = TimedChanges::new(alloc);
-    commits.push(TimedChange {
-        time: to,
+// Whether a release from 4 to 5 with one commit of these changes fits.
+fn fits(rt: &impl Abort, alloc: Global, store: &Store, changes: Vec<Change>) -> bool {
+    let time = micros(rt, 5);
+    let commit = TimedChange {
+        time,
         id: Id::new(9),
         changes: Changes::of(changes),
-    })?;
-    Ok(Release {
-        from,
-        to,
+    };
+    let mut commits = TimedChanges::new(alloc);
+    commits.push(commit).expect(rt, "memory");
+    store.fits(&Release {
+        from: micros(rt, 4),
+        to: time,
         changes: commits,
     })
 }
 
-fn fits(alloc: Global, store: &Store, changes: Vec<Change>) -> Result<bool, AllocError> {
-    let release = release_of(alloc, changes)?;
-    Ok(store.fits(&release))
-}
-
-fn fits_copied(alloc: Global, store: &Store, release: &Release) -> Result<bool, AllocError> {
-    let changes = copied_changes(alloc, release)?;
-    fits(alloc, store, changes)
-}
-
-fn fits_reversed(alloc: Global, store: &Store, release: &Release) -> Result<bool, AllocError> {
-    let mut changes = copied_changes(alloc, release)?;
+fn reversed(mut changes: Vec<Change>) -> Vec<Change> {
     changes.reverse();
-    fits(alloc, store, changes)
+    changes
 }
 
-// Makes each change one to a document with another name.
-fn rename(alloc: Global, changes: &mut [Change]) -> Result<(), AllocError> {
+// Each change is one to a document with another name.
+fn renamed(rt: &impl Abort, alloc: Global, mut changes: Vec<Change>) -> Vec<Change> {
     for change in changes.iter_mut() {
         if let Some(document) = &mut change.after {
-            document.name = name_of(alloc, "c/z")?;
+            document.name = name_of(rt, alloc, "c/z");
         }
     }
-    Ok(())
-}
-
-fn fits_renamed(alloc: Global, store: &Store, release: &Release) -> Result<bool, AllocError> {
-    let mut changes = copied_changes(alloc, release)?;
-    rename(alloc, changes.as_mut_slice())?;
-    fits(alloc, store, changes)
+    changes
 }
 
 // Whether a release fits, but not with its changes in another order or to another name.
-fn fits_as_it_is(alloc: Global, store: &Store, release: &Release) -> Result<bool, AllocError> {
-    Ok(
-        store.fits(release)
-            && fits_copied(alloc, store, release)?
-            && !fits_reversed(alloc, store, release)?
-            && !fits_renamed(alloc, store, release)?,
-    )
+fn fits_as_it_is(rt: &impl Abort, alloc: Global, store: &Store, release: &Release) -> bool {
+    let again = copied_changes(rt, alloc, release);
+    let reversed = reversed(copied_changes(rt, alloc, release));
+    let renamed = renamed(rt, alloc, copied_changes(rt, alloc, release));
+    store.fits(release)
+        && fits(rt, alloc, store, again)
+        && !fits(rt, alloc, store, reversed)
+        && !fits(rt, alloc, store, renamed)
 }
 
 // Whether it doesn't fit where its documents are new, though the store has them.
-fn goes_on_from_none(alloc: Global, store: &Store) -> Result<bool, AllocError> {
-    let mut fresh = Database::new(alloc)?;
-    let release = fresh.release(alloc, NEXT)?;
-    Ok(!store.fits(&release))
-}
-
-fn next_fits_behind_first(alloc: Global, database: &mut Database) -> Result<bool, AllocError> {
-    take_first(alloc, database)?;
-    let next = database.release(alloc, NEXT)?;
-    Ok(
-        fits_as_it_is(alloc, &database.store, &next)?
-            && goes_on_from_none(alloc, &database.store)?
-            && does_not_fit(alloc, database, "4 5 | 5 c/a=3")?,
-    )
+fn goes_on_from_none(rt: &impl Abort, alloc: Global, store: &Store) -> bool {
+    let release = Database::new(rt, alloc).release(rt, alloc, NEXT);
+    !store.fits(&release)
 }
 
 // Whether the next release fits, and none that goes on from other documents.
-fn next_fits(alloc: Global) -> Result<bool, AllocError> {
-    let mut database = Database::new(alloc)?;
-    let fits = next_fits_behind_first(alloc, &mut database);
-    drop(database);
-    fits
+fn next_fits(rt: &impl Abort, alloc: Global) -> bool {
+    let mut database = behind_first(rt, alloc);
+    let next = database.release(rt, alloc, NEXT);
+    fits_as_it_is(rt, alloc, &database.store, &next)
+        && goes_on_from_none(rt, alloc, &database.store)
+        && does_not_fit(rt, alloc, &mut database, "4 5 | 5 c/a=3")
 }
 
 #[test]
 fn releases_that_do_not_fit(rt: HostRuntime) {
-    holds(&rt, rt.alloc(), Line::Unfit, UNFIT, 8);
-    assert!(rt; next_fits(rt.alloc()).expect(&rt, "memory"));
+    let alloc = rt.alloc();
+    holds(&rt, alloc, &mut Unfit, UNFIT, 8);
+    assert!(rt; next_fits(&rt, alloc));
 }

@@ -4,14 +4,16 @@ ghost use Rattle.std.specs.FinMap.{is_sorted};
 ghost use Rattle.fs_path.specs.NameOrder.{name_cmp};
 ghost use Rattle.fs_write.specs.Batch.{changes_by_name};
 
-use crate::now::{changes_of, take_in};
-use crate::short::{micros, moment, name_of, push_versions};
+use crate::now::commit;
+use crate::short::{cut, micros, moment, name_of, push_row};
+use crate::table::{Says, holds};
 use crate::versions::tables::PATHS;
 use fs_time::Micros;
 use fs_value::DocumentMap;
 use fs_versions::Versions;
 use fs_write::Changes;
-use std::alloc::{AllocError, Global};
+use std::alloc::Global;
+use std::process::Abort;
 
 /// The documents of now, and their versions.
 #[derive(Drop)]
@@ -21,67 +23,43 @@ pub(crate) struct Database {
 }
 
 impl Database {
-    pub(crate) fn new(alloc: Global) -> Result<Database, AllocError> {
-        let floor = micros(0)?;
-        Ok(Database {
+    /// A database after all batches of a table, of which there are so many.
+    pub(crate) fn after(rt: &impl Abort, alloc: Global, batches: &str, count: usize) -> Database {
+        let mut database = Database {
             now: DocumentMap::new(alloc),
-            versions: Versions::new(alloc, floor),
-        })
+            versions: Versions::new(alloc, micros(rt, 0)),
+        };
+        holds(rt, alloc, &mut database, batches, count);
+        database
     }
+}
 
-    // Carries out a line of the batches.
-    fn commit(&mut self, alloc: Global, line: &str) -> Result<bool, AllocError> {
-        let (time, texts) = line.split_once(" | ").unwrap_or((line, ""));
-        let time = moment(time)?;
-        let changes = changes_of(alloc, &self.now, texts, time)?;
-        take_in(alloc, &mut self.now, &changes)?;
-        is_installed(alloc, &mut self.versions, &changes, time)
-    }
-
-    /// Carries out all batches of a table.
-    pub(crate) fn commit_all(&mut self, alloc: Global, batches: &str) -> Result<(), AllocError> {
-        for line in batches.lines() {
-            if !self.commit(alloc, line)? {
-                return Err(AllocError);
-            }
-        }
-        Ok(())
+// The batch of a line is carried out.
+impl Says for Database {
+    fn is_so(&mut self, rt: &impl Abort, alloc: Global, line: &str) -> bool {
+        let (time, texts) = cut(line, " | ");
+        let time = moment(rt, time);
+        let changes = commit(rt, alloc, &mut self.now, texts, time);
+        is_taken_back(rt, alloc, &mut self.versions, &changes, time)
+            && is_installed(rt, alloc, &mut self.versions, &changes, time)
     }
 }
 
 // ---- a batch is installed
 
 // The first time it is taken back, or memory is wanting, and nothing has changed.
-fn is_installed(
-    alloc: Global,
-    versions: &mut Versions,
-    changes: &Changes,
-    time: Micros,
-) -> Result<bool, AllocError>
-    requires { IsTrue (is_sorted name_cmp (changes_by_name changes.now)) }
-{
-    if !is_taken_back(alloc, versions, changes, time)? {
-        return Ok(false);
-    }
-    if time <= versions.floor() || time <= versions.last() {
-        return Ok(false);
-    }
-    versions.install(alloc, changes, time)?;
-    Ok(true)
-}
-
 fn is_taken_back(
+    rt: &impl Abort,
     alloc: Global,
     versions: &mut Versions,
     changes: &Changes,
     time: Micros,
-) -> Result<bool, AllocError>
+) -> bool
     requires { IsTrue (is_sorted name_cmp (changes_by_name changes.now)) }
 {
-    let mut before = String::new(alloc);
-    push_chains(alloc, &mut before, versions)?;
+    let before = chains(rt, alloc, versions);
     install_and_take_back(alloc, versions, changes, time);
-    has_chains(alloc, versions, before.as_str())
+    has_chains(rt, alloc, versions, before.as_str())
 }
 
 fn install_and_take_back(alloc: Global, versions: &mut Versions, changes: &Changes, time: Micros)
@@ -96,37 +74,47 @@ fn install_and_take_back(alloc: Global, versions: &mut Versions, changes: &Chang
     }
 }
 
+fn is_installed(
+    rt: &impl Abort,
+    alloc: Global,
+    versions: &mut Versions,
+    changes: &Changes,
+    time: Micros,
+) -> bool
+    requires { IsTrue (is_sorted name_cmp (changes_by_name changes.now)) }
+{
+    if time <= versions.floor() || time <= versions.last() {
+        return false;
+    }
+    versions.install(alloc, changes, time).expect(rt, "memory");
+    true
+}
+
 // ---- chains
 
 // Adds the versions of a document, as ` | 5:2 8:-`.
-fn push_chain(
-    alloc: Global,
-    text: &mut String,
-    versions: &Versions,
-    path: &str,
-) -> Result<(), AllocError> {
-    let name = name_of(alloc, path)?;
-    text.push_str(" |")?;
-    match versions.chain(&name) {
-        Some(chain) => push_versions(text, chain.as_slice()),
-        None => Ok(()),
+fn push_chain(rt: &impl Abort, alloc: Global, text: &mut String, versions: &Versions, path: &str) {
+    let name = name_of(rt, alloc, path);
+    text.push_str(" |").expect(rt, "memory");
+    if let Some(chain) = versions.chain(&name) {
+        push_row(text, chain.as_slice()).expect(rt, "memory");
     }
 }
 
-fn push_chains(alloc: Global, text: &mut String, versions: &Versions) -> Result<(), AllocError> {
-    for path in &PATHS {
-        push_chain(alloc, text, versions, path)?;
-    }
-    Ok(())
+fn chains(rt: &impl Abort, alloc: Global, versions: &Versions) -> String {
+    let mut text = String::new(alloc);
+    push_chain(rt, alloc, &mut text, versions, PATHS[0]);
+    push_chain(rt, alloc, &mut text, versions, PATHS[1]);
+    push_chain(rt, alloc, &mut text, versions, PATHS[2]);
+    text
 }
 
 /// Whether the chains of the documents are these, as ` | 5:2 8:- | 3:1 |`.
 pub(crate) fn has_chains(
+    rt: &impl Abort,
     alloc: Global,
     versions: &Versions,
     wanted: &str,
-) -> Result<bool, AllocError> {
-    let mut text = String::new(alloc);
-    push_chains(alloc, &mut text, versions)?;
-    Ok(text.as_str() == wanted)
+) -> bool {
+    chains(rt, alloc, versions).as_str() == wanted
 }

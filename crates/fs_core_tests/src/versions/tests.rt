@@ -1,8 +1,8 @@
 //! What versions show at each time, and after each compaction.
 ghost use Rattle.std.specs.Prelude.{◌≤ℤ◌};
 
-use crate::short::{are_those, moment, name_of, push_in_row, push_n, scope};
-use crate::table::{Line, holds, tell};
+use crate::short::{are_those, cut, moment, name_of, push_in_row, push_n, scope};
+use crate::table::{Says, are_so, holds};
 use crate::versions::database::{Database, has_chains};
 use crate::versions::tables::{
     BATCHES, CHAINS, COLLECTIONS, ONE_DATABASE, PATHS, SCOPES, SHOWN, TWO_DATABASES,
@@ -10,241 +10,186 @@ use crate::versions::tables::{
 use fs_time::Micros;
 use fs_value::Document;
 use fs_versions::Versions;
-use std::alloc::{AllocError, Global};
+use std::alloc::Global;
+use std::process::Abort;
 
 // ---- times
 
 fn push_at(
+    rt: &impl Abort,
     alloc: Global,
     text: &mut String,
     versions: &Versions,
     path: &str,
     at: Micros,
-) -> Result<(), AllocError>
+)
     requires { versions.now.floor ≤ℤ at }
 {
-    let name = name_of(alloc, path)?;
-    push_in_row(text, versions.at(&name, at))
+    let name = name_of(rt, alloc, path);
+    push_in_row(text, versions.at(&name, at)).expect(rt, "memory");
 }
 
 // Whether `n` of each document is as in a row.
-fn has_row(alloc: Global, versions: &Versions, at: Micros, row: &str) -> Result<bool, AllocError>
+fn has_row(rt: &impl Abort, alloc: Global, versions: &Versions, at: Micros, row: &str) -> bool
     requires { versions.now.floor ≤ℤ at }
 {
     let mut text = String::new(alloc);
-    for path in &PATHS {
-        push_at(alloc, &mut text, versions, path, at)?;
-    }
-    Ok(text.trim() == row)
+    push_at(rt, alloc, &mut text, versions, PATHS[0], at);
+    push_at(rt, alloc, &mut text, versions, PATHS[1], at);
+    push_at(rt, alloc, &mut text, versions, PATHS[2], at);
+    text.trim() == row
 }
 
 // Whether the documents of a row are listed, each once.
-fn has_all(alloc: Global, versions: &Versions, at: Micros, row: &str) -> Result<bool, AllocError>
+fn has_all(rt: &impl Abort, alloc: Global, versions: &Versions, at: Micros, row: &str) -> bool
     requires { versions.now.floor ≤ℤ at }
 {
-    let documents = versions.all_at(alloc, at)?;
-    are_those(alloc, &documents, &PATHS, "0 1 2", row)
+    let documents = versions.all_at(alloc, at).expect(rt, "memory");
+    are_those(rt, alloc, &documents, &PATHS, "0 1 2", row)
 }
 
-// Whether a line of the table is shown, if its time can be read.
-fn shows(alloc: Global, versions: &Versions, line: &str) -> Result<bool, AllocError> {
-    let (time, row) = line.split_once(" | ").unwrap_or((line, ""));
-    let at = moment(time)?;
-    if at < versions.floor() {
-        return Ok(true);
+// What versions show at the time of a line, if it can be read.
+#[derive(Drop)]
+struct Shown<'a> {
+    versions: &'a Versions,
+}
+
+impl Says for Shown<'_> {
+    fn is_so(&mut self, rt: &impl Abort, alloc: Global, line: &str) -> bool {
+        let versions = self.versions;
+        let (time, row) = cut(line, " | ");
+        let at = moment(rt, time);
+        at < versions.floor()
+            || (has_row(rt, alloc, versions, at, row) && has_all(rt, alloc, versions, at, row))
     }
-    Ok(has_row(alloc, versions, at, row)? && has_all(alloc, versions, at, row)?)
 }
 
-fn shows_all(alloc: Global, versions: &Versions) -> Result<bool, AllocError> {
-    for line in SHOWN.lines() {
-        if !shows(alloc, versions, line)? {
-            return Ok(false);
-        }
-    }
-    Ok(true)
+fn shows_all(rt: &impl Abort, alloc: Global, versions: &Versions) -> bool {
+    are_so(rt, alloc, &mut Shown { versions }, SHOWN)
 }
 
-fn have_same_n(
-    alloc: Global,
-    one: Option<&Document>,
-    other: Option<&Document>,
-) -> Result<bool, AllocError> {
-    let mut one_text = String::new(alloc);
-    let mut other_text = String::new(alloc);
-    push_n(&mut one_text, one)?;
-    push_n(&mut other_text, other)?;
-    Ok(one_text.as_str() == other_text.as_str())
+fn n_of(rt: &impl Abort, alloc: Global, document: Option<&Document>) -> String {
+    let mut text = String::new(alloc);
+    push_n(&mut text, document).expect(rt, "memory");
+    text
 }
 
 // Whether the newest version of a document is that of now.
-fn is_newest(alloc: Global, database: &Database, path: &str) -> Result<bool, AllocError> {
-    let name = name_of(alloc, path)?;
-    have_same_n(
-        alloc,
-        database.versions.latest(&name),
-        database.now.get(&name),
-    )
+fn is_newest(rt: &impl Abort, alloc: Global, database: &Database, path: &str) -> bool {
+    let name = name_of(rt, alloc, path);
+    let newest = n_of(rt, alloc, database.versions.latest(&name));
+    newest.as_str() == n_of(rt, alloc, database.now.get(&name)).as_str()
 }
 
-fn is_unknown(alloc: Global, versions: &Versions, path: &str) -> Result<bool, AllocError> {
-    let name = name_of(alloc, path)?;
-    Ok(versions.latest(&name).is_none() && versions.chain(&name).is_none())
+fn is_unknown(rt: &impl Abort, alloc: Global, versions: &Versions, path: &str) -> bool {
+    let name = name_of(rt, alloc, path);
+    versions.latest(&name).is_none() && versions.chain(&name).is_none()
 }
 
-fn tell_unlike_in(
-    alloc: Global,
-    database: &mut Database,
-    wrong: &mut String,
-) -> Result<(), AllocError> {
-    database.commit_all(alloc, BATCHES)?;
-    for path in &PATHS {
-        tell(wrong, is_newest(alloc, database, path)?, path)?;
-    }
-    let versions = &database.versions;
-    let is_so = versions.floor().get() == 0 && versions.last().get() == 15;
-    tell(wrong, is_so, "floor and last")?;
-    tell(wrong, is_unknown(alloc, versions, "c/d")?, "c/d")?;
-    tell(wrong, shows_all(alloc, versions)?, "times")
-}
-
-fn tell_unlike(alloc: Global, wrong: &mut String) -> Result<(), AllocError> {
-    let mut database = Database::new(alloc)?;
-    let done = tell_unlike_in(alloc, &mut database, wrong);
-    drop(database);
-    done
+// Whether the newest versions are the documents of now, and no others.
+fn are_newest(rt: &impl Abort, alloc: Global, database: &Database) -> bool {
+    is_newest(rt, alloc, database, PATHS[0])
+        && is_newest(rt, alloc, database, PATHS[1])
+        && is_newest(rt, alloc, database, PATHS[2])
+        && is_unknown(rt, alloc, &database.versions, "c/d")
 }
 
 #[test]
 fn documents_at_each_time(rt: HostRuntime) {
-    let mut wrong = String::new(rt.alloc());
-    tell_unlike(rt.alloc(), &mut wrong).expect(&rt, "memory");
-    assert!(rt; wrong.is_empty(), "{wrong}");
+    let alloc = rt.alloc();
+    let database = Database::after(&rt, alloc, BATCHES, 10);
+    let versions = &database.versions;
+    assert!(rt;
+        are_newest(&rt, alloc, &database)
+            && versions.floor().get() == 0
+            && versions.last().get() == 15
+    );
+    holds(&rt, alloc, &mut Shown { versions }, SHOWN, 17);
 }
 
 // ---- compactions
 
-fn compact(versions: &mut Versions, floor: &str) -> Result<(), AllocError> {
-    let floor = moment(floor)?;
+fn compact(rt: &impl Abort, versions: &mut Versions, floor: &str) {
+    let floor = moment(rt, floor);
     if versions.floor() <= floor {
         versions.compact(floor);
     }
-    Ok(())
 }
 
-// Whether the chains from a floor on are those of a line, and each time from there on shows what it showed before.
-fn shows_from(alloc: Global, versions: &mut Versions, line: &str) -> Result<bool, AllocError> {
-    let (floor, _) = line.split_once(" | ").unwrap_or((line, ""));
-    let chains = line.strip_prefix(floor).unwrap_or(line);
-    compact(versions, floor)?;
-    Ok(has_chains(alloc, versions, chains)? && shows_all(alloc, versions)?)
-}
-
-fn shows_at_once_in(
-    alloc: Global,
-    database: &mut Database,
-    line: &str,
-) -> Result<bool, AllocError> {
-    database.commit_all(alloc, BATCHES)?;
-    shows_from(alloc, &mut database.versions, line)
-}
-
-/// The same of a floor that is the first one.
-pub(crate) fn shows_at_once(alloc: Global, line: &str) -> Result<bool, AllocError> {
-    let mut database = Database::new(alloc)?;
-    let is_shown = shows_at_once_in(alloc, &mut database, line);
-    drop(database);
-    is_shown
-}
-
-fn tell_risen_in(
-    alloc: Global,
-    database: &mut Database,
-    wrong: &mut String,
-) -> Result<(), AllocError> {
-    database.commit_all(alloc, BATCHES)?;
-    for line in CHAINS.lines() {
-        let is_so = shows_from(alloc, &mut database.versions, line)?;
-        tell(wrong, is_so, line)?;
+// The chains from a floor on are those of a line, and each time from there on shows what it showed before.
+impl Says for Versions {
+    fn is_so(&mut self, rt: &impl Abort, alloc: Global, line: &str) -> bool {
+        let (floor, _) = cut(line, " | ");
+        let chains = line.strip_prefix(floor).unwrap_or(line);
+        compact(rt, self, floor);
+        has_chains(rt, alloc, self, chains) && shows_all(rt, alloc, self)
     }
-    Ok(())
 }
 
-// Tells what isn't so where the floor rises step by step.
-fn tell_risen(alloc: Global, wrong: &mut String) -> Result<(), AllocError> {
-    let mut database = Database::new(alloc)?;
-    let done = tell_risen_in(alloc, &mut database, wrong);
-    drop(database);
-    done
+// The same of a floor that is the first one.
+#[derive(Drop)]
+struct AtOnce;
+
+impl Says for AtOnce {
+    fn is_so(&mut self, rt: &impl Abort, alloc: Global, line: &str) -> bool {
+        let mut database = Database::after(rt, alloc, BATCHES, 10);
+        database.versions.is_so(rt, alloc, line)
+    }
 }
 
 #[test]
 fn the_same_after_each_compaction(rt: HostRuntime) {
-    holds(&rt, rt.alloc(), Line::Versions, CHAINS, 17);
+    holds(&rt, rt.alloc(), &mut AtOnce, CHAINS, 17);
 }
 
 #[test]
 fn compacted_again_and_again(rt: HostRuntime) {
-    let mut wrong = String::new(rt.alloc());
-    tell_risen(rt.alloc(), &mut wrong).expect(&rt, "memory");
-    assert!(rt; wrong.is_empty(), "{wrong}");
+    let alloc = rt.alloc();
+    let mut database = Database::after(&rt, alloc, BATCHES, 10);
+    holds(&rt, alloc, &mut database.versions, CHAINS, 17);
 }
 
 // ---- collections and groups
 
 // Whether documents have these `n`, as ` 1 5`.
-fn have(alloc: Global, documents: &[&Document], wanted: &str) -> Result<bool, AllocError> {
+fn have(rt: &impl Abort, alloc: Global, documents: &[&Document], wanted: &str) -> bool {
     let mut text = String::new(alloc);
     for document in documents {
-        push_in_row(&mut text, Some(*document))?;
+        push_in_row(&mut text, Some(*document)).expect(rt, "memory");
     }
-    Ok(text.as_str() == wanted)
+    text.as_str() == wanted
 }
 
-// Whether the documents of a scope are those of a line.
-fn has_scope(alloc: Global, versions: &Versions, line: &str) -> Result<bool, AllocError> {
-    let (time, rest) = line.split_once(" | ").unwrap_or((line, ""));
-    let (text, wanted) = rest.split_once(" |").unwrap_or((rest, ""));
-    let at = moment(time)?;
-    if at < versions.floor() {
-        return Ok(false);
-    }
-    let scope = scope(alloc, text)?;
-    let documents = versions.documents_in(alloc, &scope, at)?;
-    have(alloc, documents.as_slice(), wanted)
+// Versions whose documents of a scope are those of a line.
+#[derive(Drop)]
+struct Scopes<'a> {
+    versions: &'a Versions,
 }
 
-fn tell_scopes_in(
-    alloc: Global,
-    database: &mut Database,
-    batches: &str,
-    scopes: &str,
-    wrong: &mut String,
-) -> Result<(), AllocError> {
-    database.commit_all(alloc, batches)?;
-    for line in scopes.lines() {
-        let is_so = has_scope(alloc, &database.versions, line)?;
-        tell(wrong, is_so, line)?;
+impl Says for Scopes<'_> {
+    fn is_so(&mut self, rt: &impl Abort, alloc: Global, line: &str) -> bool {
+        let (time, rest) = cut(line, " | ");
+        let (text, wanted) = cut(rest, " |");
+        let at = moment(rt, time);
+        if at < self.versions.floor() {
+            return false;
+        }
+        let scope = scope(rt, alloc, text);
+        let documents = self.versions.documents_in(alloc, &scope, at);
+        drop(scope);
+        have(rt, alloc, documents.expect(rt, "memory").as_slice(), wanted)
     }
-    Ok(())
 }
 
-fn tell_scopes(
-    alloc: Global,
-    batches: &str,
-    scopes: &str,
-    wrong: &mut String,
-) -> Result<(), AllocError> {
-    let mut database = Database::new(alloc)?;
-    let done = tell_scopes_in(alloc, &mut database, batches, scopes, wrong);
-    drop(database);
-    done
+fn have_scopes(rt: &impl Abort, alloc: Global, batches: &str, scopes: &str, rows: usize) {
+    let database = Database::after(rt, alloc, batches, 2);
+    let versions = &database.versions;
+    holds(rt, alloc, &mut Scopes { versions }, scopes, rows);
 }
 
 #[test]
 fn documents_of_collections_and_groups(rt: HostRuntime) {
-    let mut wrong = String::new(rt.alloc());
-    tell_scopes(rt.alloc(), ONE_DATABASE, COLLECTIONS, &mut wrong).expect(&rt, "memory");
-    tell_scopes(rt.alloc(), TWO_DATABASES, SCOPES, &mut wrong).expect(&rt, "memory");
-    assert!(rt; wrong.is_empty(), "{wrong}");
+    let alloc = rt.alloc();
+    have_scopes(&rt, alloc, ONE_DATABASE, COLLECTIONS, 13);
+    have_scopes(&rt, alloc, TWO_DATABASES, SCOPES, 14);
 }

@@ -1,15 +1,16 @@
 //! Writes and batches, by a table.
-use crate::short::{cell, micros, moment};
-use crate::table::{Line, holds};
+use crate::short::{cell, cut, field, micros, moment, row_of, shared};
+use crate::table::{Says, holds};
 use crate::write::commits::COMMITS;
-use crate::write::short::{act, are_fields, field, long_text, name_in_c, shared, write_of};
+use crate::write::short::{act, are_fields, fields, long_text, name_in_c, write_of};
 use fs_status::{Refusal, message};
-use fs_value::{Document, DocumentMap, Fields, SharedFields, Value};
+use fs_value::{Document, DocumentMap, Value};
 use fs_write::{
-    Act, Change, Changes, Precondition, Write, WriteResult, WriteResults, Writes, apply_batch,
+    Act, Change, Changes, Precondition, Write, WriteResults, Writes, apply_batch,
     batches_are_lawful, writes_are_lawful,
 };
-use std::alloc::{AllocError, Global};
+use std::alloc::Global;
+use std::process::Abort;
 
 // When the documents of before were created and updated, and the time of the commit, in microseconds.
 const CREATED: i64 = 3;
@@ -27,260 +28,220 @@ fn without_dot(text: &str) -> &str {
 
 /// A document of the collection `c` with these fields and times.
 pub(crate) fn document(
+    rt: &impl Abort,
     alloc: Global,
     id: &str,
     text: &str,
     created: i64,
     updated: i64,
-) -> Result<Document, AllocError> {
-    let created = micros(created)?;
-    let updated = micros(updated)?;
-    let name = name_in_c(alloc, id)?;
-    let fields = shared(alloc, without_dot(text))?;
-    Ok(Document {
-        name,
-        fields,
-        created,
-        updated,
-    })
+) -> Document {
+    Document {
+        name: name_in_c(rt, alloc, id),
+        fields: shared(rt, alloc, fields(rt, alloc, without_dot(text))),
+        created: micros(rt, created),
+        updated: micros(rt, updated),
+    }
 }
 
-fn put_documents(alloc: Global, map: &mut DocumentMap, text: &str) -> Result<(), AllocError> {
+fn documents(rt: &impl Abort, alloc: Global, text: &str) -> DocumentMap {
+    let mut map = DocumentMap::new(alloc);
     for one in text.split("/") {
         if let Some((id, text)) = one.split_once(" ") {
-            map.put(alloc, document(alloc, id, text, CREATED, UPDATED)?)?;
+            let document = document(rt, alloc, id, text, CREATED, UPDATED);
+            map.put(alloc, document).expect(rt, "memory");
         }
     }
-    Ok(())
+    map
 }
 
-fn condition(text: &str) -> Result<Precondition, AllocError> {
-    Ok(match text {
+fn condition(rt: &impl Abort, text: &str) -> Precondition {
+    match text {
         "" => Precondition::None,
         "exists" => Precondition::Exists(true),
         "absent" => Precondition::Exists(false),
-        _ => Precondition::UpdateTime(moment(text)?),
-    })
+        _ => Precondition::UpdateTime(moment(rt, text)),
+    }
 }
 
-fn cut(text: &str) -> (&str, &str) {
-    text.split_once(",").unwrap_or((text, ""))
+fn write(rt: &impl Abort, alloc: Global, text: &str) -> Write {
+    let (id, rest) = cut(text, ",");
+    let (wanted, rest) = cut(rest, ",");
+    let (doing, rest) = cut(rest, ",");
+    let (input, changes) = cut(rest, ",");
+    let act = act(rt, alloc, id, doing, input);
+    write_of(rt, alloc, act, changes, condition(rt, wanted))
 }
 
-fn write(alloc: Global, text: &str) -> Result<Write, AllocError> {
-    let (id, rest) = cut(text);
-    let (wanted, rest) = cut(rest);
-    let (doing, rest) = cut(rest);
-    let (input, changes) = cut(rest);
-    let condition = condition(wanted)?;
-    write_of(alloc, act(alloc, id, doing, input)?, changes, condition)
-}
-
-fn push_write(alloc: Global, writes: &mut Writes, text: &str) -> Result<(), AllocError> {
-    writes.push(write(alloc, text)?)
-}
-
-/// Adds writes, each with its document, its condition, what it does, its input and its transforms, as `a,,set,n: 1`.
-pub(crate) fn add_writes(alloc: Global, writes: &mut Writes, text: &str) -> Result<(), AllocError> {
+/// Writes, each with its document, its condition, what it does, its input and its transforms, as `a,,set,n: 1`.
+pub(crate) fn writes(rt: &impl Abort, alloc: Global, text: &str) -> Writes {
+    let mut writes = Writes::new(alloc);
     for one in text.split("/") {
         if !one.is_empty() {
-            push_write(alloc, writes, one)?;
+            writes.push(write(rt, alloc, one)).expect(rt, "memory");
         }
     }
-    Ok(())
+    writes
 }
 
 // ---- what it comes to
 
 /// Whether a document, or none at `-`, has these fields and times.
 pub(crate) fn is_document(
+    rt: &impl Abort,
     alloc: Global,
     found: &Option<Document>,
     text: &str,
     created: i64,
     updated: i64,
-) -> Result<bool, AllocError> {
+) -> bool {
     match found {
-        Some(document) => Ok(
+        Some(document) => {
             text != "-"
-                && are_fields(alloc, document.fields.as_fields(), without_dot(text))?
+                && are_fields(rt, alloc, document.fields.as_fields(), without_dot(text))
                 && document.created.get() == created
-                && document.updated.get() == updated,
-        ),
-        None => Ok(text == "-"),
+                && document.updated.get() == updated
+        }
+        None => text == "-",
     }
 }
 
-pub(crate) fn is_named(alloc: Global, change: &Change, id: &str) -> Result<bool, AllocError> {
-    let name = name_in_c(alloc, id)?;
-    Ok(change.name == name)
+pub(crate) fn is_named(rt: &impl Abort, alloc: Global, change: &Change, id: &str) -> bool {
+    change.name == name_in_c(rt, alloc, id)
 }
 
 // A change, as `a n: 1 > n: 2`. A document that is made anew is told by `*`.
-fn is_change(alloc: Global, change: &Change, text: &str) -> Result<bool, AllocError> {
-    let (id, fields) = text.split_once(" ").unwrap_or((text, ""));
-    let (before, after) = fields.split_once(" > ").unwrap_or((fields, ""));
+fn is_change(rt: &impl Abort, alloc: Global, change: &Change, text: &str) -> bool {
+    let (id, fields) = cut(text, " ");
+    let (before, after) = cut(fields, " > ");
     let created = match before == "-" || after.starts_with("*") {
         true => TIME,
         false => CREATED,
     };
     let after = after.strip_prefix("*").unwrap_or(after);
-    Ok(
-        is_named(alloc, change, id)?
-            && is_document(alloc, &change.before, before, CREATED, UPDATED)?
-            && is_document(alloc, &change.after, after, created, TIME)?,
-    )
+    is_named(rt, alloc, change, id)
+        && is_document(rt, alloc, &change.before, before, CREATED, UPDATED)
+        && is_document(rt, alloc, &change.after, after, created, TIME)
 }
 
-fn are_changes(alloc: Global, changes: &Changes, text: &str) -> Result<bool, AllocError> {
+fn are_changes(rt: &impl Abort, alloc: Global, changes: &Changes, text: &str) -> bool {
     for (change, one) in changes.as_slice().iter().zip(text.split("/")) {
-        if !is_change(alloc, change, one)? {
-            return Ok(false);
+        if !is_change(rt, alloc, change, one) {
+            return false;
         }
     }
     let count = match text {
         "" => 0,
         _ => text.split("/").count(),
     };
-    Ok(changes.len() == count)
+    changes.len() == count
 }
 
-fn is_result(found: &WriteResult, text: &str) -> Result<bool, AllocError> {
-    match text {
-        "-" => Ok(found.updated.is_none()),
-        _ => Ok(found.updated == Some(moment(text)?)),
-    }
+fn are_results(rt: &impl Abort, alloc: Global, results: &WriteResults, text: &str) -> bool {
+    row_of(rt, alloc, results.as_slice()).as_str().trim() == text
 }
 
-fn are_results(results: &WriteResults, text: &str) -> Result<bool, AllocError> {
-    for (result, one) in results.as_slice().iter().zip(text.split_whitespace()) {
-        if !is_result(result, one)? {
-            return Ok(false);
-        }
-    }
-    Ok(results.len() == text.split_whitespace().count())
+// What a commit on these documents comes to at its time.
+fn commit(
+    rt: &impl Abort,
+    alloc: Global,
+    map: DocumentMap,
+    writes: Writes,
+) -> Result<(Changes, WriteResults), Refusal> {
+    assert!(rt; writes.len() <= 500);
+    let documents = map.documents(alloc).expect(rt, "memory");
+    apply_batch(alloc, &documents, &writes, micros(rt, TIME))
+}
+
+fn is_refusal(rt: &impl Abort, alloc: Global, refusal: &Refusal, text: &str) -> bool {
+    let told = message(alloc, refusal).expect(rt, "memory");
+    told.as_str() == text && refusal.index.is_some()
 }
 
 // Whether a commit comes to these changes and results, or is refused with this message where there are no results.
 fn comes_to(
+    rt: &impl Abort,
     alloc: Global,
-    map: &DocumentMap,
-    writes: &Writes,
+    outcome: &Result<(Changes, WriteResults), Refusal>,
     changes: &str,
     results: &str,
-) -> Result<bool, AllocError> {
-    if writes.len() > 500 {
-        return Ok(false);
-    }
-    let time = micros(TIME)?;
-    let documents = map.documents(alloc)?;
-    match apply_batch(alloc, &documents, writes, time) {
+) -> bool {
+    match outcome {
         Ok((found, told)) => {
-            let are_told = are_told(alloc, &found, &told, changes, results);
-            drop(found);
-            are_told
+            are_changes(rt, alloc, found, changes) && are_results(rt, alloc, told, results)
         }
-        Err(refusal) => {
-            let is_told = is_refusal(alloc, &refusal, changes);
-            drop(refusal);
-            is_told
-        }
+        Err(refusal) => is_refusal(rt, alloc, refusal, changes),
     }
 }
 
-fn are_told(
-    alloc: Global,
-    found: &Changes,
-    told: &WriteResults,
-    changes: &str,
-    results: &str,
-) -> Result<bool, AllocError> {
-    Ok(are_changes(alloc, found, changes)? && are_results(told, results)?)
-}
+#[derive(Drop)]
+struct Committed;
 
-fn is_refusal(alloc: Global, refusal: &Refusal, text: &str) -> Result<bool, AllocError> {
-    let told = message(alloc, refusal)?;
-    Ok(told.as_str() == text && refusal.index.is_some())
-}
-
-fn comes_to_line_in(
-    alloc: Global,
-    map: &mut DocumentMap,
-    writes: &mut Writes,
-    line: &str,
-) -> Result<bool, AllocError> {
-    let (before, rest) = cell(line);
-    let (texts, rest) = cell(rest);
-    let (changes, results) = cell(rest);
-    put_documents(alloc, map, before)?;
-    add_writes(alloc, writes, texts)?;
-    comes_to(alloc, map, writes, changes, cell(results).0)
-}
-
-/// Whether the commit of a line comes to what it says.
-pub(crate) fn comes_to_line(alloc: Global, line: &str) -> Result<bool, AllocError> {
-    let mut map = DocumentMap::new(alloc);
-    let mut writes = Writes::new(alloc);
-    let is_so = comes_to_line_in(alloc, &mut map, &mut writes, line);
-    drop(map);
-    drop(writes);
-    is_so
+impl Says for Committed {
+    fn is_so(&mut self, rt: &impl Abort, alloc: Global, line: &str) -> bool {
+        let (before, rest) = cell(line);
+        let (texts, rest) = cell(rest);
+        let (changes, results) = cell(rest);
+        let before = documents(rt, alloc, before);
+        let outcome = commit(rt, alloc, before, writes(rt, alloc, texts));
+        let is_so = comes_to(rt, alloc, &outcome, changes, cell(results).0);
+        drop(outcome);
+        is_so
+    }
 }
 
 #[test]
 fn commits(rt: HostRuntime) {
-    holds(&rt, rt.alloc(), Line::Commit, COMMITS, 81);
+    holds(&rt, rt.alloc(), &mut Committed, COMMITS, 81);
 }
 
 // ---- the size of a document
 
-// Fields that make a document count so many bytes: 55 beside the text, as `c/a {s: ..}` does.
-fn fields_of_size(alloc: Global, bytes: usize) -> Result<Fields, AllocError> {
-    let text = long_text(alloc, bytes.saturating_sub(55))?;
-    field(alloc, "s", Value::String(text))
-}
-
-fn set_of_size(alloc: Global, bytes: usize) -> Result<Act, AllocError> {
-    let fields = SharedFields::of(alloc, fields_of_size(alloc, bytes)?)?;
-    let name = name_in_c(alloc, "a")?;
-    Ok(Act::Set { name, fields })
-}
-
-fn write_of_size(alloc: Global, bytes: usize) -> Result<Write, AllocError> {
-    let act = set_of_size(alloc, bytes)?;
-    write_of(alloc, act, "", Precondition::None)
-}
-
-// What such a commit is refused with, or nothing where it isn't.
-fn is_refused_with(alloc: Global, writes: &Writes, told: &str) -> Result<bool, AllocError> {
-    if writes.len() > 500 {
-        return Ok(false);
+// Makes a document count so many bytes: 55 beside the text, as `c/a {s: ..}` does.
+fn set_of_size(rt: &impl Abort, alloc: Global, bytes: usize) -> Act {
+    let text = long_text(rt, alloc, bytes.saturating_sub(55));
+    Act::Set {
+        name: name_in_c(rt, alloc, "a"),
+        fields: shared(rt, alloc, field(rt, alloc, "s", Value::String(text))),
     }
-    let time = micros(TIME)?;
-    let documents = DocumentMap::new(alloc).documents(alloc)?;
-    match apply_batch(alloc, &documents, writes, time) {
-        Ok(_) => Ok(told.is_empty()),
-        Err(refusal) => is_refusal(alloc, &refusal, told),
+}
+
+fn write_of_size(rt: &impl Abort, alloc: Global, bytes: usize) -> Writes {
+    let act = set_of_size(rt, alloc, bytes);
+    let mut writes = Writes::new(alloc);
+    writes
+        .push(write_of(rt, alloc, act, "", Precondition::None))
+        .expect(rt, "memory");
+    writes
+}
+
+fn is_told(
+    rt: &impl Abort,
+    alloc: Global,
+    outcome: &Result<(Changes, WriteResults), Refusal>,
+    told: &str,
+) -> bool {
+    match outcome {
+        Ok(_) => told.is_empty(),
+        Err(refusal) => is_refusal(rt, alloc, refusal, told),
     }
 }
 
 // Whether a document of this size is refused with a message, or taken where that is empty.
-fn is_sized(alloc: Global, bytes: usize, told: &str) -> Result<bool, AllocError> {
-    let mut writes = Writes::new(alloc);
-    writes.push(write_of_size(alloc, bytes)?)?;
-    is_refused_with(alloc, &writes, told)
-}
-
-fn sizes_are_bounded(alloc: Global) -> Result<bool, AllocError> {
-    Ok(
-        is_sized(alloc, 1_048_576, "")?
-            && is_sized(alloc, 1_048_577, "write 0: document has 1048577 bytes")?,
-    )
+fn is_sized(rt: &impl Abort, alloc: Global, bytes: usize, told: &str) -> bool {
+    let writes = write_of_size(rt, alloc, bytes);
+    let outcome = commit(rt, alloc, DocumentMap::new(alloc), writes);
+    let is_told = is_told(rt, alloc, &outcome, told);
+    drop(outcome);
+    is_told
 }
 
 #[test]
 fn the_largest_document(rt: HostRuntime) {
-    assert!(rt; sizes_are_bounded(rt.alloc()).expect(&rt, "memory"));
+    let alloc = rt.alloc();
+    assert!(rt;
+        is_sized(&rt, alloc, 1_048_576, "")
+            && is_sized(&rt, alloc, 1_048_577, "write 0: document has 1048577 bytes")
+    );
     writes_are_lawful();
     batches_are_lawful();
 }

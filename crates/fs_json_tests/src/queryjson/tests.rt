@@ -1,5 +1,5 @@
 //! Queries that are read and written again, and those that are refused.
-use crate::made::{Form, Make, json, printed};
+use crate::made::{Form, Make, a_text, json, printed, word};
 use crate::query::tests::{answered, rule_told, shape};
 use crate::queryjson::tables::{QUERIES, REFUSALS, RULES};
 use crate::table::holds;
@@ -8,7 +8,9 @@ use fs_path::{Ids, Paths, Scope, Text, Way};
 use fs_query::{Filter, Filters, Query};
 use fs_queryjson::{read_query, write_query};
 use serde_json::Value;
-use std::alloc::{AllocError, Global};
+use std::alloc::Global;
+use std::mem::replace;
+use std::process::Abort;
 
 /// What is asked of a query. Those that documents answer are below the root, and the others below `p/a`.
 #[derive(Clone, Copy)]
@@ -29,105 +31,104 @@ pub(crate) enum Ask {
     Limit(i32),
 }
 
-fn parent(alloc: Global, ask: Ask) -> Result<Ids, AllocError> {
+fn parent(rt: &impl Abort, alloc: Global, ask: Ask) -> Ids {
     match ask {
-        Ask::Answer | Ask::Shape | Ask::Limit(_) => Ok(Ids::new(alloc)),
-        _ => ids_of(alloc, "p a"),
+        Ask::Answer | Ask::Shape | Ask::Limit(_) => Ids::new(alloc),
+        _ => below(rt, alloc),
     }
 }
 
-fn ids_of(alloc: Global, text: &str) -> Result<Ids, AllocError> {
+// The ids of `p/a`.
+fn below(rt: &impl Abort, alloc: Global) -> Ids {
     let mut ids = Ids::new(alloc);
-    for id in text.split_whitespace() {
-        ids.push(Text::from_str(alloc, id)?)?;
-    }
-    Ok(ids)
+    ids.push(a_text(rt, alloc, "p")).expect(rt, "memory");
+    ids.push(a_text(rt, alloc, "a")).expect(rt, "memory");
+    ids
 }
 
-fn query_of(alloc: Global, ask: Ask, v: &Value) -> Result<Query, Bad> {
-    let parent = parent(alloc, ask)?;
+fn query_of(rt: &impl Abort, alloc: Global, ask: Ask, v: &Value) -> Result<Query, Bad> {
+    let parent = parent(rt, alloc, ask);
     read_query(alloc, &parent, v, &Way::method("x"))
 }
 
 /// What a query tells that is read.
-pub(crate) fn query_told(alloc: Global, ask: Ask, v: &Value) -> Result<String, Bad> {
-    let mut query = query_of(alloc, ask, v)?;
-    let told = changed(alloc, ask, &mut query);
+pub(crate) fn query_told(
+    rt: &impl Abort,
+    alloc: Global,
+    ask: Ask,
+    v: &Value,
+) -> Result<String, Bad> {
+    let mut query = query_of(rt, alloc, ask, v)?;
+    let told = changed(rt, alloc, ask, &mut query);
     drop(query);
-    told
+    Ok(told)
 }
 
-fn changed(alloc: Global, ask: Ask, query: &mut Query) -> Result<String, Bad> {
+fn changed(rt: &impl Abort, alloc: Global, ask: Ask, query: &mut Query) -> String {
     match ask {
         Ask::Selecting => select_nothing(alloc, query),
-        Ask::Filtering => filter_by_all(alloc, query)?,
-        Ask::Answer => become_copy(alloc, query)?,
+        Ask::Filtering => filter_by_all(rt, alloc, query),
         Ask::Limit(limit) => query.limit = Some(limit),
         _ => {}
     }
-    told(alloc, ask, query)
+    told(rt, alloc, ask, query)
 }
 
 fn select_nothing(alloc: Global, query: &mut Query) {
     query.select = Some(Paths::new(alloc));
 }
 
-fn filter_by_all(alloc: Global, query: &mut Query) -> Result<(), AllocError> {
-    query.filter = of_all(alloc)?;
-    Ok(())
+fn filter_by_all(rt: &impl Abort, alloc: Global, query: &mut Query) {
+    drop(replace(&mut query.filter, of_all(rt, alloc)));
 }
 
-fn become_copy(alloc: Global, query: &mut Query) -> Result<(), AllocError> {
-    *query = query.copy(alloc)?;
-    Ok(())
-}
-
-fn of_all(alloc: Global) -> Result<Filter, AllocError> {
+fn of_all(rt: &impl Abort, alloc: Global) -> Filter {
     let mut filters = Filters::new(alloc);
-    filters.push(Filter::All)?;
-    Ok(Filter::And(filters))
+    filters.push(Filter::All).expect(rt, "memory");
+    Filter::And(filters)
 }
 
-fn told(alloc: Global, ask: Ask, query: &Query) -> Result<String, Bad> {
+fn told(rt: &impl Abort, alloc: Global, ask: Ask, query: &Query) -> String {
     match ask {
-        Ask::Again | Ask::Selecting | Ask::Filtering => printed(alloc, write_query(alloc, query)),
-        Ask::Scope => scope_told(alloc, &query.scope),
-        Ask::Answer => answered(alloc, query),
-        Ask::Shape => shape(alloc, query),
-        Ask::Limit(_) => rule_told(alloc, query),
+        Ask::Again | Ask::Selecting | Ask::Filtering => {
+            printed(rt, alloc, write_query(alloc, query))
+        }
+        Ask::Scope => scope_told(rt, alloc, &query.scope),
+        Ask::Answer => copy_answered(rt, alloc, query),
+        Ask::Shape => shape(rt, alloc, query),
+        Ask::Limit(_) => rule_told(alloc, query).expect(rt, "memory"),
     }
 }
 
-fn scope_told(alloc: Global, scope: &Scope) -> Result<String, Bad> {
+fn copy_answered(rt: &impl Abort, alloc: Global, query: &Query) -> String {
+    let copy = query.copy(alloc).expect(rt, "memory");
+    let told = answered(rt, alloc, &copy);
+    drop(copy);
+    told
+}
+
+fn scope_told(rt: &impl Abort, alloc: Global, scope: &Scope) -> String {
     match scope {
-        Scope::Collection { parent, id } => Ok(path_of(alloc, parent, id)?),
-        Scope::Group { .. } => Ok(String::from_str(alloc, "a group")?),
+        Scope::Collection { parent, id } => path_of(rt, alloc, parent, id),
+        Scope::Group { .. } => word(rt, alloc, "a group"),
     }
 }
 
-fn path_of(alloc: Global, parent: &Ids, id: &Text) -> Result<String, AllocError> {
+fn path_of(rt: &impl Abort, alloc: Global, parent: &Ids, id: &Text) -> String {
     let mut path = String::new(alloc);
     for parent in parent.as_slice() {
-        push_parent(&mut path, parent)?;
+        path.push_str(parent.as_str()).expect(rt, "memory");
+        path.push_str("/").expect(rt, "memory");
     }
-    path.push_str(id.as_str())?;
-    Ok(path)
-}
-
-fn push_parent(path: &mut String, id: &Text) -> Result<(), AllocError> {
-    path.push_str(id.as_str())?;
-    path.push_str("/")
+    path.push_str(id.as_str()).expect(rt, "memory");
+    path
 }
 
 /// What is written of the query once its filter has a filter of all inside, and is read.
-pub(crate) fn filtered_again(alloc: Global, v: &Value) -> Result<String, Bad> {
-    let text = query_told(alloc, Ask::Filtering, v)?;
-    text_again(alloc, text.as_str())
-}
-
-fn text_again(alloc: Global, text: &str) -> Result<String, Bad> {
-    let v = json(alloc, text)?;
-    query_told(alloc, Ask::Again, &v)
+pub(crate) fn filtered_again(rt: &impl Abort, alloc: Global, v: &Value) -> Result<String, Bad> {
+    let text = query_told(rt, alloc, Ask::Filtering, v).expect(rt, "a query");
+    let v = json(rt, alloc, text.as_str());
+    query_told(rt, alloc, Ask::Again, &v)
 }
 
 const SHORT: [(&str, &str); 5] = [
@@ -145,35 +146,35 @@ const AGAIN: Make = Make::Json(Form::Query(Ask::Again));
 
 #[test]
 fn queries_are_read_and_written(rt: HostRuntime) {
-    holds(&rt, rt.alloc(), AGAIN, &SHORT, QUERIES);
+    holds(&rt, AGAIN, &SHORT, QUERIES);
 }
 
 #[test]
 fn the_first_fault_of_the_walk_is_told(rt: HostRuntime) {
-    holds(&rt, rt.alloc(), AGAIN, &SHORT, REFUSALS);
+    holds(&rt, AGAIN, &SHORT, REFUSALS);
 }
 
 #[test]
 fn the_least_rule_is_told_after_the_walk(rt: HostRuntime) {
-    holds(&rt, rt.alloc(), AGAIN, &SHORT, RULES);
+    holds(&rt, AGAIN, &SHORT, RULES);
 }
 
 #[test]
 fn a_query_goes_over_what_is_below_its_parent(rt: HostRuntime) {
     let make = Make::Json(Form::Query(Ask::Scope));
-    holds(&rt, rt.alloc(), make, &SHORT, "{~} => p/a/c");
+    holds(&rt, make, &SHORT, "{~} => p/a/c");
 }
 
 #[test]
 fn a_selection_of_no_path_is_written_by_the_name(rt: HostRuntime) {
     let make = Make::Json(Form::Query(Ask::Selecting));
     let line = r#"{~} => {~,"select":{"fields":[{"fieldPath":"__name__"}]}}"#;
-    holds(&rt, rt.alloc(), make, &SHORT, line);
+    holds(&rt, make, &SHORT, line);
 }
 
 #[test]
 fn a_filter_of_all_inside_another_is_no_filter(rt: HostRuntime) {
     let make = Make::Json(Form::Filtered);
     let line = "{~} => G at x.where.compositeFilter.filters[0]";
-    holds(&rt, rt.alloc(), make, &SHORT, line);
+    holds(&rt, make, &SHORT, line);
 }

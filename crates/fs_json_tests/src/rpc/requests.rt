@@ -1,5 +1,5 @@
 //! What is made of requests.
-use crate::made::{both, demo, printed};
+use crate::made::{a_text, both, demo, printed, shown};
 use fs_json::Bad;
 use fs_path::Text;
 use fs_rpc::{
@@ -7,68 +7,64 @@ use fs_rpc::{
     write_request,
 };
 use serde_json::Value;
-use std::alloc::{AllocError, Global};
+use std::alloc::Global;
+use std::process::Abort;
 
-fn read(alloc: Global, json: &str) -> Result<Envelope, Bad> {
-    let root = demo(alloc)?;
+fn read(rt: &impl Abort, alloc: Global, json: &str) -> Result<Envelope, Bad> {
+    let root = demo(rt, alloc);
     read_request(alloc, &root, json)
 }
 
 // What both writers write of a request.
-fn written(alloc: Global, envelope: &Envelope) -> Result<String, Bad> {
-    let text = write_request(alloc, envelope)?;
-    let whole = printed(alloc, request_json(alloc, envelope))?;
-    both(alloc, text.as_str(), whole.as_str())
+fn written(rt: &impl Abort, alloc: Global, envelope: &Envelope) -> String {
+    let text = write_request(alloc, envelope).expect(rt, "memory");
+    let whole = printed(rt, alloc, request_json(alloc, envelope));
+    both(rt, alloc, text.as_str(), whole.as_str())
 }
 
-pub(crate) fn request_again(alloc: Global, json: &str) -> Result<String, Bad> {
-    let envelope = read(alloc, json)?;
-    let told = written(alloc, &envelope);
+pub(crate) fn request_again(rt: &impl Abort, alloc: Global, json: &str) -> Result<String, Bad> {
+    let envelope = read(rt, alloc, json)?;
+    let told = written(rt, alloc, &envelope);
     drop(envelope);
-    told
+    Ok(told)
 }
 
-fn session_request(alloc: Global, line: &Value) -> Result<SessionRequest, Bad> {
-    let root = demo(alloc)?;
-    read_session_request(alloc, &root, line)
+fn session_request(rt: &impl Abort, alloc: Global, line: &Value) -> SessionRequest {
+    let root = demo(rt, alloc);
+    read_session_request(alloc, &root, line).expect(rt, "a session")
 }
 
-fn line_of(alloc: Global, session: &Text, envelope: Envelope) -> Result<Value, AllocError> {
+fn line_of(rt: &impl Abort, alloc: Global, session: &Text, envelope: Envelope) -> Value {
     let line = request_json_on(alloc, session, &envelope);
     drop(envelope);
-    line
+    line.expect(rt, "memory")
 }
 
 // What is written of the request that a line of a script is read as.
-fn line_again(alloc: Global, read: SessionRequest) -> Result<Value, Bad> {
+fn line_again(rt: &impl Abort, alloc: Global, read: SessionRequest) -> Value {
     let SessionRequest {
         session,
         id,
         request,
     } = read;
-    match request {
-        Ok(request) => Ok(line_of(alloc, &session, Envelope { id, request })?),
-        Err(bad) => Err(bad),
-    }
+    let request = request.expect(rt, "a request");
+    line_of(rt, alloc, &session, Envelope { id, request })
 }
 
-fn line(alloc: Global, json: &str) -> Result<Value, Bad> {
-    let session = Text::from_str(alloc, "s")?;
-    Ok(line_of(alloc, &session, read(alloc, json)?)?)
+fn line(rt: &impl Abort, alloc: Global, json: &str) -> Value {
+    let session = a_text(rt, alloc, "s");
+    let envelope = read(rt, alloc, json).expect(rt, "a request");
+    line_of(rt, alloc, &session, envelope)
 }
 
-pub(crate) fn request_on(alloc: Global, json: &str) -> Result<String, Bad> {
-    let line = line(alloc, json)?;
-    on_again(alloc, &line)
+pub(crate) fn request_on(rt: &impl Abort, alloc: Global, json: &str) -> String {
+    let line = line(rt, alloc, json);
+    let again = line_again(rt, alloc, session_request(rt, alloc, &line));
+    same(rt, alloc, &line, &again)
 }
 
-fn on_again(alloc: Global, line: &Value) -> Result<String, Bad> {
-    let again = line_again(alloc, session_request(alloc, line)?)?;
-    same(alloc, line, &again)
-}
-
-fn same(alloc: Global, line: &Value, again: &Value) -> Result<String, Bad> {
-    let line = line.to_string(alloc)?;
-    let again = again.to_string(alloc)?;
-    both(alloc, line.as_str(), again.as_str())
+fn same(rt: &impl Abort, alloc: Global, line: &Value, again: &Value) -> String {
+    let line = shown(rt, alloc, line);
+    let again = shown(rt, alloc, again);
+    both(rt, alloc, line.as_str(), again.as_str())
 }

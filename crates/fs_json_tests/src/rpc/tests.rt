@@ -14,53 +14,41 @@ const SHORT: [(&str, &str); 5] = [
 
 #[test]
 fn messages_are_read_and_written(rt: HostRuntime) {
-    holds(&rt, rt.alloc(), Make::Message, &SHORT, messages::MESSAGES);
+    holds(&rt, Make::Message, &SHORT, messages::MESSAGES);
 }
 
 #[test]
 fn the_first_fault_of_the_walk_is_told(rt: HostRuntime) {
-    holds(&rt, rt.alloc(), Make::Message, &SHORT, messages::REFUSED);
+    holds(&rt, Make::Message, &SHORT, messages::REFUSED);
 }
 
 #[test]
 fn a_line_of_a_transcript_has_its_session(rt: HostRuntime) {
-    holds(
-        &rt,
-        rt.alloc(),
-        Make::MessageOn,
-        &SHORT,
-        messages::ON_A_SESSION,
-    );
+    holds(&rt, Make::MessageOn, &SHORT, messages::ON_A_SESSION);
 }
 
 #[test]
 fn a_refusal_is_told_with_its_status(rt: HostRuntime) {
-    holds(&rt, rt.alloc(), Make::Refusal, &SHORT, messages::REFUSALS);
-    holds(&rt, rt.alloc(), Make::Error, &SHORT, messages::ERROR);
+    holds(&rt, Make::Refusal, &SHORT, messages::REFUSALS);
+    holds(&rt, Make::Error, &SHORT, messages::ERROR);
 }
 
 #[test]
 fn answers_stand_in_their_order(rt: HostRuntime) {
-    holds(&rt, rt.alloc(), Make::Missing, &SHORT, messages::ANSWERS);
+    holds(&rt, Make::Missing, &SHORT, messages::ANSWERS);
 }
 
 #[test]
 fn requests_are_read_and_written(rt: HostRuntime) {
-    holds(&rt, rt.alloc(), Make::Request, &SHORT, requests::REQUESTS);
+    holds(&rt, Make::Request, &SHORT, requests::REQUESTS);
 }
 
 #[test]
 fn documents_are_read_as_of_a_time(rt: HostRuntime) {
-    holds(&rt, rt.alloc(), Make::Request, &SHORT, requests::READ_TIMES);
+    holds(&rt, Make::Request, &SHORT, requests::READ_TIMES);
 }
 
 #[test]
 fn a_line_of_a_script_has_its_session(rt: HostRuntime) {
-    holds(
-        &rt,
-        rt.alloc(),
-        Make::RequestOn,
-        &SHORT,
-        requests::ON_A_SESSION,
-    );
+    holds(&rt, Make::RequestOn, &SHORT, requests::ON_A_SESSION);
 }

@@ -1,5 +1,5 @@
 //! Writes, masks and results that are read and written again, and those that are refused.
-use crate::made::{Form, Make, both, demo, json, moment, printed};
+use crate::made::{Form, Make, both, demo, json, moment, printed, push_word, word};
 use crate::table::holds;
 use crate::writejson::tables::{DRAFTS, LISTS, MASKS, RESULTS, WRITES};
 use fs_json::Bad;
@@ -14,60 +14,58 @@ use fs_writejson::{
 use serde_json::Value;
 use std::alloc::{AllocError, Global};
 use std::mem::replace;
+use std::process::Abort;
 
-fn write_of(alloc: Global, v: &Value) -> Result<Write, Bad> {
-    let root = demo(alloc)?;
+fn write_of(rt: &impl Abort, alloc: Global, v: &Value) -> Result<Write, Bad> {
+    let root = demo(rt, alloc);
     read_write(alloc, &root, v, &Way::method("x"))
 }
 
 /// What is written of the write that is read.
-pub(crate) fn write_again(alloc: Global, v: &Value) -> Result<String, Bad> {
-    let write = write_of(alloc, v)?;
-    let told = printed(alloc, write_write(alloc, &write));
+pub(crate) fn write_again(rt: &impl Abort, alloc: Global, v: &Value) -> Result<String, Bad> {
+    let write = write_of(rt, alloc, v)?;
+    let told = printed(rt, alloc, write_write(alloc, &write));
     drop(write);
-    told
+    Ok(told)
 }
 
-fn push_write(alloc: Global, text: &mut String, write: &Write) -> Result<(), Bad> {
-    if !text.is_empty() {
-        text.push_str(" ")?;
-    }
-    let write = printed(alloc, write_write(alloc, write))?;
-    Ok(text.push_str(write.as_str())?)
+fn push_write(rt: &impl Abort, alloc: Global, text: &mut String, write: &Write) {
+    let write = printed(rt, alloc, write_write(alloc, write));
+    push_word(text, write.as_str()).expect(rt, "memory");
 }
 
-fn written(alloc: Global, writes: &Writes) -> Result<String, Bad> {
+fn written(rt: &impl Abort, alloc: Global, writes: &Writes) -> String {
     let mut text = String::new(alloc);
     for write in writes.as_slice() {
-        push_write(alloc, &mut text, write)?;
+        push_write(rt, alloc, &mut text, write);
     }
-    Ok(text)
+    text
 }
 
-fn drafts_of(alloc: Global, v: &Value) -> Result<Drafts, Bad> {
-    let root = demo(alloc)?;
+fn drafts_of(rt: &impl Abort, alloc: Global, v: &Value) -> Result<Drafts, Bad> {
+    let root = demo(rt, alloc);
     read_drafts(alloc, &root, v, &Way::method("x"))
 }
 
 /// What is written of the list of writes that is read.
-pub(crate) fn list_again(alloc: Global, v: &Value) -> Result<String, Bad> {
-    let drafts = drafts_of(alloc, v)?;
+pub(crate) fn list_again(rt: &impl Abort, alloc: Global, v: &Value) -> Result<String, Bad> {
+    let drafts = drafts_of(rt, alloc, v)?;
     let len = drafts.len();
     let writes = judge(alloc, drafts, &Way::method("x"))?;
-    list_printed(alloc, &writes, len)
+    Ok(list_printed(rt, alloc, &writes, len))
 }
 
-fn list_printed(alloc: Global, writes: &Writes, drafts: usize) -> Result<String, Bad> {
+fn list_printed(rt: &impl Abort, alloc: Global, writes: &Writes, drafts: usize) -> String {
     if drafts == 0 && writes.is_empty() {
-        return Ok(String::from_str(alloc, "none")?);
+        return word(rt, alloc, "none");
     }
-    written(alloc, writes)
+    written(rt, alloc, writes)
 }
 
 /// What is written of the mask that is read.
-pub(crate) fn mask_again(alloc: Global, v: &Value) -> Result<String, Bad> {
+pub(crate) fn mask_again(rt: &impl Abort, alloc: Global, v: &Value) -> Result<String, Bad> {
     let mask = read_mask(alloc, v, &Way::method("x"))?;
-    printed(alloc, write_mask(alloc, &mask))
+    Ok(printed(rt, alloc, write_mask(alloc, &mask)))
 }
 
 fn told(alloc: Global, draft: &Draft) -> Result<String, AllocError> {
@@ -86,31 +84,25 @@ fn told(alloc: Global, draft: &Draft) -> Result<String, AllocError> {
 }
 
 /// What the one draft of a list tells.
-pub(crate) fn draft_told(alloc: Global, v: &Value) -> Result<String, Bad> {
-    let list = list_of(alloc, v)?;
-    drafts_told(alloc, &list)
+pub(crate) fn draft_told(rt: &impl Abort, alloc: Global, v: &Value) -> String {
+    let list = list_of(rt, alloc, v);
+    let mut drafts = drafts_of(rt, alloc, &list).expect(rt, "a draft");
+    told_again(rt, alloc, &mut drafts)
 }
 
-fn list_of(alloc: Global, v: &Value) -> Result<Value, Bad> {
+fn list_of(rt: &impl Abort, alloc: Global, v: &Value) -> Value {
     let mut list = Vec::new(alloc);
-    list.push(v.clone()?)?;
-    Ok(Value::Array(list))
+    list.push(v.clone().expect(rt, "memory"))
+        .expect(rt, "memory");
+    Value::Array(list)
 }
 
-fn drafts_told(alloc: Global, list: &Value) -> Result<String, Bad> {
-    let mut drafts = drafts_of(alloc, list)?;
-    told_again(alloc, &mut drafts)
-}
-
-fn told_again(alloc: Global, drafts: &mut Drafts) -> Result<String, Bad> {
-    let told = one_told(alloc, drafts)?;
-    told_after(alloc, drafts, told.as_str())
-}
-
-fn told_after(alloc: Global, drafts: &mut Drafts, before: &str) -> Result<String, Bad> {
-    put_back(alloc, drafts)?;
-    let told = one_told(alloc, drafts)?;
-    both(alloc, before, told.as_str())
+// What the draft tells before it is taken out and put back, and after.
+fn told_again(rt: &impl Abort, alloc: Global, drafts: &mut Drafts) -> String {
+    let before = one_told(alloc, drafts).expect(rt, "memory");
+    put_back(alloc, drafts).expect(rt, "memory");
+    let after = one_told(alloc, drafts).expect(rt, "memory");
+    both(rt, alloc, before.as_str(), after.as_str())
 }
 
 fn one_told(alloc: Global, drafts: &Drafts) -> Result<String, AllocError> {
@@ -140,30 +132,25 @@ fn take_all(alloc: Global, drafts: &mut Drafts) -> Vec<Draft> {
 }
 
 /// What is written of a result: its time or none, and its values.
-pub(crate) fn result_written(alloc: Global, text: &str) -> Result<String, Bad> {
+pub(crate) fn result_written(rt: &impl Abort, alloc: Global, text: &str) -> String {
     let (moment, values) = text.split_once(" ").unwrap_or((text, ""));
-    let answer = result_of(alloc, updated(alloc, moment)?, values)?;
-    printed(alloc, write_result(alloc, &answer))
+    let answer = WriteResult {
+        updated: updated(rt, alloc, moment),
+        transforms: values_of(rt, alloc, values),
+    };
+    printed(rt, alloc, write_result(alloc, &answer))
 }
 
-fn updated(alloc: Global, text: &str) -> Result<Option<Micros>, Bad> {
+fn updated(rt: &impl Abort, alloc: Global, text: &str) -> Option<Micros> {
     match text {
-        "none" => Ok(None),
-        _ => Ok(Some(moment(alloc, text)?)),
+        "none" => None,
+        _ => Some(moment(rt, alloc, text)),
     }
 }
 
-fn result_of(alloc: Global, updated: Option<Micros>, values: &str) -> Result<WriteResult, Bad> {
-    let transforms = values_of(alloc, values)?;
-    Ok(WriteResult {
-        updated,
-        transforms,
-    })
-}
-
-fn values_of(alloc: Global, text: &str) -> Result<Values, Bad> {
-    let v = json(alloc, text)?;
-    read_list(alloc, &v, &Way::method("x"))
+fn values_of(rt: &impl Abort, alloc: Global, text: &str) -> Values {
+    let v = json(rt, alloc, text);
+    read_list(alloc, &v, &Way::method("x")).expect(rt, "values")
 }
 
 const SHORT: [(&str, &str); 3] = [
@@ -174,25 +161,25 @@ const SHORT: [(&str, &str); 3] = [
 
 #[test]
 fn writes_are_read_and_written(rt: HostRuntime) {
-    holds(&rt, rt.alloc(), Make::Json(Form::Write), &SHORT, WRITES);
+    holds(&rt, Make::Json(Form::Write), &SHORT, WRITES);
 }
 
 #[test]
 fn lists_of_writes_are_judged(rt: HostRuntime) {
-    holds(&rt, rt.alloc(), Make::Json(Form::Writes), &SHORT, LISTS);
+    holds(&rt, Make::Json(Form::Writes), &SHORT, LISTS);
 }
 
 #[test]
 fn masks_are_read_and_written(rt: HostRuntime) {
-    holds(&rt, rt.alloc(), Make::Json(Form::Mask), &[], MASKS);
+    holds(&rt, Make::Json(Form::Mask), &[], MASKS);
 }
 
 #[test]
 fn drafts_tell_an_idle_mask_and_operands(rt: HostRuntime) {
-    holds(&rt, rt.alloc(), Make::Json(Form::Draft), &SHORT, DRAFTS);
+    holds(&rt, Make::Json(Form::Draft), &SHORT, DRAFTS);
 }
 
 #[test]
 fn results_are_written(rt: HostRuntime) {
-    holds(&rt, rt.alloc(), Make::WriteResult, &[], RESULTS);
+    holds(&rt, Make::WriteResult, &[], RESULTS);
 }
