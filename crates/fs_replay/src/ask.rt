@@ -70,10 +70,13 @@ fn ask_as(
     ensures { OnOk result (Plays (in_session state.old (record { session = name.now; id = envelope.now.id; request = Ok envelope.now.request })
         (number_of name.now state.old.directory)) state.new out.old.items out.new.items) }
 {
-    match &enter(alloc, state, name)? {
+    let entered = enter(alloc, state, name)?;
+    let done = match &entered {
         Ok(number) => reply_to(alloc, state, name, *number, envelope, out),
         Err(refusal) => refuse(alloc, name, &envelope.id, refusal, out),
-    }
+    };
+    drop(entered);
+    done
 }
 
 // Refuses one that isn't read.
@@ -93,7 +96,9 @@ fn refuse_as(
         Ok(_) => Refusal::of(reason_of(bad)),
         Err(refusal) => refusal,
     };
-    refuse(alloc, name, id, &refusal, out)
+    let refused = refuse(alloc, name, id, &refusal, out);
+    drop(refusal);
+    refused
 }
 
 // Why a request that isn't read is refused.

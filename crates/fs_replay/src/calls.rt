@@ -19,6 +19,7 @@ pub fn open(alloc: Global, server: &mut Server) -> Result<Result<u32, Refusal>, 
     if let Err(refusal) = &answer
         && let Reason::Memory = &refusal.reason
     {
+        drop(answer);
         return Err(AllocError);
     }
     Ok(answer)
@@ -54,6 +55,7 @@ fn outcome_of(alloc: Global, server: &Server, commit: Id) -> Result<Outcome, All
     if let Outcome::Refused(refusal) = &outcome
         && let Reason::Memory = &refusal.reason
     {
+        drop(outcome);
         return Err(AllocError);
     }
     Ok(outcome)

@@ -7,7 +7,7 @@ use std::alloc::{AllocError, Global};
 use std::marker::Model;
 
 /// A session by the name that the script gives it, and its number at the server.
-#[derive(Drop, Debug)]
+#[derive(Drop)]
 pub struct Named {
     pub name: Text,
     pub number: u32,
@@ -18,7 +18,7 @@ pub struct Named {
 ///
 ///     a line of s, one of t      s is 0, t is 1
 ///     s leaves, a line of s      t is 1, s is 2
-#[derive(Drop, Debug)]
+#[derive(Drop)]
 pub struct Directory {
     items: Vec<Named>,
 }

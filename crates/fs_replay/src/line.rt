@@ -74,7 +74,11 @@ pub fn read_line(alloc: Global, root: &Root, line: &[u8]) -> Result<Line, AllocE
         return Ok(Line::Refused(Reason::Line(LineFault::HasBytes(bytes))));
     }
     match json_of(alloc, line)? {
-        Some(v) => line_in(alloc, root, &v),
+        Some(v) => {
+            let line = line_in(alloc, root, &v);
+            drop(v);
+            line
+        }
         None => Ok(Line::Refused(Reason::Line(LineFault::NotAnObject))),
     }
 }

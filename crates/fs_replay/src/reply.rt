@@ -51,7 +51,10 @@ pub fn say_error(
     requires { has_float (view error) ≡ false }
     ensures { OnOk result (out.new.items ≡ out.old.items ++ json_line (line_error (view error) number)) }
 {
-    push_line(alloc, out, &line_error(alloc, error, number)?)
+    let line = line_error(alloc, error, number)?;
+    let said = push_line(alloc, out, &line);
+    drop(line);
+    said
 }
 
 /// Adds why a line of a number is refused.
@@ -63,8 +66,10 @@ pub fn say_refused(
 ) -> Result<(), AllocError>
     ensures { OnOk result (out.new.items ≡ out.old.items ++ json_line (line_error (refused_json reason) number)) }
 {
-    let error = refusal_json(alloc, &Refusal::of(reason))?;
-    say_error(alloc, error, number, out)
+    let refusal = Refusal::of(reason);
+    let error = refusal_json(alloc, &refusal);
+    drop(refusal);
+    say_error(alloc, error?, number, out)
 }
 
 // ---- messages
@@ -83,7 +88,10 @@ pub fn say(
     {
         return push_commit(alloc, session, id, *time, results.as_slice(), out);
     }
-    push_line(alloc, out, &message_json_on(alloc, session, message)?)
+    let line = message_json_on(alloc, session, message)?;
+    let said = push_line(alloc, out, &line);
+    drop(line);
+    said
 }
 
 /// Adds messages of a session.
@@ -116,5 +124,7 @@ pub fn refuse(
         None => None,
     };
     let message = Message::refused(alloc, id, refusal)?;
-    say(alloc, session, &message, out)
+    let said = say(alloc, session, &message, out);
+    drop(message);
+    said
 }
