@@ -12,7 +12,7 @@ use std::io::{Read, Write};
 
 /// A source over one of std's readers. It counts each error as a fault. What is left is told by the reader, where it
 /// tells what remains in it, and not by the source.
-#[derive(Drop, Debug)]
+#[derive(Drop)]
 pub struct RealSource<R> {
     reader: R,
     faults: u64,
@@ -73,7 +73,7 @@ impl<R: Read> Source for RealSource<R> {
 
 /// A sink over one of std's writers. It counts each error as a fault, and a write that takes none of a piece. What it
 /// took is told by the writer, where it tells what it holds, and not by the sink.
-#[derive(Drop, Debug)]
+#[derive(Drop)]
 pub struct RealSink<W> {
     writer: W,
     faults: u64,

@@ -2,7 +2,7 @@
 use fs_value::Values;
 
 /// What is done to the elements of an array.
-#[derive(Drop, Debug)]
+#[derive(Drop)]
 pub(crate) enum ArrayChange {
     /// These are appended, each unless it is there by then.
     Append(Values),

@@ -12,7 +12,7 @@ use std::marker::Model;
 ///     [1, 2]                                [1, 2]
 ///     [1, 2]       append 3, 1              [1, 2, 3]
 ///     [1, 2]       append 3, 1; remove 1    [2, 3]
-#[derive(Drop, Debug)]
+#[derive(Drop)]
 pub(crate) struct OpenArray {
     there: Values,
     changes: Vec<ArrayChange>,

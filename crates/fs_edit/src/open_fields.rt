@@ -9,7 +9,7 @@ use std::marker::Model;
 
 /// The value of an opened field. A map is opened only where a path leads into it, an array where its elements are changed.
 #[cycle(open)]
-#[derive(Drop, Debug)]
+#[derive(Drop)]
 pub(crate) enum Open {
     Whole(Value),
     Map(OpenFields),
@@ -24,7 +24,7 @@ pub(crate) enum Open {
 ///     3, 4 appended to d        {a: {b: 5, c: 2}, d: [3, 4]}      `d` is opened, with a change that waits
 ///     closed                    {a: {b: 5, c: 2}, d: [3, 4]}
 #[cycle(open)]
-#[derive(Drop, Debug)]
+#[derive(Drop)]
 pub struct OpenFields {
     pub(crate) entries: BTreeMap<Text, Open>,
 }

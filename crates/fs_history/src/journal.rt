@@ -10,7 +10,7 @@ use std::marker::Model;
 ///
 ///     after pushes at 5, 7 and 9     the batches 0, 1 and 2 are those of 5, 7 and 9
 ///                                    the history is 9, 7, 5
-#[derive(Drop, Debug)]
+#[derive(Drop)]
 pub struct Journal {
     // by rising time
     batches: Vec<Batch>,

@@ -2,7 +2,7 @@
 use crate::messages::Messages;
 
 /// A session that is open. (v1 reference, "Listen" and "Write": the streams of one client.)
-#[derive(Drop, Debug)]
+#[derive(Drop)]
 pub struct Session {
     /// Its number in the order of opening, counted from 0 and never given again.
     pub number: u32,

@@ -4,7 +4,7 @@ use fs_path::Text;
 use fs_write::WriteResults;
 
 /// A commit that isn't in the history yet.
-#[derive(Drop, Debug)]
+#[derive(Drop)]
 pub struct Unreleased {
     /// What it is to be there.
     pub batch: Batch,

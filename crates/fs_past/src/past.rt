@@ -23,7 +23,7 @@ use std::marker::Model;
 ///     advance to 9       nothing can be read above 5 yet
 ///     release            5 to 9 can be read, and hold the same
 ///     prepare at 10, reject      the history is the same, and 10 can be read
-#[derive(Drop, Debug)]
+#[derive(Drop)]
 pub struct Past {
     journal: Journal,
     // it is pending

@@ -18,7 +18,7 @@ use std::marker::Model;
 ///     outcome and settle of 1   c/a can be read at t1, and session 0 has the reply to take
 ///     request: getDocument      c/a, as of t1
 ///     tick to t9, compact to t5 times from t5 to t9 can be read, and show the same c/a
-#[derive(Drop, Debug)]
+#[derive(Drop)]
 pub struct Server {
     pub(crate) config: Config,
     pub(crate) limits: Limits,

@@ -12,7 +12,7 @@ use std::mem;
 ///
 ///     open, open         0 and 1 are open
 ///     leave 0, open      1 and 2
-#[derive(Drop, Debug)]
+#[derive(Drop)]
 pub struct Sessions {
     list: Vec<Session>,
     // how many were opened so far

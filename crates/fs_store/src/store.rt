@@ -21,7 +21,7 @@ use std::sync::ledger::Ledger;
 ///     compact(7)                                      7 to 9 are read
 ///
 /// Contracts see it as `Stored`. Stores of the same releases and compactions are the same.
-#[derive(Drop, Debug)]
+#[derive(Drop)]
 pub struct Store {
     versions: Versions,
     // the end of the last release, or the first floor

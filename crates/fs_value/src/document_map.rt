@@ -34,7 +34,6 @@ impl Model for DocumentMap {
 
 impl DocumentMap {
     ghost use Rattle.std.specs.Prelude.{◌≡◌, IfOk, IfSome, IsTrue, OnOk, OnErr, option_copied};
-    ghost use Rattle.std.specs.Prelude.{map as each};
     ghost use Rattle.std.specs.FinMap as map;
     ghost use Rattle.fs_path.specs.NameOrder.{name_cmp};
     ghost use Rattle.fs_value.specs.Named.{by_name};
@@ -78,18 +77,6 @@ impl DocumentMap {
         ensures removed { self.new ≡ map.remove self.old name.now }
     {
         self.documents.remove(name)
-    }
-
-    /// The documents where they are, in the order of their names.
-    pub fn lent(&self, alloc: Global) -> Result<Vec<&Document>, AllocError>
-        ensures value { IfOk result (λ ds. each (λ d. d.now) ds.items ≡ map.values self.now) }
-        ensures rise { IfOk result (λ ds. IsTrue (map.is_sorted name_cmp (by_name (each (λ d. d.now) ds.items)))) }
-    {
-        let mut items = Vec::with_capacity(alloc, self.documents.len())?;
-        for (_, document) in &self.documents {
-            items.push(document)?;
-        }
-        Ok(items)
     }
 
     /// The documents in the order of their names. They share their fields with those here.

@@ -1,19 +1,16 @@
 //! The fields of a document, which its copies share.
 use crate::fields::Fields;
-use crate::value::Value;
-use fs_path::Text;
 use std::alloc::{AllocError, Global};
 use std::marker::Model;
 use std::sync::Arc;
 
 /// Fields that stand in memory once, however many copies of their document there are. Contracts see them as `Fields`,
-/// so a copy is as good as another: a change of one isn't seen by the others.
+/// so a copy is as good as another.
 ///
 ///     one     holds  {n: 1}
-///     another holds  {n: 1}     the same block, after `one.copy()`
-///     another.put(n, 2)         copies the fields, as `one` holds them too
-///     one     holds  {n: 1}
-///     another holds  {n: 2}     a block of its own: its next change is made in place
+///     another holds  {n: 1}             the same block, after `one.copy()`
+///     another.into_fields()    {n: 1}   a copy, as `one` holds them too
+///     one.into_fields()        {n: 1}   the block itself: nobody else held it any longer
 #[derive(Drop, Debug)]
 pub struct SharedFields {
     fields: Arc<Fields, Global>,
@@ -33,10 +30,7 @@ impl Model for SharedFields {
 }
 
 impl SharedFields {
-    ghost use Rattle.std.specs.Prelude.{◌≡◌, IfOk, OnOk, OnErr};
-    ghost use Rattle.std.specs.FinMap.{put};
-    ghost use Rattle.fs_path.specs.TextOrder.{text_cmp};
-    ghost use Rattle.fs_value.specs.View.{view};
+    ghost use Rattle.std.specs.Prelude.{◌≡◌, IfOk};
 
     /// Fields that nobody else holds, without a copy.
     pub fn of(alloc: Global, fields: Fields) -> Result<SharedFields, AllocError>
@@ -70,19 +64,5 @@ impl SharedFields {
             Ok(fields) => Ok(fields),
             Err(shared) => shared.copy(alloc),
         }
-    }
-
-    /// Puts a value at a key: in place where nobody else holds the fields, and else on a copy of them.
-    pub fn put(&mut self, alloc: Global, key: Text, value: Value) -> Result<(), AllocError>
-        ensures ok { OnOk result (self.new ≡ put text_cmp key (view value) self.old) }
-        ensures err { OnErr result (self.new ≡ self.old) }
-    {
-        if let Some(fields) = Arc::get_mut(&mut self.fields) {
-            return fields.put(key, value);
-        }
-        let mut fields = self.fields.copy(alloc)?;
-        fields.put(key, value)?;
-        self.fields = Arc::new(alloc, fields)?;
-        Ok(())
     }
 }

@@ -25,7 +25,7 @@ use std::marker::Model;
 /// A chain is one block of memory, and each look-up is a search for the name and a binary search in its chain. The documents
 /// of a collection are one range of the names; those of its subcollections lie in it and are passed over. A compaction, and
 /// a search for a group of collections, goes over all names.
-#[derive(Drop, Debug)]
+#[derive(Drop)]
 pub struct Versions {
     // none is empty
     chains: BTreeMap<DocName, Chain>,

@@ -25,7 +25,7 @@ use std::collections::BTreeMap;
 use std::marker::Model;
 
 // A document that is written: as it was before the commit, and as the writes so far leave it.
-#[derive(Drop, Debug)]
+#[derive(Drop)]
 struct Staged {
     before: Option<Document>,
     now: Option<Document>,
@@ -33,7 +33,7 @@ struct Staged {
 
 // The same, in a block of its own: in the map itself, whose nodes have room for fifteen, it would make each node so large
 // that the allocator tidies its free blocks up whenever one is made.
-#[derive(Drop, Debug)]
+#[derive(Drop)]
 struct Boxed {
     staged: Box<Staged>,
 }

@@ -5,7 +5,7 @@ use std::alloc::{AllocError, Global};
 use std::marker::Model;
 
 /// A write as it was walked, before the rules of writes are tested.
-#[derive(Drop, Debug)]
+#[derive(Drop)]
 pub struct Draft {
     pub write: Write,
     /// The mask that a delete was given, which it may not have.
@@ -15,7 +15,7 @@ pub struct Draft {
 }
 
 /// The writes of a commit as they were walked, in their order. Contracts see them as a list.
-#[derive(Drop, Debug)]
+#[derive(Drop)]
 pub struct Drafts {
     items: Vec<Draft>,
 }

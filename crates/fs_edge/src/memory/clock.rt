@@ -6,7 +6,7 @@ use fs_time::Micros;
 use std::marker::Model;
 
 /// Moments in order.
-#[derive(Drop, Debug)]
+#[derive(Drop)]
 pub struct Moments {
     items: Vec<Micros>,
 }
@@ -29,7 +29,7 @@ impl Moments {
 }
 
 /// A clock in memory. It tells its moments in order, and the last of them again and again.
-#[derive(Drop, Debug)]
+#[derive(Drop)]
 pub struct MemoryClock {
     moments: Moments,
     at: usize,

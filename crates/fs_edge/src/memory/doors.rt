@@ -10,7 +10,7 @@ use std::alloc::AllocError;
 use std::marker::Model;
 
 /// Doors in memory that have no link to hand out: each call fails.
-#[derive(Drop, Debug)]
+#[derive(Drop)]
 pub struct MemoryDoors {
     faults: u64,
 }

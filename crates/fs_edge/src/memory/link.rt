@@ -14,7 +14,7 @@ use std::mem;
 
 /// What a link in memory will hear, in order. After the last it is closed. `Failed` has no place here: a link fails
 /// by its paces.
-#[derive(Drop, Debug)]
+#[derive(Drop)]
 pub struct Hearings {
     items: Vec<Heard>,
 }
@@ -39,7 +39,7 @@ impl Hearings {
 }
 
 /// A link in memory. It tells what it will hear, what was sent over it, and the paces of its next calls.
-#[derive(Drop, Debug)]
+#[derive(Drop)]
 pub struct MemoryLink {
     alloc: Global,
     hearings: Vec<Heard>,

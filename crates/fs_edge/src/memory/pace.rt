@@ -27,7 +27,7 @@ pub enum Pace {
 /// | third | `Free` | `cde` | `[]` | none |
 ///
 /// A fourth read tells the end.
-#[derive(Drop, Debug)]
+#[derive(Drop)]
 pub struct Paces {
     items: Vec<Pace>,
 }

@@ -14,7 +14,7 @@ use std::marker::Model;
 
 /// A sink in memory. It tells what it took, and the paces of its next writes. A write that may take no byte of a
 /// piece fails, and so does one that finds no memory.
-#[derive(Drop, Debug)]
+#[derive(Drop)]
 pub struct MemorySink {
     taken: Bytes,
     paces: Paces,

@@ -11,7 +11,7 @@ use fs_path::Bytes;
 use std::marker::Model;
 
 /// A source of bytes in memory. It tells what it has left, and the paces of its next reads.
-#[derive(Drop, Debug)]
+#[derive(Drop)]
 pub struct MemorySource {
     bytes: Bytes,
     // how many bytes were taken
