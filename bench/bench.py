@@ -13,7 +13,7 @@ reads    a thousand documents of one integer are committed, and then each line r
 old      a thousand documents are committed twenty times each, and then each line reads one as of an earlier time
 
 Then requests over a collection of 10,000 documents of ten fields: a filter that 10 of them meet, an order by one field with
-limit 50, and a read of 100 names. Each is timed as what 20 of them add to a run that makes the documents, beside a plain
+limit 50, and a read of 100 names. Each is timed as what hundreds of them add to a run that makes the documents, beside a plain
 Python loop over as many dicts, with the requests parsed and the replies printed by `json`.
 
 Then the memory of a document is measured: what a run that commits five times so many documents takes at its peak, the bytes
@@ -185,7 +185,6 @@ def measure(name, requests):
 
 
 MANY = 10000
-TIMES = 20
 
 
 def many_documents(rand):
@@ -247,10 +246,12 @@ def measure_requests(seed):
     made = list(many_documents(random.Random(seed)))
     documents = {w["update"]["name"]: w["update"] for request in made for w in request["commit"]["writes"]}
     before = best_of(script_of(made), RUNS)[0]
-    for name, request in (("a filter that ten meet", rare), ("an order with limit 50", ordered), ("a read of 100 names", hundred)):
+    # (So many of each that they take about a second: the making of the documents takes a quarter of one, and varies.)
+    for name, request, times in (
+            ("a filter that ten meet", rare, 200), ("an order with limit 50", ordered, 100), ("a read of 100 names", hundred, 1000)):
         rand = random.Random(seed)
-        asked = [request(rand) for _ in range(TIMES)]
-        taken = (best_of(script_of(made + asked), RUNS)[0] - before) / TIMES
+        asked = [request(rand) for _ in range(times)]
+        taken = (best_of(script_of(made + asked), RUNS)[0] - before) / times
         plain = min(plain_seconds(documents, [json.dumps(one) for one in asked]) for _ in range(RUNS))
         looked_at = 100 if request is hundred else MANY
         print("%s: %.2f ms, %.0f ns a document; Python %.2f ms, %.0f ns" % (
