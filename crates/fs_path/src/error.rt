@@ -5,39 +5,30 @@ ghost use Rattle.fs_path.specs.Refusal.{rule_of};
 
 use crate::place::Rule;
 use std::alloc::{AllocError, AllocFailed};
-use thiserror::Error;
 
-/// Why a text is no name or path. Of several reasons the first in this order is told.
-#[derive(Clone, Copy, Debug, PartialEq, Eq, Error)]
+/// Why a text is no name or path. Of several reasons the first in this order is told. What a person is told of it is the rule
+/// and the place, in the message of a refusal.
+#[derive(Clone, Copy, Debug, PartialEq, Eq)]
 pub enum PathError {
     /// It doesn't begin as `projects/{project}/databases/{database}/documents`.
-    #[error("not a name of a project's database")]
     BadPrefix,
     /// It names another project or database than the server's.
-    #[error("another project or database")]
     WrongDatabase,
     /// Its path hasn't the number of segments that is wanted here.
-    #[error("wrong number of segments")]
     Parity,
     /// A segment is empty.
-    #[error("empty segment")]
     Empty,
     /// A segment matches `__.*__`.
-    #[error("reserved segment")]
     Reserved,
     /// A segment is `.` or `..`.
-    #[error("segment of dots")]
     Dots,
     /// The length in bytes of the first segment above 1,500, else that of the text above 6,144.
-    #[error("{0} bytes are too long")]
     TooLong(u64),
     /// The number of segments, above 200.
-    #[error("{0} segments are too many")]
     TooDeep(u64),
     /// A text is no field path: the length in bytes of its longest beginning that a field path may begin with.
-    #[error("no field path from byte {0} on")]
     BadQuote(u64),
-    #[error("out of memory")]
+    /// There was no memory left.
     Memory(AllocError),
 }
 

@@ -8,7 +8,7 @@ use crate::segment::is_reserved;
 use crate::stage::{is_name_byte, is_name_start};
 
 /// Whether a field name needs no backquotes in a field path: letters, digits and underscores, no digit first.
-pub fn is_simple_name(name: &str) -> bool
+pub(crate) fn is_simple_name(name: &str) -> bool
     ensures { result ≡ is_simple name.now }
 {
     match name.as_bytes() {

@@ -26,7 +26,7 @@ mod way;
 pub use database::check_database;
 pub use error::PathError;
 pub use field::{FieldPath, parse_field};
-pub use field_name::{is_bad_field_name, is_simple_name};
+pub use field_name::is_bad_field_name;
 pub use field_print::print_field;
 pub use ids::{Ids, Texts};
 pub use name::{DocName, Root};

@@ -12,7 +12,7 @@ use std::hash::{Hash, Hasher};
 use std::marker::Model;
 
 /// The root of a server's documents: its project and its database.
-#[derive(PartialEq, Eq, PartialOrd, Ord, Drop, Debug)]
+#[derive(PartialEq, Eq, Drop, Debug)]
 pub struct Root {
     pub project: Text,
     pub database: Text,

@@ -1,11 +1,8 @@
--- One more element, or one more field: its depth, its size and the order of its keys join those before it.
-use Rattle.std.proofs.Common.{◌≡◌, ℕ, ◌+◌, ◌<◌, List, [], ◌∷◌, ◌++◌, map, take, length, get_or, refl, sym, ap, ◌∙◌, subst, arith}
-use Rattle.std.specs.Prelude.{IsTrue, max, min}
-use Rattle.std.specs.Cmp.{first_so, second_so}
-use Rattle.std.specs.Cmp.Derive.{both_true}
+-- One more element, or one more field: its depth and its size join those before it.
+use Rattle.std.proofs.Common.{◌≡◌, ℕ, ◌+◌, ◌<◌, List, [], ◌∷◌, ◌++◌, map, take, length, get_or, refl, sym, ap, ◌∙◌, arith}
+use Rattle.std.specs.Prelude.{max, min}
 use Rattle.std.proofs.lemmas.List.{map_more}
 use Rattle.fs_value.specs.Data.{Data, items_of, members_of, depth, items_depth, members_depth}
-use Rattle.fs_value.specs.Ordered.{is_ordered, items_ordered, members_ordered}
 use Rattle.fs_value.specs.Size.{text_size, value_size, items_size, members_size}
 use Rattle.fs_value.specs.View.{view, field_view}
 use Rattle.fs_value.specs.declared.value.Value.{Value}
@@ -37,17 +34,6 @@ members_size-push : (fs : List (List ℕ × Data)) (f : List ℕ × Data) → me
 members_size-push [] f = omega arith
 members_size-push (e ∷ fs) f = omega (arith, members_size-push fs f)
 
--- ---- the order of keys
-
-items_ordered-push : (ds : List Data) (d : Data) → IsTrue (items_ordered (items_of ds)) → IsTrue (is_ordered d) → IsTrue (items_ordered (items_of (ds ++ d ∷ [])))
-items_ordered-push [] d h g = both_true g refl
-items_ordered-push (e ∷ ds) d h g = both_true (first_so _ (items_ordered (items_of ds)) h) (items_ordered-push ds d (second_so (is_ordered e) _ h) g)
-
-members_ordered-push : (fs : List (List ℕ × Data)) (f : List ℕ × Data) → IsTrue (members_ordered (members_of fs)) → IsTrue (is_ordered f.1) → IsTrue (members_ordered (members_of (fs ++ f ∷ [])))
-members_ordered-push [] f h g = both_true g refl
-members_ordered-push (e ∷ fs) f h g =
-    both_true (first_so _ (members_ordered (members_of fs)) h) (members_ordered-push fs f (second_so (is_ordered e.1) _ h) g)
-
 -- ---- one more step of a loop over a slice, from what it had and what the call of the element gave
 
 module _ (vs : List Value) (i : ℕ) (v : Value) (within : i < length vs) (is : v ≡ get_or vs i v) where
@@ -63,8 +49,6 @@ module _ (vs : List Value) (i : ℕ) (v : Value) (within : i < length vs) (is : 
       let now = ap (λ ds. items_size (items_of ds)) (one_item vs i v within is) ∙ items_size-push (map view (take i vs)) (view v) in
       omega (arith, now)
 
-  pub items_ordered_more : IsTrue (items_ordered (items_of (map view (take i vs)))) → IsTrue (is_ordered (view v)) → IsTrue (items_ordered (items_of (map view (take (i + 1) vs))))
-  items_ordered_more h g = subst (λ ds. IsTrue (items_ordered (items_of ds))) (sym (one_item vs i v within is)) (items_ordered-push (map view (take i vs)) (view v) h g)
 
 module _ (fs : List Field) (i : ℕ) (f : Field) (within : i < length fs) (is : f ≡ get_or fs i f) where
   pub members_depth_more : (before one told : ℕ) → before ≡ min (members_depth (members_of (map field_view (take i fs)))) 4294967295 → one ≡ min (depth (view f.value)) 4294967295 → told ≡ max one before
@@ -78,6 +62,3 @@ module _ (fs : List Field) (i : ℕ) (f : Field) (within : i < length fs) (is : 
   members_size_more before key keyed one told h j k l m =
       let now = ap (λ ds. members_size (members_of ds)) (one_field fs i f within is) ∙ members_size-push (map field_view (take i fs)) (field_view f) in
       omega (arith, now)
-
-  pub members_ordered_more : IsTrue (members_ordered (members_of (map field_view (take i fs)))) → IsTrue (is_ordered (view f.value)) → IsTrue (members_ordered (members_of (map field_view (take (i + 1) fs))))
-  members_ordered_more h g = subst (λ ds. IsTrue (members_ordered (members_of ds))) (sym (one_field fs i f within is)) (members_ordered-push (map field_view (take i fs)) (field_view f) h g)

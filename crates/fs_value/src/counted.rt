@@ -1,11 +1,13 @@
 //! The counted size of a document, by which its limit and its price go.
 ghost use Rattle.std.specs.Prelude.{◌≡◌, ◌-◌, ◌^◌, min};
 ghost use Rattle.fs_value.specs.Data.{items_of, members_of};
+ghost use Rattle.fs_value.specs.Limits.{largest_document};
 ghost use Rattle.fs_value.specs.Size.{text_size as text_size_of, name_size as name_size_of, value_size as value_size_of, items_size as items_size_of, members_size, named_size as named_size_of, document_size};
 ghost use Rattle.fs_value.specs.View.{view};
 
 use crate::document::Document;
 use crate::fields::Fields;
+use crate::limits::LARGEST_DOCUMENT;
 use crate::value::Value;
 use crate::values::Values;
 use fs_path::{DocName, Text};
@@ -26,7 +28,8 @@ const NUMBER_SIZE: u128 = 8;
 /// The counted size of a document, in bytes: of its name, its fields, and 32. A size that no `u128` holds is told as the
 /// greatest. (Cloud Firestore documentation, "Calculate storage size".)
 pub fn size(d: &Document) -> u128
-    ensures { result ≡ min (document_size d.now) (2 ^ 128 - 1) }
+    ensures value { result ≡ min (document_size d.now) (2 ^ 128 - 1) }
+    ensures limit { LARGEST_DOCUMENT ≡ largest_document }
 {
     named_size(&d.name, d.fields.as_fields())
 }

@@ -1,9 +1,11 @@
 //! How deep arrays and maps nest in a value.
 ghost use Rattle.std.specs.Prelude.{◌≡◌, ◌-◌, ◌^◌, min};
 ghost use Rattle.fs_value.specs.Data.{items_of, members_of, depth as depth_of, items_depth as items_depth_of, members_depth};
+ghost use Rattle.fs_value.specs.Limits.{deepest_value};
 ghost use Rattle.fs_value.specs.View.{view};
 
 use crate::fields::Fields;
+use crate::limits::DEEPEST_VALUE;
 use crate::value::Value;
 use crate::values::Values;
 
@@ -11,7 +13,8 @@ use crate::values::Values;
 /// told as the greatest.
 #[cycle(depth)]
 pub fn depth(v: &Value) -> u32
-    ensures { result ≡ min (depth_of (view v.now)) (2 ^ 32 - 1) }
+    ensures value { result ≡ min (depth_of (view v.now)) (2 ^ 32 - 1) }
+    ensures limit { DEEPEST_VALUE ≡ deepest_value }
 {
     match v {
         Value::Array(values) => items_depth(values).saturating_add(1),

@@ -186,9 +186,16 @@ fn push_places(rt: &impl Abort, alloc: Global, told: &mut String, text: &str) {
     push_place(rt, alloc, told, &third.member(member), "");
 }
 
-fn push_form(rt: &impl Abort, told: &mut String, name: &str) {
-    let is_simple = is_simple_name(name);
-    push(rt, told, if is_simple { "simple" } else { "quoted" });
+// The field path of one name, as it is printed.
+fn printed(rt: &impl Abort, alloc: Global, name: &str) -> Text {
+    let mut parts = Ids::new(alloc);
+    parts.push(text(rt, alloc, name)).expect(rt, "memory");
+    print_field(alloc, &FieldPath { parts }).expect(rt, "memory")
+}
+
+fn push_form(rt: &impl Abort, alloc: Global, told: &mut String, name: &str) {
+    let is_quoted = printed(rt, alloc, name).as_str().starts_with('`');
+    push(rt, told, if is_quoted { "quoted" } else { "simple" });
     push(rt, told, if is_bad_field_name(name) { " bad" } else { "" });
 }
 
@@ -260,7 +267,7 @@ pub(crate) fn tell(rt: &impl Abort, alloc: Global, asked: &str, told: &mut Strin
         }
         "shard" => write!(told, "{}", shard(rt, alloc, text)).expect(rt, "memory"),
         "way" => push_places(rt, alloc, told, text),
-        "name" => push_form(rt, told, long(rt, alloc, text).as_str()),
+        "name" => push_form(rt, alloc, told, long(rt, alloc, text).as_str()),
         "names" => push_names(rt, alloc, told, text),
         _ => push_paths(rt, alloc, told, text),
     }
