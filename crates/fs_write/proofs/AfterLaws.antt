@@ -10,7 +10,7 @@ use Rattle.fs_value.specs.Data.{Data}
 use Rattle.fs_value.specs.declared.document.Document.{Document}
 use Rattle.fs_write.specs.After.{left_of, documents_left, left_after, after_batch}
 use Rattle.fs_write.specs.Batch.{Docs, with_document, after_write, all_writes, batch, is_unchanged, document_after, IsOutcome}
-use Rattle.fs_write.specs.OneWrite.{Fault, one_write, same_fields, unless, unmet, unfit, carried_out, fields_left, document_left}
+use Rattle.fs_write.specs.OneWrite.{Fault, one_write, same_fields, unless, overlong, unmet, unfit, written, carried_out, fields_left, document_left}
 use Rattle.fs_write.specs.Refused.{reason_of}
 use Rattle.fs_write.specs.Transforms.{transformed, transform_results}
 use Rattle.fs_write.specs.WrittenName.{act_name, written_name, is_written}
@@ -22,7 +22,7 @@ use Rattle.fs_status.specs.Refusal.{refusal_of}
 use Rattle.fs_write.proofs.BatchLaws.{all_appended, untouched, law_back, law_differs}
 use Rattle.fs_write.proofs.Fields.{same_are, same_itself}
 use Rattle.fs_write.proofs.Stages.{name_at, name_itself, get-with_document, all_refused}
-use Rattle.fs_write.proofs.WriteLaws.{law_set, law_deleted}
+use Rattle.fs_write.proofs.WriteLaws.{unless_done, law_set, law_deleted}
 
 module _ (before after : Docs) (q : DocName) where
   left_next : (n : DocName) (b c : Bool) (rest : Option Document) → is_at (name_cmp n) q ≡ b → rest ≡ cond c (left_of (get before q) (get after q)) (get after q)
@@ -140,18 +140,18 @@ leaves_one : Result (Option Document × WriteResult) Fault → Bool
 leaves_one (Ok done) = is_some done.0
 leaves_one (Err fault) = true
 
-never_none : (u v : Option Fault) (d : Document) (a r : WriteResult) → unless {A = Option Document × WriteResult} u (unless {A = Option Document × WriteResult} v (Ok (Some d, a))) ≡ Ok (None, r) → ⊥
+never_none : (u : Option Fault) (d : Document) (a r : WriteResult) → unless {A = Option Document × WriteResult} u (Ok (Some d, a)) ≡ Ok (None, r) → ⊥
 unfolding leaves_one
-never_none (Some f) v d a r is = true≢false (ap leaves_one is)
-never_none None (Some f) d a r is = true≢false (ap leaves_one is)
-never_none None None d a r is = true≢false (ap leaves_one is)
+never_none (Some f) d a r is = true≢false (ap leaves_one is)
+never_none None d a r is = true≢false (ap leaves_one is)
 
 -- an update leaves a document
 set_leaves : (there : Option Document) (w : Write) (t : ℤ) (r : WriteResult) (name : DocName) (fs : List (List ℕ × Data)) → one_write there w t ≡ Ok (None, r) → w.act ≡ Set name fs → ⊥
 set_leaves there w t r name fs is act =
     let d = document_left there (written_name w) (transformed w.transforms t fs) t in
-    never_none (unmet w.condition there) (unfit d) d (record { updated = Some d.updated; transforms = transform_results w.transforms t fs }) r
-    (ap (λ a. unless (unmet w.condition there) (carried_out (fields_left a there) there w t)) (sym act) ∙ is)
+    let rs = transform_results w.transforms t fs in
+    let done = unless_done (unmet w.condition there) (unless (overlong w.transforms) (written d rs)) (None, r) (ap (λ a. unless (unmet w.condition there) (carried_out (fields_left a there) there w t)) (sym act) ∙ is) in
+    never_none (unfit d) d (record { updated = Some d.updated; transforms = rs }) r (unless_done (overlong w.transforms) (written d rs) (None, r) done)
 
 set_left : (left there : Option Document) (w : Write) (t : ℤ) (r : WriteResult) (name : DocName) (fs : List (List ℕ × Data)) (before : Option Document)
     → one_write there w t ≡ Ok (left, r) → w.act ≡ Set name fs → w.transforms ≡ [] → option_map (λ (x : Document). x.fields) (left_of before left) ≡ Some fs

@@ -11,7 +11,7 @@ use Rattle.fs_value.specs.FieldPaths.{get_fields, set_fields, unset_fields, IsAp
 use Rattle.fs_value.specs.Limits.{deepest_value, largest_document}
 use Rattle.fs_value.specs.Size.{document_size}
 use Rattle.fs_value.specs.declared.document.Document.{Document}
-use Rattle.fs_write.specs.OneWrite.{Fault, deep, large, same_fields, merged, with_field, fields_left, document_left, told_size, unfit, unless, carried_out, unmet, one_write}
+use Rattle.fs_write.specs.OneWrite.{Fault, deep, large, same_fields, merged, with_field, fields_left, document_left, told_size, unfit, unless, overlong, written, carried_out, unmet, one_write}
 use Rattle.fs_write.specs.Rules.{overlap, some_overlap}
 use Rattle.fs_write.specs.Transforms.{transformed, transform_results}
 use Rattle.fs_write.specs.WrittenName.{written_name}
@@ -28,6 +28,11 @@ document_in (Err fault) = None
 answer_in : WriteResult → Result (Option Document × WriteResult) Fault → WriteResult
 answer_in r (Ok p) = p.1
 answer_in r (Err fault) = r
+
+-- what is done had no fault in front
+pub unless_done : {A : Type 0} (u : Option Fault) (rest : Result A Fault) (x : A) → unless u rest ≡ Ok x → rest ≡ Ok x
+unless_done (Some fault) rest x is = absurd (cc)
+unless_done None rest x is = is
 
 -- how a document was left
 pub record IsLeft (before : Option Document) (w : Write) (t : ℤ) (d : Document) (r : WriteResult) : Type 0 where
@@ -58,7 +63,8 @@ module _ (before : Option Document) (w : Write) (t : ℤ) (d : Document) (r : Wr
   left_so None None left is = let none : None ≡ Some d = ap document_in is in absurd (cc)
   left_so None (Some fields) left is =
       let x = document_left before (written_name w) (transformed w.transforms t fields) t in
-      left_here fields x (transform_results w.transforms t fields) (unfit x) left refl refl is
+      let rs = transform_results w.transforms t fields in
+      left_here fields x rs (unfit x) left refl refl (unless_done (overlong w.transforms) (written x rs) (Some d, r) is)
 
   pub left_by : one_write before w t ≡ Ok (Some d, r) → IsLeft before w t d r
   left_by is = left_so (unmet w.condition before) (fields_left w.act before) refl is

@@ -1,7 +1,6 @@
 -- The limits of writes.
 use Rattle.std.specs.Prelude.{ℕ}
 
--- the most names that a transform's path may have. A value there would nest deeper than the JSON of any request may, and so
--- deeper than a document may
+-- the most names that a transform's path may have. A value there nests far deeper than a document may
 abbrev pub longest_transform_path : ℕ
 longest_transform_path = 127

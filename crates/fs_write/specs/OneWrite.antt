@@ -6,7 +6,8 @@
 --     {n: 1}, updated at 5     delete at 9                        none                     its result has no time
 --     none                     update that wants a document       the fault `missing`
 -- (v1 reference, "Write", "Precondition", "WriteResult"; Cloud Firestore documentation, "Usage and limits".)
-use Rattle.std.specs.Prelude.{ℕ, ◌-◌, ◌^◌, min, Bool, true, false, ℤ, List, [], ◌∷◌, Option, Some, None, Result, Ok, Err, nat_lt, if◌then◌else◌}
+use Rattle.std.specs.Prelude.{ℕ, ◌-◌, ◌^◌, min, Bool, true, false, ℤ, List, [], ◌∷◌, length, Option, Some, None, Result, Ok, Err, nat_lt, if◌then◌else◌}
+use Rattle.std.specs.List.{list_any}
 use Rattle.std.specs.Ordering.{is_eq, int_cmp}
 use Rattle.fs_path.specs.declared.field.FieldPath.{FieldPath}
 use Rattle.fs_path.specs.declared.name.DocName.{DocName}
@@ -16,8 +17,10 @@ use Rattle.fs_value.specs.Limits.{deepest_value, largest_document}
 use Rattle.fs_value.specs.Size.{document_size}
 use Rattle.fs_value.specs.ValueOrder.{members_cmp}
 use Rattle.fs_value.specs.declared.document.Document.{Document}
+use Rattle.fs_write.specs.Limits.{longest_transform_path}
 use Rattle.fs_write.specs.Transforms.{transformed, transform_results}
 use Rattle.fs_write.specs.WrittenName.{written_name}
+use Rattle.fs_write.specs.declared.transform.Transform.{Transform}
 use Rattle.fs_write.specs.declared.write.Act.{Act}
 use Rattle.fs_write.specs.declared.write.Act.TheVariants.{Set, Merge, Delete}
 use Rattle.fs_write.specs.declared.write.Precondition.{Precondition}
@@ -66,6 +69,16 @@ fields_left (Set name fields) before = Some fields
 fields_left (Merge name fields mask) before = Some (merged mask fields (fields_there before))
 fields_left (Delete name) before = None
 
+-- ---- the transforms
+
+-- what it sets would nest deeper than a document may
+abbrev pub has_long_path : Transform → Bool
+has_long_path t = nat_lt longest_transform_path (length t.path.parts)
+
+-- such a write is refused, also where a later transform would take away again what the path leads to
+abbrev pub overlong : List Transform → Option Fault
+overlong ts = if list_any has_long_path ts then Some deep else None
+
 -- ---- the document that is left
 
 abbrev pub same_fields : List (List ℕ × Data) → List (List ℕ × Data) → Bool
@@ -101,7 +114,7 @@ written d results = unless (unfit d) (Ok (Some d, record { updated = Some d.upda
 abbrev pub carried_out : Option (List (List ℕ × Data)) → Option Document → Write → ℤ → Result (Option Document × WriteResult) Fault
 carried_out None before write time = Ok (None, record { updated = None; transforms = [] })
 carried_out (Some fields) before write time =
-    written (document_left before (written_name write) (transformed write.transforms time fields) time) (transform_results write.transforms time fields)
+    unless (overlong write.transforms) (written (document_left before (written_name write) (transformed write.transforms time fields) time) (transform_results write.transforms time fields))
 
 abbrev pub one_write : Option Document → Write → ℤ → Result (Option Document × WriteResult) Fault
 one_write before write time = unless (unmet write.condition before) (carried_out (fields_left write.act before) before write time)

@@ -2,8 +2,7 @@
 --   2  where two paths of its mask are equal, or one begins the other: `a.b` beside `a`;
 --   3  where it is a delete with transforms;
 --   5  where the name of a field is bad, in its fields, its mask, its transforms' paths or their operands;
---   6  where a value nests deeper than `deepest_value`, that of a field or an element of an array transform, or where the
---      path of a transform has more names than `longest_transform_path`;
+--   6  where a value nests deeper than `deepest_value`, that of a field or an element of an array transform;
 --   7  where an array directly holds an array, as one of an array transform's elements would be held.
 -- (Whether it is a write at all, and whether the operand of a number's transform is a number, is seen as it is read.)
 use Rattle.std.specs.Prelude.{ℕ, Bool, true, false, ◌||◌, ◌&&◌, List, [], ◌∷◌, length, Option, Some, None, nat_lt, if◌then◌else◌}
@@ -13,7 +12,6 @@ use Rattle.fs_path.specs.TextOrder.{text_eq}
 use Rattle.fs_path.specs.declared.field.FieldPath.{FieldPath}
 use Rattle.fs_value.specs.Data.{Data, items_of, members_of, items_depth, members_depth}
 use Rattle.fs_value.specs.Limits.{deepest_value}
-use Rattle.fs_write.specs.Limits.{longest_transform_path}
 use Rattle.fs_write.specs.ValueRules.{items_have_bad_name, members_have_bad_name, items_have_arrays, members_have_array_in_array}
 use Rattle.fs_write.specs.declared.transform.Operation.{Operation}
 use Rattle.fs_write.specs.declared.transform.Operation.TheVariants.{AppendMissing, RemoveAll}
@@ -72,9 +70,9 @@ transform_has_bad_name t = path_has_bad_name t.path || items_have_bad_name (item
 abbrev pub write_has_bad_name : Write → Bool
 write_has_bad_name w = members_have_bad_name (members_of (input w.act)) || (list_any path_has_bad_name (masked w.act) || list_any transform_has_bad_name w.transforms)
 
--- an element of an array transform has its own depth, and what stands at a path nests as deep as the path has names
+-- an element of an array transform has its own depth. How deep it stands is seen as the write is carried out
 abbrev pub is_deep_transform : Transform → Bool
-is_deep_transform t = nat_lt longest_transform_path (length t.path.parts) || nat_lt deepest_value (items_depth (items_of (operand t.operation)))
+is_deep_transform t = nat_lt deepest_value (items_depth (items_of (operand t.operation)))
 
 abbrev pub is_deep_write : Write → Bool
 is_deep_write w = nat_lt deepest_value (members_depth (members_of (input w.act))) || list_any is_deep_transform w.transforms

@@ -1,5 +1,5 @@
 //! The transforms of a write, made in their order.
-ghost use Rattle.std.specs.Prelude.{◌≡◌, IfOk, OnOk};
+ghost use Rattle.std.specs.Prelude.{◌≡◌, IfOk};
 ghost use Rattle.fs_value.specs.FieldPaths.{set_fields};
 ghost use Rattle.fs_value.specs.View.{view};
 ghost use Rattle.fs_write.specs.Operation.{reported};
@@ -12,29 +12,27 @@ use fs_path::FieldPath;
 use fs_time::Micros;
 use fs_value::{Fields, Value, Values};
 use std::alloc::{AllocError, Global};
-use std::mem::replace;
 
-/// Makes transforms of fields in their order, at the time of the commit, and gives their results: the new value of a number
-/// or a time, and null for an array. It refuses only for want of memory, and then no fields are left.
-/// (v1 reference, "Write": `updateTransforms`; "WriteResult": `transformResults`.)
-pub fn apply_transforms(
+/// Makes transforms of fields in their order, at the time of the commit: the fields afterwards, and the results, which are the
+/// new value of a number or a time, and null for an array. (v1 reference, "Write": `updateTransforms`; "WriteResult":
+/// `transformResults`.)
+pub(crate) fn apply_transforms(
     alloc: Global,
-    fields: &mut Fields,
+    fields: Fields,
     transforms: &Transforms,
     time: Micros,
-) -> Result<Values, AllocError>
-    ensures fields { OnOk result (fields.new ≡ transformed transforms.now time fields.old) }
-    ensures results { IfOk result (λ rs. rs ≡ transform_results transforms.now time fields.old) }
+) -> Result<(Fields, Values), AllocError>
+    ensures fields { IfOk result (λ r. r.0 ≡ transformed transforms.now time fields) }
+    ensures results { IfOk result (λ r. r.1 ≡ transform_results transforms.now time fields) }
 {
-    let mut opened = OpenFields::open(alloc, replace(fields, Fields::new(alloc)))?;
+    let mut opened = OpenFields::open(alloc, fields)?;
     let mut results = Values::with_capacity(alloc, transforms.len())?;
     for transform in transforms.as_slice() {
         let (after, result) = apply(alloc, opened, transform, time)?;
         opened = after;
         results.push(result)?;
     }
-    *fields = opened.close(alloc)?;
-    Ok(results)
+    Ok((opened.close(alloc)?, results))
 }
 
 // Makes one transform, and gives its result.

@@ -17,11 +17,9 @@ mod write;
 mod write_laws;
 mod write_result;
 
-pub use apply::apply_transforms;
 pub use batch::apply_batch;
 pub use change::{Change, Changes};
 pub use laws::operations_are_lawful;
-pub use limits::LONGEST_TRANSFORM_PATH;
 pub use overlap::overlap_with;
 pub use rules::{check, check_with};
 pub use timed_change::{TimedChange, TimedChanges};

@@ -1,14 +1,16 @@
 //! One write, on the document of its name.
 ghost use Rattle.std.specs.Prelude.{◌≡◌, ◌≢◌, IfOk, IfErr, Ok, Some, option_map};
+ghost use Rattle.std.specs.List.{list_any};
 ghost use Rattle.fs_status.specs.Refusal.{refusal_of};
 ghost use Rattle.fs_status.specs.declared.reason.Reason.TheVariants.{Memory};
 ghost use Rattle.fs_value.specs.FieldPaths.{get_fields};
-ghost use Rattle.fs_write.specs.OneWrite.{unmet, with_field, merged, fields_there, fields_left, same_fields, document_left, unfit, written, carried_out, one_write};
+ghost use Rattle.fs_write.specs.OneWrite.{has_long_path, unmet, with_field, merged, fields_there, fields_left, same_fields, document_left, unfit, written, carried_out, one_write};
 ghost use Rattle.fs_write.specs.Refused.{reason_of, refused};
 ghost use Rattle.fs_write.specs.Transforms.{transformed, transform_results};
 
 use crate::apply::apply_transforms;
-use crate::transform::Transforms;
+use crate::limits::LONGEST_TRANSFORM_PATH;
+use crate::transform::{Transform, Transforms};
 use crate::value_rules::are_fields_deep;
 use crate::write::{Act, Precondition, Write};
 use crate::write_result::WriteResult;
@@ -91,6 +93,15 @@ fn fields_left(
     }
 }
 
+// Whether a transform's path has more names than any may have.
+fn some_long_path(transforms: &[Transform]) -> bool
+    ensures { result ≡ list_any has_long_path transforms.now }
+{
+    transforms
+        .iter()
+        .any(|t| t.path.parts.len() > LONGEST_TRANSFORM_PATH)
+}
+
 // The fields after the transforms, and the transforms' results.
 fn transform(
     alloc: Global,
@@ -105,8 +116,8 @@ fn transform(
     if transforms.is_empty() {
         return Ok((fields, Values::new(alloc)));
     }
-    let mut fields = fields.into_fields(alloc)?;
-    let results = apply_transforms(alloc, &mut fields, transforms, time)?;
+    let fields = fields.into_fields(alloc)?;
+    let (fields, results) = apply_transforms(alloc, fields, transforms, time)?;
     Ok((SharedFields::of(alloc, fields)?, results))
 }
 
@@ -191,9 +202,36 @@ fn carried_out(
     ensures ok { IfOk result (λ r. carried_out (Some fields) there write.now time ≡ Ok r) }
     ensures err { IfErr result (λ e. e ≢ refusal_of Memory → refused number (carried_out (Some fields) there write.now time) ≡ Some e) }
 {
+    if some_long_path(write.transforms.as_slice()) {
+        return Err(Refusal::of(Reason::DeepAfter(number)));
+    }
     let (fields, transforms) = transform(alloc, fields, &write.transforms, time)?;
     let document = document_left(alloc, there, write.name(), fields, time)?;
     written(document, transforms, number)
+}
+
+// The same, by the act that leaves fields, or none.
+fn acted(
+    alloc: Global,
+    there: Option<Document>,
+    write: &Write,
+    number: u32,
+    time: Micros,
+) -> Result<(Option<Document>, WriteResult), Refusal>
+    ensures ok { IfOk result (λ r. carried_out (fields_left write.now.act there) there write.now time ≡ Ok r) }
+    ensures err { IfErr result (λ e. e ≢ refusal_of Memory
+        → refused number (carried_out (fields_left write.now.act there) there write.now time) ≡ Some e) }
+{
+    match fields_left(alloc, &write.act, &there)? {
+        Some(fields) => carried_out(alloc, there, fields, write, number, time),
+        None => Ok((
+            None,
+            WriteResult {
+                updated: None,
+                transforms: Values::new(alloc),
+            },
+        )),
+    }
 }
 
 /// Carries out the write of this number in its commit, on the document that is there or none. It answers the document
@@ -211,14 +249,5 @@ pub(crate) fn carry_out(
     if let Some(reason) = unmet(&write.condition, &there, number) {
         return Err(Refusal::of(reason));
     }
-    match fields_left(alloc, &write.act, &there)? {
-        Some(fields) => carried_out(alloc, there, fields, write, number, time),
-        None => Ok((
-            None,
-            WriteResult {
-                updated: None,
-                transforms: Values::new(alloc),
-            },
-        )),
-    }
+    acted(alloc, there, write, number, time)
 }

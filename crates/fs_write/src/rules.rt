@@ -3,7 +3,6 @@ ghost use Rattle.std.specs.Prelude.{◌≡◌, [], IfOk, option_map, unwrap_or};
 ghost use Rattle.std.specs.List.{list_any};
 ghost use Rattle.fs_write.specs.Rules.{input, masked, is_delete, operand, some_overlap, path_has_bad_name, transform_has_bad_name, write_has_bad_name, is_deep_transform, is_deep_write, transform_has_arrays, write_has_array_in_array, rule_of_write};
 
-use crate::limits::LONGEST_TRANSFORM_PATH;
 use crate::overlap::{some_overlap, some_overlap_with};
 use crate::transform::{Operation, Transform};
 use crate::value_rules::{
@@ -19,9 +18,8 @@ use std::alloc::{AllocError, Global};
 /// `check_with` doesn't.
 ///
 /// 2: two paths of the mask are equal, or one begins the other. 3: a delete with transforms. 5: a field has a name that no
-/// document may have. 6: a value nests deeper than `DEEPEST_VALUE`, or a transform's path has more names than
-/// `LONGEST_TRANSFORM_PATH`. 7: an array directly holds an array. (Cloud Firestore documentation, "Usage and limits"; v1
-/// reference, "Write" and "DocumentMask".)
+/// document may have. 6: a value nests deeper than `DEEPEST_VALUE`. 7: an array directly holds an array. (Cloud Firestore
+/// documentation, "Usage and limits"; v1 reference, "Write" and "DocumentMask".)
 pub fn check(write: &Write) -> Option<u8>
     ensures { result ≡ rule_of_write write.now }
 {
@@ -136,8 +134,7 @@ fn has_bad_name(write: &Write) -> bool
 fn is_deep_transform(transform: &Transform) -> bool
     ensures { result ≡ is_deep_transform transform.now }
 {
-    transform.path.parts.len() > LONGEST_TRANSFORM_PATH
-        || operand(&transform.operation).is_some_and(|values| are_items_deep(values))
+    operand(&transform.operation).is_some_and(|values| are_items_deep(values))
 }
 
 fn are_transforms_deep(transforms: &[Transform]) -> bool

@@ -140,16 +140,17 @@ fn are_results(rt: &impl Abort, alloc: Global, results: &WriteResults, text: &st
     row_of(rt, alloc, results.as_slice()).as_str().trim() == text
 }
 
-// What a commit on these documents comes to at its time.
-fn commit(
+/// What a commit on these documents comes to at a time.
+pub(crate) fn commit(
     rt: &impl Abort,
     alloc: Global,
     map: DocumentMap,
     writes: Writes,
+    time: i64,
 ) -> Result<(Changes, WriteResults), Refusal> {
     assert!(rt; writes.len() <= 500);
     let documents = map.documents(alloc).expect(rt, "memory");
-    apply_batch(alloc, &documents, &writes, micros(rt, TIME))
+    apply_batch(alloc, &documents, &writes, micros(rt, time))
 }
 
 fn is_refusal(rt: &impl Abort, alloc: Global, refusal: &Refusal, text: &str) -> bool {
@@ -182,7 +183,7 @@ impl Says for Committed {
         let (texts, rest) = cell(rest);
         let (changes, results) = cell(rest);
         let before = documents(rt, alloc, before);
-        let outcome = commit(rt, alloc, before, writes(rt, alloc, texts));
+        let outcome = commit(rt, alloc, before, writes(rt, alloc, texts), TIME);
         let is_so = comes_to(rt, alloc, &outcome, changes, cell(results).0);
         drop(outcome);
         is_so
@@ -191,7 +192,7 @@ impl Says for Committed {
 
 #[test]
 fn commits(rt: HostRuntime) {
-    holds(&rt, rt.alloc(), &mut Committed, COMMITS, 81);
+    holds(&rt, rt.alloc(), &mut Committed, COMMITS, 85);
 }
 
 // ---- the size of a document
@@ -229,7 +230,7 @@ fn is_told(
 // Whether a document of this size is refused with a message, or taken where that is empty.
 fn is_sized(rt: &impl Abort, alloc: Global, bytes: usize, told: &str) -> bool {
     let writes = write_of_size(rt, alloc, bytes);
-    let outcome = commit(rt, alloc, DocumentMap::new(alloc), writes);
+    let outcome = commit(rt, alloc, DocumentMap::new(alloc), writes, TIME);
     let is_told = is_told(rt, alloc, &outcome, told);
     drop(outcome);
     is_told

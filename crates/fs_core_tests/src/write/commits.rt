@@ -72,6 +72,11 @@ none | a,,set,v: ^20 | a - > v: ^20 | 9
 none | a,,set,v: ^21 | write 0: E6 | none
 a v: ^20 | a,,merge w.v,w: { v: ^20 } | write 0: E6 | none
 none | a,,set,,l append ^20 | write 0: E6 | none
+none | a,,set,,a.a.a.a.a.a.a.a.a.a.a.a.a.a.a.a.a.a.a.a.a increment 1 | write 0: E6 | none
+// What is left counts: here a later transform takes away what nests too deep, but a path of more than 127 names never passes.
+none | a,,set,,a.a.a.a.a.a.a.a.a.a.a.a.a.a.a.a.a.a.a.a.a.a.a.a.a.a.a.a.a.a.a.a.a.a.a.a.a.a.a.a.a.a.a.a.a.a.a.a.a.a.a.a.a.a.a.a.a.a.a.a.a.a.a.a.a.a.a.a.a.a.a.a.a.a.a.a.a.a.a.a.a.a.a.a.a.a.a.a.a.a.a.a.a.a.a.a.a.a.a.a.a.a.a.a.a.a.a.a.a.a.a.a.a.a.a.a.a.a.a.a.a.a.a.a.a.a.a time; a append 1 | a - > a: [ 1 ] | 9
+none | a,,set,,a.a.a.a.a.a.a.a.a.a.a.a.a.a.a.a.a.a.a.a.a.a.a.a.a.a.a.a.a.a.a.a.a.a.a.a.a.a.a.a.a.a.a.a.a.a.a.a.a.a.a.a.a.a.a.a.a.a.a.a.a.a.a.a.a.a.a.a.a.a.a.a.a.a.a.a.a.a.a.a.a.a.a.a.a.a.a.a.a.a.a.a.a.a.a.a.a.a.a.a.a.a.a.a.a.a.a.a.a.a.a.a.a.a.a.a.a.a.a.a.a.a.a.a.a.a.a.a time; a append 1 | write 0: E6 | none
+a n: 1 | a,,delete,,a.a.a.a.a.a.a.a.a.a.a.a.a.a.a.a.a.a.a.a.a.a.a.a.a.a.a.a.a.a.a.a.a.a.a.a.a.a.a.a.a.a.a.a.a.a.a.a.a.a.a.a.a.a.a.a.a.a.a.a.a.a.a.a.a.a.a.a.a.a.a.a.a.a.a.a.a.a.a.a.a.a.a.a.a.a.a.a.a.a.a.a.a.a.a.a.a.a.a.a.a.a.a.a.a.a.a.a.a.a.a.a.a.a.a.a.a.a.a.a.a.a.a.a.a.a.a.a time | a n: 1 > - | -
 none | a,exists,set,v: ^21 | write 0: document missing | none
 // several writes
 a n: 1 | none | none | none
