@@ -1,7 +1,7 @@
 #!/usr/bin/env python3
 """Times the built program over workloads, beside parsing and printing the same bytes as plain JSON.
 
-usage: bench/bench.py [lines [seed]], with FSEMU for another program than the one that ./fsemu builds
+usage: bench/bench.py [lines [seed]], with FSEMU for another program than the one that ./fsemu runs
 
 What the script ./fsemu takes before it starts the program is told by itself.
 
@@ -19,7 +19,8 @@ Python loop over as many dicts, with the requests parsed and the replies printed
 Then the memory of a document is measured: what a run that commits five times so many documents takes at its peak, the bytes
 of the script and those of a run without lines apart, for each; and what fifty times so many commits to 1,000 names take,
 without compactions and with one at every 10,000. At last lines of 10 MB are carried out: how long each takes, and what the
-run takes more at its peak than one without lines, by the line's bytes.
+run takes more at its peak than one without lines, by the line's bytes. And requests of many filters, orders, cursor values, selected
+paths and names are carried out at a quarter, half and all of 10 MB, whose times should go with their bytes.
 """
 import json
 import os
@@ -31,7 +32,8 @@ import time
 
 TOP = os.path.dirname(os.path.dirname(os.path.abspath(__file__)))
 SCRIPT = os.path.join(TOP, "fsemu")
-FSEMU = os.environ.get("FSEMU", os.path.join(TOP, "crates", "fsemu", "out", "fsemu"))
+BUILT = os.path.join(TOP, "crates", "fsemu", "out", "fsemu")
+FSEMU = os.environ.get("FSEMU", BUILT if os.path.exists(BUILT) else os.path.join(TOP, "release", "fsemu"))
 ROOT = "projects/demo/databases/(default)"
 DOCUMENTS = ROOT + "/documents"
 RUNS = 5
@@ -324,6 +326,45 @@ def measure_line(name, request):
         name, len(script) / 1e6, seconds, (peak - less) * 1024 / len(script), written[:40].decode()))
 
 
+def fields_of(count, rand):
+    """The names of so many fields, in no order."""
+    names = ["f%07d" % i for i in range(count)]
+    rand.shuffle(names)
+    return names
+
+
+def many_filters(count, rand):
+    return run_query(where={"compositeFilter": {"op": "AND", "filters": [
+        {"unaryFilter": {"op": "IS_NOT_NULL", "field": {"fieldPath": name}}} for name in fields_of(count, rand)]}})
+
+
+def many_orders(count, rand):
+    return run_query(orderBy=[{"field": {"fieldPath": name}} for name in fields_of(count, rand)])
+
+
+def many_cursor_values(count, rand):
+    return run_query(orderBy=[{"field": {"fieldPath": name}} for name in fields_of(count, rand)],
+                     startAt={"values": [{"integerValue": str(rand.randrange(100))} for _ in range(count)]})
+
+
+def many_selected(count, rand):
+    return run_query(select={"fields": [{"fieldPath": name} for name in fields_of(count, rand)]})
+
+
+def many_names(count, rand):
+    return {"batchGetDocuments": {"database": ROOT, "documents": [DOCUMENTS + "/c/" + name for name in fields_of(count, rand)]}}
+
+
+def measure_growth(name, make, count):
+    """The time of requests of a quarter, half and all of so many, beside a document that has one of the fields."""
+    there = commit(DOCUMENTS + "/c/a", {"f0000000": {"integerValue": "1"}})
+    told = []
+    for part in (4, 2, 1):
+        script = script_of([there, make(count // part, random.Random(part))])
+        told.append("%.1f MB %.2f s" % (len(script) / 1e6, best_of(script, 3)[0]))
+    print("%d %s: %s" % (count, name, ", ".join(told)))
+
+
 def main():
     lines = int(sys.argv[1]) if len(sys.argv) > 1 else 20000
     seed = int(sys.argv[2]) if len(sys.argv) > 2 else 1
@@ -339,6 +380,10 @@ def main():
     measure_history(50 * lines, seed)
     for name, request in (("documents", large_documents), ("small values", small_values), ("mask", long_mask), ("appends", many_appends)):
         measure_line(name, request(random.Random(seed)))
+    for name, make, count in (
+            ("filters", many_filters, 137000), ("orders", many_orders, 265000), ("cursor values", many_cursor_values, 157000),
+            ("selected paths", many_selected, 400000), ("names", many_names, 155000)):
+        measure_growth(name, make, count)
 
 
 main()
