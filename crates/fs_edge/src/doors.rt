@@ -1,6 +1,6 @@
 //! Where links come from: ports that are listened on and dialled.
 ghost use Rattle.std.specs.Prelude.{◌≡◌, ◌≢◌, ◌≤◌, ℕ};
-ghost use Rattle.fs_edge.specs.Count.{Rose};
+ghost use Rattle.fs_edge.specs.Count.{one_more};
 
 use crate::link::{Link, Sent};
 use std::alloc::AllocError;
@@ -22,18 +22,18 @@ pub trait Doors {
     /// Listens on a port of this machine. It comes once, before the first `accept`.
     fn listen(&mut self, port: u16) -> Result<Sent, AllocError>
         ensures faults { faults self.old ≤ faults self.new }
-        ensures failed { result ≡ Ok Sent.Failed → Rose (faults self.old) (faults self.new) }
+        ensures failed { result ≡ Ok Sent.Failed → faults self.new ≡ one_more (faults self.old) }
         ensures no_fault { result ≢ Ok Sent.Failed → faults self.new ≡ faults self.old };
 
     /// Waits for the next connection to the port.
     fn accept(&mut self) -> Result<Door<Self::L>, AllocError>
         ensures faults { faults self.old ≤ faults self.new }
-        ensures failed { result ≡ Ok Door.Failed → Rose (faults self.old) (faults self.new) }
+        ensures failed { result ≡ Ok Door.Failed → faults self.new ≡ one_more (faults self.old) }
         ensures no_fault { result ≢ Ok Door.Failed → faults self.new ≡ faults self.old };
 
     /// Connects to a port of this machine.
     fn dial(&mut self, port: u16) -> Result<Door<Self::L>, AllocError>
         ensures faults { faults self.old ≤ faults self.new }
-        ensures failed { result ≡ Ok Door.Failed → Rose (faults self.old) (faults self.new) }
+        ensures failed { result ≡ Ok Door.Failed → faults self.new ≡ one_more (faults self.old) }
         ensures no_fault { result ≢ Ok Door.Failed → faults self.new ≡ faults self.old };
 }

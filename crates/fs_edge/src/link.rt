@@ -1,6 +1,6 @@
 //! Connections: whole messages of text that are heard and sent.
 ghost use Rattle.std.specs.Prelude.{◌≡◌, ◌≢◌, ◌≤◌, ℕ, List, Option, IfOk, OnErr};
-ghost use Rattle.fs_edge.specs.Count.{Rose};
+ghost use Rattle.fs_edge.specs.Count.{one_more};
 
 use fs_path::Text;
 use std::alloc::AllocError;
@@ -44,7 +44,7 @@ pub trait Link {
         ensures hears_err { OnErr result (to_hear self.new ≡ to_hear self.old) }
         ensures sent { sent self.new ≡ sent self.old }
         ensures faults { faults self.old ≤ faults self.new }
-        ensures failed { result ≡ Ok Heard.Failed → Rose (faults self.old) (faults self.new) }
+        ensures failed { result ≡ Ok Heard.Failed → faults self.new ≡ one_more (faults self.old) }
         ensures no_fault { result ≢ Ok Heard.Failed → faults self.new ≡ faults self.old };
 
     /// Sends a message whole, or fails.
@@ -53,6 +53,6 @@ pub trait Link {
         ensures sends_err { OnErr result (sent self.new ≡ sent self.old) }
         ensures to_hear { to_hear self.new ≡ to_hear self.old }
         ensures faults { faults self.old ≤ faults self.new }
-        ensures failed { result ≡ Ok Sent.Failed → Rose (faults self.old) (faults self.new) }
+        ensures failed { result ≡ Ok Sent.Failed → faults self.new ≡ one_more (faults self.old) }
         ensures no_fault { result ≢ Ok Sent.Failed → faults self.new ≡ faults self.old };
 }

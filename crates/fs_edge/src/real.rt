@@ -1,6 +1,6 @@
 //! A source over one of std's readers and a sink over one of its writers, such as standard input and output.
 ghost use Rattle.std.specs.Prelude.{◌≡◌, ◌≢◌, ◌≤◌, None};
-ghost use Rattle.fs_edge.specs.Count.{Rose};
+ghost use Rattle.fs_edge.specs.Count.{one_more};
 ghost use Rattle.fs_edge.specs.Real.{reader_of, read_faults_of, ends_of, TakesFromReader, writer_of, write_faults_of, GivesToWriter};
 ghost use Rattle.fs_edge.specs.Sink.{WriteAdds, Takes};
 ghost use Rattle.fs_edge.specs.Source.{ReadGives, Fills};
@@ -45,10 +45,10 @@ impl<R: Read> Source for RealSource<R> {
         ensures reads { ReadGives result into.new None None }
         ensures fills { Fills result into.old }
         ensures faults { read_faults_of self.old ≤ read_faults_of self.new }
-        ensures failed { result ≡ Took.Failed → Rose (read_faults_of self.old) (read_faults_of self.new) }
+        ensures failed { result ≡ Took.Failed → read_faults_of self.new ≡ one_more (read_faults_of self.old) }
         ensures no_fault { result ≢ Took.Failed → read_faults_of self.new ≡ read_faults_of self.old }
         ensures ends { ends_of self.old ≤ ends_of self.new }
-        ensures ended { result ≡ Took.End → Rose (ends_of self.old) (ends_of self.new) }
+        ensures ended { result ≡ Took.End → ends_of self.new ≡ one_more (ends_of self.old) }
         ensures no_end { result ≢ Took.End → ends_of self.new ≡ ends_of self.old }
 
         // What it gives comes from the reader, and it tells the end only where the reader is at its end.
@@ -98,7 +98,7 @@ impl<W: Write> Sink for RealSink<W> {
         ensures writes { WriteAdds result from.now None None }
         ensures takes { Takes result from.now }
         ensures faults { write_faults_of self.old ≤ write_faults_of self.new }
-        ensures failed { result ≡ Gave.Failed → Rose (write_faults_of self.old) (write_faults_of self.new) }
+        ensures failed { result ≡ Gave.Failed → write_faults_of self.new ≡ one_more (write_faults_of self.old) }
         ensures no_fault { result ≢ Gave.Failed → write_faults_of self.new ≡ write_faults_of self.old }
 
         // The writer holds besides exactly what the sink says that it took.

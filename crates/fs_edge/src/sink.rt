@@ -1,6 +1,6 @@
 //! Where bytes go: a write takes the front of a piece, or fails.
 ghost use Rattle.std.specs.Prelude.{◌≡◌, ◌≢◌, ◌≤◌, ℕ, List, Option};
-ghost use Rattle.fs_edge.specs.Count.{Rose};
+ghost use Rattle.fs_edge.specs.Count.{one_more};
 ghost use Rattle.fs_edge.specs.Sink.{WriteAdds, Takes};
 
 /// What a write gave.
@@ -27,6 +27,6 @@ pub trait Sink {
 
         // A fault is counted exactly at a failure.
         ensures faults { faults self.old ≤ faults self.new }
-        ensures failed { result ≡ Gave.Failed → Rose (faults self.old) (faults self.new) }
+        ensures failed { result ≡ Gave.Failed → faults self.new ≡ one_more (faults self.old) }
         ensures no_fault { result ≢ Gave.Failed → faults self.new ≡ faults self.old };
 }

@@ -1,6 +1,6 @@
 //! Where bytes come from: a read gives some, tells the end, or fails.
 ghost use Rattle.std.specs.Prelude.{◌≡◌, ◌≢◌, ◌≤◌, ℕ, List, Option};
-ghost use Rattle.fs_edge.specs.Count.{Rose};
+ghost use Rattle.fs_edge.specs.Count.{one_more};
 ghost use Rattle.fs_edge.specs.Source.{ReadGives, Fills};
 
 /// What a read gave.
@@ -32,9 +32,9 @@ pub trait Source {
 
         // A fault is counted exactly at a failure, and an end where it is told.
         ensures faults { faults self.old ≤ faults self.new }
-        ensures failed { result ≡ Took.Failed → Rose (faults self.old) (faults self.new) }
+        ensures failed { result ≡ Took.Failed → faults self.new ≡ one_more (faults self.old) }
         ensures no_fault { result ≢ Took.Failed → faults self.new ≡ faults self.old }
         ensures ends { ends self.old ≤ ends self.new }
-        ensures ended { result ≡ Took.End → Rose (ends self.old) (ends self.new) }
+        ensures ended { result ≡ Took.End → ends self.new ≡ one_more (ends self.old) }
         ensures no_end { result ≢ Took.End → ends self.new ≡ ends self.old };
 }

@@ -1,6 +1,6 @@
 //! Doors in memory, without links.
 ghost use Rattle.std.specs.Prelude.{◌≡◌, ◌≢◌, ◌≤◌, Ok};
-ghost use Rattle.fs_edge.specs.Count.{Rose};
+ghost use Rattle.fs_edge.specs.Count.{one_more};
 
 use crate::count::count;
 use crate::doors::{Door, Doors};
@@ -38,7 +38,7 @@ impl Doors for MemoryDoors {
 
     fn listen(&mut self, _port: u16) -> Result<Sent, AllocError>
         ensures faults { self.old ≤ self.new }
-        ensures failed { result ≡ Ok Sent.Failed → Rose self.old self.new }
+        ensures failed { result ≡ Ok Sent.Failed → self.new ≡ one_more self.old }
         ensures no_fault { result ≢ Ok Sent.Failed → self.new ≡ self.old }
         ensures fails { result ≡ Ok Sent.Failed }
     {
@@ -48,7 +48,7 @@ impl Doors for MemoryDoors {
 
     fn accept(&mut self) -> Result<Door<MemoryLink>, AllocError>
         ensures faults { self.old ≤ self.new }
-        ensures failed { result ≡ Ok Door.Failed → Rose self.old self.new }
+        ensures failed { result ≡ Ok Door.Failed → self.new ≡ one_more self.old }
         ensures no_fault { result ≢ Ok Door.Failed → self.new ≡ self.old }
         ensures fails { result ≡ Ok Door.Failed }
     {
@@ -58,7 +58,7 @@ impl Doors for MemoryDoors {
 
     fn dial(&mut self, _port: u16) -> Result<Door<MemoryLink>, AllocError>
         ensures faults { self.old ≤ self.new }
-        ensures failed { result ≡ Ok Door.Failed → Rose self.old self.new }
+        ensures failed { result ≡ Ok Door.Failed → self.new ≡ one_more self.old }
         ensures no_fault { result ≢ Ok Door.Failed → self.new ≡ self.old }
         ensures fails { result ≡ Ok Door.Failed }
     {

@@ -1,6 +1,6 @@
 //! A link in memory: messages to hear, and those that were sent.
 ghost use Rattle.std.specs.Prelude.{◌≡◌, ◌≢◌, ◌≤◌, ◌↔◌, [], List, drop, Some, IsTrue, IsOk, IfOk, OnErr, length};
-ghost use Rattle.fs_edge.specs.Count.{Rose};
+ghost use Rattle.fs_edge.specs.Count.{one_more};
 ghost use Rattle.fs_edge.specs.Link.{hearings_of, none_fails, Hears, Sends};
 ghost use Rattle.fs_edge.specs.Paces.{next_pace};
 
@@ -123,7 +123,7 @@ impl Link for MemoryLink {
         ensures hears_err { OnErr result (Some self.new.to_hear ≡ Some self.old.to_hear) }
         ensures sent { Some self.new.sent ≡ Some self.old.sent }
         ensures faults { self.old.faults ≤ self.new.faults }
-        ensures failed { result ≡ Ok Heard.Failed → Rose self.old.faults self.new.faults }
+        ensures failed { result ≡ Ok Heard.Failed → self.new.faults ≡ one_more self.old.faults }
         ensures no_fault { result ≢ Ok Heard.Failed → self.new.faults ≡ self.old.faults }
 
         // One pace is used up, and the call fails exactly where it says so. It wants no memory.
@@ -143,7 +143,7 @@ impl Link for MemoryLink {
         ensures sends_err { OnErr result (Some self.new.sent ≡ Some self.old.sent) }
         ensures to_hear { Some self.new.to_hear ≡ Some self.old.to_hear }
         ensures faults { self.old.faults ≤ self.new.faults }
-        ensures failed { result ≡ Ok Sent.Failed → Rose self.old.faults self.new.faults }
+        ensures failed { result ≡ Ok Sent.Failed → self.new.faults ≡ one_more self.old.faults }
         ensures no_fault { result ≢ Ok Sent.Failed → self.new.faults ≡ self.old.faults }
 
         // One pace is used up, and the call fails exactly where it says so.

@@ -1,6 +1,6 @@
 //! A sink of bytes in memory.
 ghost use Rattle.std.specs.Prelude.{◌≡◌, ◌≢◌, ◌≤◌, [], drop, length, Some};
-ghost use Rattle.fs_edge.specs.Count.{Rose};
+ghost use Rattle.fs_edge.specs.Count.{one_more};
 ghost use Rattle.fs_edge.specs.Paces.{next_pace, IsPacedWrite};
 ghost use Rattle.fs_edge.specs.Sink.{WriteAdds, Takes};
 
@@ -62,7 +62,7 @@ impl Sink for MemorySink {
         ensures writes { WriteAdds result from.now (Some self.old.given) (Some self.new.given) }
         ensures takes { Takes result from.now }
         ensures faults { self.old.faults ≤ self.new.faults }
-        ensures failed { result ≡ Gave.Failed → Rose self.old.faults self.new.faults }
+        ensures failed { result ≡ Gave.Failed → self.new.faults ≡ one_more self.old.faults }
         ensures no_fault { result ≢ Gave.Failed → self.new.faults ≡ self.old.faults }
 
         // One pace is used up, and the write goes by it.

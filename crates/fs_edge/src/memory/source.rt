@@ -1,6 +1,6 @@
 //! A source of bytes in memory.
 ghost use Rattle.std.specs.Prelude.{◌≡◌, ◌≢◌, ◌≤◌, ◌+◌, ◌++◌, drop, take, length, IsTrue, Some};
-ghost use Rattle.fs_edge.specs.Count.{Rose};
+ghost use Rattle.fs_edge.specs.Count.{one_more};
 ghost use Rattle.fs_edge.specs.Paces.{all_let_through, moved_of, next_pace, paced_read};
 ghost use Rattle.fs_edge.specs.Source.{ReadGives, Fills};
 
@@ -84,10 +84,10 @@ impl Source for MemorySource {
         ensures reads { ReadGives result into.new (Some self.old.left) (Some self.new.left) }
         ensures fills { Fills result into.old }
         ensures faults { self.old.faults ≤ self.new.faults }
-        ensures failed { result ≡ Took.Failed → Rose self.old.faults self.new.faults }
+        ensures failed { result ≡ Took.Failed → self.new.faults ≡ one_more self.old.faults }
         ensures no_fault { result ≢ Took.Failed → self.new.faults ≡ self.old.faults }
         ensures ends { self.old.ends ≤ self.new.ends }
-        ensures ended { result ≡ Took.End → Rose self.old.ends self.new.ends }
+        ensures ended { result ≡ Took.End → self.new.ends ≡ one_more self.old.ends }
         ensures no_end { result ≢ Took.End → self.new.ends ≡ self.old.ends }
 
         // One pace is used up, and the read goes by it.
