@@ -1,4 +1,5 @@
 //! What transactions read.
+use crate::version::copy_document;
 use fs_path::DocName;
 use fs_query::Query;
 use fs_value::{Document, Documents};
@@ -21,6 +22,26 @@ pub enum Read {
     },
 }
 
+impl Read {
+    ghost use Rattle.std.specs.Prelude.{◌≡◌, IfOk};
+
+    /// A copy, whose documents share their fields with those of this one.
+    pub fn copy(&self, alloc: Global) -> Result<Read, AllocError>
+        ensures { IfOk result (λ r. r ≡ self.now) }
+    {
+        Ok(match self {
+            Read::Name { name, shown } => Read::Name {
+                name: name.copy(alloc)?,
+                shown: copy_document(alloc, shown)?,
+            },
+            Read::Query { query, shown } => Read::Query {
+                shown: shown.copy(alloc)?,
+                query: query.copy(alloc)?,
+            },
+        })
+    }
+}
+
 /// The reads of a transaction, in their order. Contracts see them as a list.
 #[derive(Drop, Debug)]
 pub struct Reads {
@@ -41,7 +62,7 @@ impl Model for Reads {
 }
 
 impl Reads {
-    ghost use Rattle.std.specs.Prelude.{◌≡◌, ◌↔◌, ◌<◌, ◌∷◌, ◌++◌, OnOk, OnErr, IsTrue, Some, [], length, slice_get};
+    ghost use Rattle.std.specs.Prelude.{◌≡◌, ◌↔◌, ◌<◌, ◌∷◌, ◌++◌, IfOk, OnOk, OnErr, IsTrue, Some, [], length, slice_get};
 
     /// No reads. The allocator serves those that are pushed.
     pub fn new(alloc: Global) -> Reads
@@ -97,5 +118,16 @@ impl Reads {
         ensures err { OnErr result (self.new ≡ self.old) }
     {
         Ok(self.items.push(read)?)
+    }
+
+    /// A copy.
+    pub fn copy(&self, alloc: Global) -> Result<Reads, AllocError>
+        ensures { IfOk result (λ l. l ≡ self.now) }
+    {
+        let mut items = Vec::with_capacity(alloc, self.items.len())?;
+        for read in &self.items {
+            items.push(read.copy(alloc)?)?;
+        }
+        Ok(Reads { items })
     }
 }

@@ -1,6 +1,9 @@
 //! Versions of documents.
+ghost use Rattle.std.specs.Prelude.{◌≡◌, IfOk};
+
 use fs_time::Micros;
 use fs_value::Document;
+use std::alloc::{AllocError, Global};
 
 /// What a batch left of a document that it changed: the document, or none where it was deleted.
 #[derive(Drop, Debug)]
@@ -8,4 +11,31 @@ pub struct Version {
     /// The time of the batch.
     pub time: Micros,
     pub after: Option<Document>,
+}
+
+/// A copy of a document that is there.
+pub(crate) fn copy_document(
+    alloc: Global,
+    document: &Option<Document>,
+) -> Result<Option<Document>, AllocError>
+    ensures { IfOk result (λ d. d ≡ document.now) }
+{
+    match document {
+        Some(there) => Ok(Some(there.copy(alloc)?)),
+        None => Ok(None),
+    }
+}
+
+impl Version {
+    ghost use Rattle.std.specs.Prelude.{◌≡◌, IfOk};
+
+    /// A copy, whose document shares its fields with this one's.
+    pub fn copy(&self, alloc: Global) -> Result<Version, AllocError>
+        ensures { IfOk result (λ v. v ≡ self.now) }
+    {
+        Ok(Version {
+            time: self.time,
+            after: copy_document(alloc, &self.after)?,
+        })
+    }
 }

@@ -61,6 +61,17 @@ impl Chain {
         &self.versions[i]
     }
 
+    /// A copy, whose documents share their fields with those of this one.
+    pub fn copy(&self, alloc: Global) -> Result<Chain, AllocError>
+        ensures { IfOk result (λ c. c ≡ self.now) }
+    {
+        let mut versions = Vec::with_capacity(alloc, self.versions.len())?;
+        for version in &self.versions {
+            versions.push(version.copy(alloc)?)?;
+        }
+        Ok(Chain { versions })
+    }
+
     // The chain of no version, which nobody sees.
     pub(crate) fn new(alloc: Global) -> Chain
         ensures { result ≡ [] }
