@@ -2,4 +2,5 @@ pub mod Again
 pub mod Chosen
 pub mod Lists
 pub mod Rising
+pub mod Pushed
 pub mod Written

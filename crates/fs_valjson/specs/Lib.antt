@@ -5,3 +5,5 @@ pub mod Writing
 pub mod Valid
 pub mod FloatLaws
 pub mod ChoiceLaws
+pub mod Tokens
+pub mod TokenLaws

@@ -22,3 +22,8 @@ the_content names d place = only_at names d place >>= λ _. at_most_one_at names
 abbrev pub with_fields_put : json.Members → json.Members → json.Members
 with_fields_put json.no_members others = others
 with_fields_put (json.member k d ms) others = json.put (codes "fields") (json.object (json.member k d ms)) others
+
+-- the member that holds the values of an array, which is left out where there are none
+abbrev pub values_member : json.Items → json.Members
+values_member json.no_items = json.no_members
+values_member (json.item d ds) = json.member (codes "values") (json.array (json.item d ds)) json.no_members
