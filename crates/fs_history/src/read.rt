@@ -1,8 +1,8 @@
 //! What transactions read.
-use crate::version::copy_document;
 use fs_path::DocName;
 use fs_query::Query;
 use fs_value::{Document, Documents};
+use fs_write::copy_document;
 use std::alloc::{AllocError, Global};
 use std::marker::Model;
 

@@ -1,8 +1,7 @@
 //! Versions of documents.
-ghost use Rattle.std.specs.Prelude.{◌≡◌, IfOk};
-
 use fs_time::Micros;
 use fs_value::Document;
+use fs_write::copy_document;
 use std::alloc::{AllocError, Global};
 
 /// What a batch left of a document that it changed: the document, or none where it was deleted.
@@ -11,19 +10,6 @@ pub struct Version {
     /// The time of the batch.
     pub time: Micros,
     pub after: Option<Document>,
-}
-
-/// A copy of a document that is there.
-pub(crate) fn copy_document(
-    alloc: Global,
-    document: &Option<Document>,
-) -> Result<Option<Document>, AllocError>
-    ensures { IfOk result (λ d. d ≡ document.now) }
-{
-    match document {
-        Some(there) => Ok(Some(there.copy(alloc)?)),
-        None => Ok(None),
-    }
 }
 
 impl Version {

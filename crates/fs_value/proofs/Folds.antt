@@ -49,7 +49,6 @@ module _ (vs : List Value) (i : ℕ) (v : Value) (within : i < length vs) (is : 
       let now = ap (λ ds. items_size (items_of ds)) (one_item vs i v within is) ∙ items_size-push (map view (take i vs)) (view v) in
       omega (arith, now)
 
-
 module _ (fs : List Field) (i : ℕ) (f : Field) (within : i < length fs) (is : f ≡ get_or fs i f) where
   pub members_depth_more : (before one told : ℕ) → before ≡ min (members_depth (members_of (map field_view (take i fs)))) 4294967295 → one ≡ min (depth (view f.value)) 4294967295 → told ≡ max one before
       → told ≡ min (members_depth (members_of (map field_view (take (i + 1) fs)))) 4294967295

@@ -14,8 +14,8 @@ pub struct Change {
     pub after: Option<Document>,
 }
 
-/// A copy of a document that is there.
-pub(crate) fn copy_document(
+/// A copy of the document that is there, if one is.
+pub fn copy_document(
     alloc: Global,
     document: &Option<Document>,
 ) -> Result<Option<Document>, AllocError>

@@ -18,7 +18,7 @@ mod write_laws;
 mod write_result;
 
 pub use batch::apply_batch;
-pub use change::{Change, Changes};
+pub use change::{Change, Changes, copy_document};
 pub use laws::operations_are_lawful;
 pub use overlap::overlap_with;
 pub use rules::{check, check_with};
