@@ -80,7 +80,7 @@ in_order_by : (x p : FieldPath) (ps : List FieldPath) → (p ≡ x) ⊎ Contains
 in_order_by x p ps (inl h) rest = inl h
 in_order_by x p ps (inr m) rest = inr (rest m)
 
-to_order : (x : FieldPath) (ps : List FieldPath) → Contains ps x → Contains (in_order ps) x
+pub to_order : (x : FieldPath) (ps : List FieldPath) → Contains ps x → Contains (in_order ps) x
 to_order x [] m = m
 to_order x (p ∷ ps) m = put_member x p (in_order ps) (in_order_by x p ps (member_cases x p ps m) (to_order x ps))
 
@@ -88,7 +88,7 @@ from_order_by : (x p : FieldPath) (ps : List FieldPath) → (p ≡ x) ⊎ Contai
 from_order_by x p ps (inl h) rest = here_too x p ps h
 from_order_by x p ps (inr m) rest = there x p ps (rest m)
 
-from_order : (x : FieldPath) (ps : List FieldPath) → Contains (in_order ps) x → Contains ps x
+pub from_order : (x : FieldPath) (ps : List FieldPath) → Contains (in_order ps) x → Contains ps x
 from_order x [] m = m
 from_order x (p ∷ ps) m = from_order_by x p ps (from_put x p (in_order ps) m) (from_order x ps)
 
@@ -101,7 +101,7 @@ to_kept_by t x p ps true e (inr m) k rest = there x p (filter t ps) (rest m)
 to_kept_by t x p ps false e (inl h) k rest = absurd (cc (ap t h))
 to_kept_by t x p ps false e (inr m) k rest = rest m
 
-to_kept : (t : FieldPath → Bool) (x : FieldPath) (ps : List FieldPath) → t x ≡ true → Contains ps x → Contains (filter t ps) x
+pub to_kept : (t : FieldPath → Bool) (x : FieldPath) (ps : List FieldPath) → t x ≡ true → Contains ps x → Contains (filter t ps) x
 to_kept t x [] k m = m
 to_kept t x (p ∷ ps) k m = to_kept_by t x p ps (t p) refl (member_cases x p ps m) k (to_kept t x ps k)
 
@@ -115,7 +115,7 @@ from_kept_by : (t : FieldPath → Bool) (x p : FieldPath) (ps : List FieldPath) 
 from_kept_by t x p ps true e m rest = kept_by t x p ps e (member_cases x p (filter t ps) m) rest
 from_kept_by t x p ps false e m rest = (there x p ps (rest m).0, (rest m).1)
 
-from_kept : (t : FieldPath → Bool) (x : FieldPath) (ps : List FieldPath) → Contains (filter t ps) x → Contains ps x × (t x ≡ true)
+pub from_kept : (t : FieldPath → Bool) (x : FieldPath) (ps : List FieldPath) → Contains (filter t ps) x → Contains ps x × (t x ≡ true)
 from_kept t x [] m = absurd (no_member x m)
 from_kept t x (p ∷ ps) m = from_kept_by t x p ps (t p) refl m (from_kept t x ps)
 

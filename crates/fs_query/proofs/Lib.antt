@@ -18,3 +18,5 @@ pub mod Counted
 pub mod JoiningPaths
 pub mod FittingDisjuncts
 pub mod JoiningMembers
+pub mod GivenPaths
+pub mod RuleParts

@@ -1,14 +1,11 @@
 -- The whole order of a query's documents, and how long it is.
 use Rattle.std.proofs.Common.{◌≡◌, suc, ◌+◌, ◌-◌, Bool, true, false, cond, List, [], ◌∷◌, ◌++◌, map, length, sym, ap, ◌∙◌, arith, append_assoc}
-use Rattle.std.specs.Prelude.{Option, Some, None, slice_get}
+use Rattle.std.specs.Prelude.{Some, slice_get}
 use Rattle.std.proofs.lemmas.List.{append-nil, length-append, length-map}
-use Rattle.fs_path.specs.declared.field.FieldPath.{FieldPath}
 use Rattle.fs_query.specs.Asked.{Asked}
 use Rattle.fs_query.specs.Field.{name_path}
-use Rattle.fs_query.specs.Joining.{least_of}
-use Rattle.fs_query.specs.Normal.{inequality_paths, is_ordered, joined, joining, last_descending, whole_order}
+use Rattle.fs_query.specs.Normal.{is_ordered, joined, joining, last_descending, whole_order}
 use Rattle.fs_query.specs.declared.order.Order.{Order}
-use Rattle.fs_query.proofs.JoiningPaths.{behind, joining_next, joining_end}
 
 -- ---- the last direction
 
@@ -19,21 +16,6 @@ pub last_is : (os : List Order) (o : Order) → slice_get os (length os - 1) ≡
 last_is [] o e = absurd (cc e)
 last_is (p ∷ []) o e = ap (λ (x : Order). x.descending) (let s : o ≡ p = cc e in s)
 last_is (p ∷ r ∷ os) o e = last_is (r ∷ os) o (sym (last_front p r os) ∙ e)
-
--- ---- one path behind the other
-
-pub one_more : (q : Asked) (done all : List Order) (after : Option FieldPath) (p : FieldPath) → Some p ≡ least_of q.orders after None (inequality_paths q.filter)
-    → done ++ map (joined q) (behind after (joining q)) ≡ all
-    → (done ++ joined q p ∷ []) ++ map (joined q) (behind (Some p) (joining q)) ≡ all
-one_more q done all after p e h =
-    append_assoc done (joined q p ∷ []) (map (joined q) (behind (Some p) (joining q)))
-    ∙ ap (λ ps. done ++ map (joined q) ps) (sym (joining_next q after p e))
-    ∙ h
-
-pub no_more_joins : (q : Asked) (done all : List Order) (after : Option FieldPath) → None ≡ least_of q.orders after None (inequality_paths q.filter)
-    → done ++ map (joined q) (behind after (joining q)) ≡ all → done ≡ all
-no_more_joins q done all after e h =
-    sym (append-nil done) ∙ ap (λ ps. done ++ map (joined q) ps) (sym (joining_end q after e)) ∙ h
 
 -- ---- with the name
 

@@ -21,6 +21,7 @@ pub mod Seen
 pub mod Inequalities
 pub mod Census
 pub mod Joining
+pub mod Given
 pub mod Peaks
 pub mod Place
 pub mod RuleSteps

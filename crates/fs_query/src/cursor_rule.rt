@@ -1,5 +1,5 @@
 //! Whether the cursors of a query go with its order.
-ghost use Rattle.std.specs.Prelude.{◌≡◌, ◌≤◌, ◌-◌, ◌^◌, ◌||◌, ◌&&◌, ◌==◌, false, not, length, map, min};
+ghost use Rattle.std.specs.Prelude.{◌≡◌, ◌≤◌, ◌-◌, ◌^◌, ◌||◌, ◌&&◌, ◌==◌, false, not, IfOk, is_some, length, map, min};
 ghost use Rattle.std.specs.List.{list_any, zip};
 ghost use Rattle.std.specs.Option.{option_map_or};
 ghost use Rattle.fs_value.specs.View.{view};
@@ -13,24 +13,50 @@ use crate::field::is_name;
 use crate::order::Order;
 use crate::query::Query;
 use crate::rules::is_reference;
-use crate::whole_order::{is_ordered_by_name, order_count};
+use crate::whole_order::{is_ordered_by_name, order_count, order_count_with};
 use fs_value::Value;
+use std::alloc::{AllocError, Global};
 
-/// Whether a cursor doesn't go with the whole order.
+/// Whether a cursor doesn't go with the whole order. It takes no memory, and walks the filter for each path that joins:
+/// `has_bad_cursor_with` doesn't.
 pub(crate) fn has_bad_cursor(q: &Query) -> bool
     ensures { result ≡ has_bad_cursor q.now }
 {
-    is_bad_cursor(q, &q.start) || is_bad_cursor(q, &q.end)
+    has_cursor(q) && some_is_bad(q, order_count(q))
 }
 
-fn is_bad_cursor(q: &Query, cursor: &Option<Cursor>) -> bool
+/// Whether a cursor doesn't go with the whole order, by sorted paths.
+pub(crate) fn has_bad_cursor_with(alloc: Global, q: &Query) -> Result<bool, AllocError>
+    ensures { IfOk result (λ b. b ≡ has_bad_cursor q.now) }
+{
+    if !has_cursor(q) {
+        return Ok(false);
+    }
+    Ok(some_is_bad(q, order_count_with(alloc, q)?))
+}
+
+fn has_cursor(q: &Query) -> bool
+    ensures { result ≡ (is_some q.now.start || is_some q.now.end) }
+{
+    q.start.is_some() || q.end.is_some()
+}
+
+// Whether a cursor doesn't go with the whole order, which has so many fields.
+fn some_is_bad(q: &Query, count: usize) -> bool
+    requires { count ≡ min (length (whole_order q.now)) (2 ^ 64 - 1) }
+    ensures { result ≡ has_bad_cursor q.now }
+{
+    is_bad_cursor(q, count, &q.start) || is_bad_cursor(q, count, &q.end)
+}
+
+fn is_bad_cursor(q: &Query, count: usize, cursor: &Option<Cursor>) -> bool
+    requires { count ≡ min (length (whole_order q.now)) (2 ^ 64 - 1) }
     ensures { result ≡ option_map_or (is_bad_cursor (whole_order q.now)) cursor.now false }
 {
     let Some(cursor) = cursor else {
         return false;
     };
     let values = cursor.values.as_slice();
-    let count = order_count(q);
     values.is_empty() || values.len() > count || misses_name(q, count, values)
 }
 

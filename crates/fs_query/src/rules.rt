@@ -1,19 +1,20 @@
 //! Whether a query is valid.
-ghost use Rattle.std.specs.Prelude.{◌≡◌, ◌||◌, ◌&&◌, false, nat_lt};
+ghost use Rattle.std.specs.Prelude.{◌≡◌, ◌||◌, ◌&&◌, false, IfOk, nat_lt};
 ghost use Rattle.std.specs.List.{list_any};
 ghost use Rattle.std.specs.Option.{option_map_or};
 ghost use Rattle.fs_path.specs.FieldName.{is_bad_name};
 ghost use Rattle.fs_value.specs.View.{view};
 ghost use Rattle.fs_query.specs.Census.{census_in};
-ghost use Rattle.fs_query.specs.RuleSteps.{rules_from_3, rules_from_6, rules_from_8, rules_from_11};
+ghost use Rattle.fs_query.specs.RuleSteps.{rules_to_10, rules_from_5, rules_from_6, rules_from_8, rules_from_11};
 ghost use Rattle.fs_query.specs.FilterParts.{parts};
 ghost use Rattle.fs_query.specs.FilterRules.{is_bad_path, is_reference};
-ghost use Rattle.fs_query.specs.Rules.{has_bad_collection, has_bad_path, has_negative_number, is_negative, some_twice, told, told_with, later_rule_of_query, rule_of_query};
+ghost use Rattle.fs_query.specs.Rules.{has_bad_collection, has_bad_path, has_bad_cursor, has_negative_number, has_order_twice, is_negative, some_twice, told, told_with, rule_of_query};
 
 use crate::census::{Census, census_of};
 use crate::count::disjunct_count;
-use crate::cursor_rule::has_bad_cursor;
+use crate::cursor_rule::{has_bad_cursor, has_bad_cursor_with};
 use crate::field::is_name;
+use crate::joining::some_twice_with;
 use crate::limits::MAX_DISJUNCTS;
 use crate::order::Order;
 use crate::peaks::{Peaks, peaks_of};
@@ -22,8 +23,10 @@ use crate::rule::QueryRule;
 use crate::whole_order::is_ordered;
 use fs_path::{FieldPath, Paths, Scope, Text, is_bad_field_name, is_bad_id};
 use fs_value::Value;
+use std::alloc::{AllocError, Global};
 
-/// The least rule of queries that a query breaks, or none. It takes no memory.
+/// The least rule of queries that a query breaks, or none. It takes no memory, but compares each order with each, and where
+/// there is a cursor walks the filter for each path that joins: `check_with` doesn't.
 ///
 /// 1: no id of a collection. 2: a bad field name. 3: IN, NOT_IN or ARRAY_CONTAINS_ANY without values. 4: NOT_IN with more
 /// than 10. 5: more than 30 disjuncts. 6: two ARRAY_CONTAINS in one. 7: ARRAY_CONTAINS_ANY beside another array operator.
@@ -31,16 +34,36 @@ use fs_value::Value;
 /// compared with what is no reference. 11: a cursor that doesn't go with the order. 12: an offset or limit below 0. 13: an
 /// order that is given twice. 14: an AND or OR of nothing. (Cloud Firestore documentation, "Query operators"; what excludes
 /// what at 6 to 9 is this project's own.)
+#[tactic(auto, using(crate::proofs::RuleParts::late_rule))]
 pub fn check(q: &Query) -> Option<QueryRule>
     ensures { result ≡ rule_of_query q.now }
 {
     let census = census_of(&q.filter);
-    if has_bad_collection(q) {
-        rule(1)
-    } else if has_bad_path(q, census) {
-        rule(2)
-    } else {
-        rule_from_3(q, census)
+    match rule_to_10(q, census) {
+        Some(rule) => Some(rule),
+        None => rule_from_11(
+            q,
+            census,
+            has_bad_cursor(q),
+            some_twice(q.orders.as_slice()),
+        ),
+    }
+}
+
+/// The least rule of queries that a query breaks, or none, as `check` tells it, in the time of a sort. The paths of the
+/// orders and of inequalities are sorted, for which it takes memory; it refuses only for want of it.
+#[tactic(auto, using(crate::proofs::RuleParts::late_rule))]
+pub fn check_with(alloc: Global, q: &Query) -> Result<Option<QueryRule>, AllocError>
+    ensures { IfOk result (λ r. r ≡ rule_of_query q.now) }
+{
+    let census = census_of(&q.filter);
+    match rule_to_10(q, census) {
+        Some(rule) => Ok(Some(rule)),
+        None => {
+            let bad_cursor = has_bad_cursor_with(alloc, q)?;
+            let twice = some_twice_with(alloc, q.orders.as_slice())?;
+            Ok(rule_from_11(q, census, bad_cursor, twice))
+        }
     }
 }
 
@@ -62,12 +85,16 @@ fn rule_with(number: u8, count: u64) -> Option<QueryRule>
     })
 }
 
-// The least of the rules from 3 on, and so on below.
-fn rule_from_3(q: &Query, census: Census) -> Option<QueryRule>
+// The least of the first ten rules that a query breaks.
+fn rule_to_10(q: &Query, census: Census) -> Option<QueryRule>
     requires { census ≡ census_in (parts q.now.filter) }
-    ensures { result ≡ rules_from_3 q.now }
+    ensures { result ≡ rules_to_10 q.now }
 {
-    if census.bad_list {
+    if has_bad_collection(q) {
+        rule(1)
+    } else if has_bad_path(q, census) {
+        rule(2)
+    } else if census.bad_list {
         rule(3)
     } else {
         match census.long_not_in {
@@ -77,9 +104,10 @@ fn rule_from_3(q: &Query, census: Census) -> Option<QueryRule>
     }
 }
 
+// The least of them from 5 on, and so on below.
 fn rule_from_5(q: &Query, census: Census) -> Option<QueryRule>
     requires { census ≡ census_in (parts q.now.filter) }
-    ensures { result ≡ later_rule_of_query q.now }
+    ensures { result ≡ rules_from_5 q.now }
 {
     let count = disjunct_count(&q.filter);
     if count > MAX_DISJUNCTS {
@@ -114,19 +142,22 @@ fn rule_from_8(q: &Query, census: Census) -> Option<QueryRule>
     } else if census.misused_name {
         rule(10)
     } else {
-        rule_from_11(q, census)
+        None
     }
 }
 
-fn rule_from_11(q: &Query, census: Census) -> Option<QueryRule>
-    requires { census ≡ census_in (parts q.now.filter) }
+// The least of the rules from 11 on, of a query of which a cursor is bad or not, and which has an order twice or not.
+fn rule_from_11(q: &Query, census: Census, bad_cursor: bool, twice: bool) -> Option<QueryRule>
+    requires parts { census ≡ census_in (parts q.now.filter) }
+    requires cursor { bad_cursor ≡ has_bad_cursor q.now }
+    requires twice { twice ≡ has_order_twice q.now }
     ensures { result ≡ rules_from_11 q.now }
 {
-    if has_bad_cursor(q) {
+    if bad_cursor {
         rule(11)
     } else if has_negative_number(q) {
         rule(12)
-    } else if some_twice(q.orders.as_slice()) {
+    } else if twice {
         rule(13)
     } else if census.without_filters {
         rule(14)
@@ -241,7 +272,7 @@ pub(crate) fn is_reference(v: &Value) -> bool
     }
 }
 
-// Whether two of the orders have one path.
+// Whether two of the orders have one path. It compares each with each.
 fn some_twice(orders: &[Order]) -> bool
     ensures { result ≡ some_twice orders.now }
 {

@@ -1,14 +1,16 @@
 //! The whole order of a query's documents.
-ghost use Rattle.std.specs.Prelude.{◌≡◌, ◌+◌, ◌-◌, ◌^◌, ◌++◌, IfOk, None, length, map, min};
+ghost use Rattle.std.specs.Prelude.{◌≡◌, ◌+◌, ◌-◌, ◌^◌, ◌++◌, IfOk, OnOk, None, length, map, min};
 ghost use Rattle.std.specs.Option.{option_copied};
 ghost use Rattle.fs_query.specs.Condition.{conditions_of};
 ghost use Rattle.fs_query.specs.Field.{name_path};
+ghost use Rattle.fs_query.specs.Given.{paths_at};
 ghost use Rattle.fs_query.specs.Joining.{is_above, nearer, least_of};
 ghost use Rattle.fs_query.specs.Normal.{inequality_paths, inequality_paths_of, is_ordered, joined, joining, last_descending, whole_order};
 ghost use Rattle.fs_query.specs.View.{view};
 
 use crate::field::{is_name, name_path};
 use crate::filter::{Filter, Filters};
+use crate::joining::joining;
 use crate::op::is_inequality;
 use crate::order::{Order, Orders};
 use crate::query::Query;
@@ -29,17 +31,28 @@ pub(crate) fn whole_order(alloc: Global, q: &Query) -> Result<Orders, AllocError
     Ok(orders)
 }
 
-#[tactic(auto, using(crate::proofs::JoiningPaths::joining_all))]
 fn given_and_joining(alloc: Global, q: &Query) -> Result<Orders, AllocError>
     ensures { IfOk result (λ os. os ≡ q.now.orders ++ map (joined q.now) (joining q.now)) }
 {
+    let paths = joining(alloc, q)?;
     let mut orders = q.orders.copy(alloc)?;
-    let mut last = None;
-    while let Some(path) = next_joining(q, last) {
-        orders.push(joined(q, path.copy(alloc)?))?;
-        last = Some(path);
-    }
+    push_joined(alloc, q, &mut orders, paths.as_slice())?;
     Ok(orders)
+}
+
+// Adds the orders by these paths, which join.
+fn push_joined(
+    alloc: Global,
+    q: &Query,
+    orders: &mut Orders,
+    paths: &[&FieldPath],
+) -> Result<(), AllocError>
+    ensures { OnOk result (orders.new ≡ orders.old ++ map (joined q.now) (paths_at paths.now)) }
+{
+    for path in paths {
+        orders.push(joined(q, path.copy(alloc)?))?;
+    }
+    Ok(())
 }
 
 // A path that joins the order.
@@ -52,12 +65,28 @@ fn joined(q: &Query, path: FieldPath) -> Order
     }
 }
 
-/// The number of fields in the whole order, or the greatest number there is.
-#[tactic(auto, using(crate::proofs::WholeOrdering::length_with_name, crate::proofs::WholeOrdering::length_without_name))]
+/// The number of fields in the whole order, or the greatest number there is. It takes no memory, and walks the filter for
+/// each path that joins: `order_count_with` doesn't.
 pub(crate) fn order_count(q: &Query) -> usize
     ensures { result ≡ min (length (whole_order q.now)) (2 ^ 64 - 1) }
 {
-    let count = given_and_joining_count(q);
+    count_with_name(q, given_and_joining_count(q))
+}
+
+/// The number of fields in the whole order, or the greatest number there is, by sorted paths.
+pub(crate) fn order_count_with(alloc: Global, q: &Query) -> Result<usize, AllocError>
+    ensures { IfOk result (λ n. n ≡ min (length (whole_order q.now)) (2 ^ 64 - 1)) }
+{
+    let paths = joining(alloc, q)?;
+    Ok(count_with_name(q, q.orders.len().saturating_add(paths.len())))
+}
+
+// The number of fields in the whole order, by the number of those that are given or join.
+#[tactic(auto, using(crate::proofs::WholeOrdering::length_with_name, crate::proofs::WholeOrdering::length_without_name))]
+fn count_with_name(q: &Query, count: usize) -> usize
+    requires { count ≡ min (length q.now.orders + length (joining q.now)) (2 ^ 64 - 1) }
+    ensures { result ≡ min (length (whole_order q.now)) (2 ^ 64 - 1) }
+{
     if is_ordered_by_name(q.orders.as_slice()) {
         count
     } else {

@@ -1,0 +1,7 @@
+use Rattle.std.proofs.Common.{◌≡◌, take}
+use Rattle.fs_query.specs.Given.{paths_at, paths_of}
+use Rattle.fs_query.proofs.joining.given_paths.Given as goal
+
+-- the paths of the orders so far
+abbrev pub invariant-loop-order : goal.invariant-loop-order
+invariant-loop-order l = paths_at l.given.items ≡ paths_of (take l.order-index l.orders)
