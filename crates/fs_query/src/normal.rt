@@ -18,6 +18,19 @@ pub struct Normal {
     pub disjuncts: Filters,
 }
 
+impl Normal {
+    ghost use Rattle.std.specs.Prelude.{◌≡◌, IfOk};
+
+    pub fn copy(&self, alloc: Global) -> Result<Normal, AllocError>
+        ensures { IfOk result (λ n. n ≡ self.now) }
+    {
+        Ok(Normal {
+            orders: self.orders.copy(alloc)?,
+            disjuncts: self.disjuncts.copy(alloc)?,
+        })
+    }
+}
+
 /// The normal form of a query. (Cloud Firestore documentation, "Order and limit data" and "Query operators".)
 pub fn normal_form(alloc: Global, q: &Query) -> Result<Normal, AllocError>
     ensures orders { IfOk result (λ n. n.orders ≡ whole_order q.now) }
