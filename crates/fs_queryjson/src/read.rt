@@ -15,7 +15,7 @@ use crate::order::read_orders_of;
 use crate::select::read_select_of;
 use fs_json::{Bad, only};
 use fs_path::{Ids, Rule, Way};
-use fs_query::{Filter, Orders, Query, check};
+use fs_query::{Filter, Orders, Query, check_with};
 use serde_json::Value;
 use std::alloc::Global;
 
@@ -93,11 +93,15 @@ fn read_offset_of(alloc: Global, query: &Value, place: &Way<'_>) -> Result<i32, 
 pub fn judge_query(alloc: Global, query: Query, place: &Way<'_>) -> Result<Query, Bad>
     ensures { Gives (λ q. q) result (permitted_at query (place_of place.now)) }
 {
-    match check(&query) {
-        Some(rule) => {
+    match check_with(alloc, &query) {
+        Ok(Some(rule)) => {
             drop(query);
             Err(Bad::at(alloc, Rule::Q(rule.number, rule.count), place))
         }
-        None => Ok(query),
+        Ok(None) => Ok(query),
+        Err(e) => {
+            drop(query);
+            Err(Bad::from(e))
+        }
     }
 }
