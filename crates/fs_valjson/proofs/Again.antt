@@ -1,8 +1,6 @@
 -- What is written of a value is read as the same value.
 use Rattle.std.proofs.Common.{◌≡◌, ℕ, ℤ, ◌+◌, List, [], ◌∷◌, Result, Ok, Err, IfOk, OnOk, codes, refl, ap, ◌∙◌}
 use Rattle.fs_path.specs.Document.{document_of, document_text}
-use Rattle.fs_path.specs.DocumentLaws.{document_only}
-use Rattle.fs_value.specs.declared.document.Document.{Document}
 use Rattle.fs_path.specs.declared.name.DocName.{DocName}
 use Rattle.fs_path.specs.declared.name.Root.{Root}
 use Rattle.fs_path.specs.Place.{member_place, item_place}
@@ -13,7 +11,7 @@ use Rattle.fs_value.specs.DataLaws.{fields_of-members_of, items_of-list_of, memb
 use Rattle.fs_valjson.specs.Document.{document_at, document_json, update_json, untimed}
 use Rattle.fs_value.specs.FieldPaths.{map_of}
 use Rattle.fs_valjson.specs.Reading.{value_at, items_at, entries_at, list_at, array_at, made, array_of}
-use Rattle.fs_valjson.specs.Valid.{IsHeld, ItemsAreHeld, MembersAreHeld, IsTimeHeld, IsValid}
+use Rattle.fs_valjson.specs.Held.{IsHeld, ItemsAreHeld, MembersAreHeld, IsTimeHeld}
 use Rattle.fs_valjson.specs.Writing.{value_json, items_json, members_json, array_json, list_json, HasNames, ItemsHaveNames, MembersHaveNames}
 
 mutual
@@ -94,7 +92,3 @@ unfolding document_at update_json
 update_again root name [] place is names held = rw is refl
 update_again root name (f ∷ fs) place is names held =
     rw (is, entries_again (members_of (f ∷ fs)) (member_place place (codes "fields")) held names, fields_of-members_of fs) refl
-
-pub valid_again : (root : Root) (d : Document) (place : List ℕ) → IsValid root d → document_at root (document_json d) place ≡ Ok d
-valid_again root d place valid =
-    document_again root d.name d.fields d.created d.updated place (document_only root (document_text d.name) d.name valid.named refl) valid.names valid.held valid.created valid.updated

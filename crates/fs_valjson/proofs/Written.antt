@@ -18,7 +18,7 @@ use Rattle.fs_value.specs.declared.value.Value.{Value}
 use Rattle.fs_value.specs.declared.fields.Field.{Field}
 use Rattle.fs_valjson.specs.Document.{with_fields}
 use Rattle.fs_valjson.specs.Steps.{with_fields_put}
-use Rattle.fs_valjson.specs.Valid.{IsHeld, ItemsAreHeld, MembersAreHeld}
+use Rattle.fs_valjson.specs.Held.{IsHeld, ItemsAreHeld, MembersAreHeld}
 use Rattle.fs_valjson.specs.Writing.{value_json, items_json, members_json, list_content, fields_content, with_one}
 
 -- ---- values

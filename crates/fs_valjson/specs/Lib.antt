@@ -3,7 +3,11 @@ pub mod Reading
 pub mod Steps
 pub mod Writing
 pub mod Valid
+pub mod Held
 pub mod FloatLaws
 pub mod ChoiceLaws
+pub mod AnswerLaws
+pub mod NameLaws
+pub mod ValidLaws
 pub mod Tokens
 pub mod TokenLaws

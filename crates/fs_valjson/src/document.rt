@@ -9,6 +9,7 @@ ghost use Rattle.serde_json.specs.View.{view as json, members_view};
 ghost use Rattle.fs_json.specs.Answer.{Gives};
 ghost use Rattle.fs_valjson.specs.Document.{Content as Told, content_at, document_at, document_json, update_json, untimed, fields_in, time_in};
 ghost use Rattle.fs_valjson.specs.Steps.{with_fields_put};
+ghost use Rattle.fs_valjson.specs.Valid.{IsValid};
 ghost use Rattle.fs_valjson.specs.Writing.{MembersHaveNames};
 
 use crate::names::{CREATE_TIME, DOCUMENT_MEMBERS, FIELDS, NAME, UPDATE_TIME};
@@ -30,7 +31,10 @@ pub fn read_document(
     v: &Value,
     place: &Way<'_>,
 ) -> Result<Document, Bad>
-    ensures { Gives (λ d. d) result (document_at root.now (json v.now) (place_of place.now)) }
+    ensures gives { Gives (λ d. d) result (document_at root.now (json v.now) (place_of place.now)) }
+
+    // It is a document of the root, and its references are names of documents.
+    ensures valid { IfOk result (λ d. IsValid root.now d) }
 {
     only(alloc, v, &DOCUMENT_MEMBERS, place)?;
     let name = required(alloc, v, NAME, place)?;
@@ -97,8 +101,8 @@ pub fn write_document(alloc: Global, d: &Document) -> Result<Value, AllocError>
 
     // Where it is a document of the root, and its references are names of documents, it is read back as the same
     // document, at any place.
-    ensures reads_back { IfOk result (λ j. (root : Root) (place : List ℕ) → IsDocumentOf root d.now.name
-        → MembersHaveNames (members_of d.now.fields) → document_at root (json j) place ≡ Ok d.now) }
+    ensures reads_back { IfOk result (λ j. (root : Root) (place : List ℕ) → IsValid root d.now
+        → document_at root (json j) place ≡ Ok d.now) }
 {
     let mut members = Map::new(alloc);
     serde_json::put(

@@ -1,12 +1,14 @@
 //! Reads values.
-ghost use Rattle.std.specs.Prelude.{codes, map, option_map, List, Option, ℕ};
+ghost use Rattle.std.specs.Prelude.{codes, map, option_map, IfOk, List, Option, ℕ};
 ghost use Rattle.fs_path.specs.Way.{place_of};
+ghost use Rattle.fs_value.specs.Data.{items_of};
 ghost use Rattle.fs_value.specs.View.{view};
 ghost use Rattle.serde_json.specs.View.{view as json, items_view, members_view};
 ghost use Rattle.serde_json.specs.Data.{Data};
 ghost use Rattle.fs_json.specs.Answer.{Gives};
 ghost use Rattle.fs_valjson.specs.Reading.{array_at, entries_at, fields_at, items_at, kind_at, list_at, map_at, plain_at, value_at};
 ghost use Rattle.fs_valjson.specs.Steps.{the_content, the_kind};
+ghost use Rattle.fs_valjson.specs.Writing.{HasNames, ItemsHaveNames};
 
 use crate::names::{
     ARRAY_MEMBERS, ARRAY_VALUE, BOOLEAN_VALUE, BYTES_VALUE, INTEGER_VALUE, KINDS, MAP_MEMBERS,
@@ -27,7 +29,10 @@ use std::alloc::Global;
 /// `x.mapValue.fields.a.arrayValue.values[0].integerValue`, where it refuses.
 #[cycle(read)]
 pub fn read_value(alloc: Global, v: &serde_json::Value, place: &Way<'_>) -> Result<Value, Bad>
-    ensures { Gives view result (value_at (json v.now) (place_of place.now)) }
+    ensures gives { Gives view result (value_at (json v.now) (place_of place.now)) }
+
+    // Its references are names of documents.
+    ensures valid { IfOk result (λ x. HasNames (view x)) }
 {
     let (name, content) = the_kind(alloc, v, place)?;
     read_kind(alloc, name, content, &(*place).member(name))
@@ -52,7 +57,8 @@ fn read_kind(
 /// Reads the content of an array: an object whose member `values` is a list of values, or is absent.
 #[cycle(read)]
 pub fn read_array(alloc: Global, v: &serde_json::Value, place: &Way<'_>) -> Result<Values, Bad>
-    ensures { Gives (λ vs. vs) result (array_at (json v.now) (place_of place.now)) }
+    ensures gives { Gives (λ vs. vs) result (array_at (json v.now) (place_of place.now)) }
+    ensures valid { IfOk result (λ vs. ItemsHaveNames (items_of vs)) }
 {
     match the_content(alloc, v, &ARRAY_MEMBERS, place)? {
         Some((name, content)) => read_list(alloc, content, &(*place).member(name)),
@@ -63,7 +69,8 @@ pub fn read_array(alloc: Global, v: &serde_json::Value, place: &Way<'_>) -> Resu
 /// Reads a list of values.
 #[cycle(read)]
 pub fn read_list(alloc: Global, v: &serde_json::Value, place: &Way<'_>) -> Result<Values, Bad>
-    ensures { Gives (λ vs. vs) result (list_at (json v.now) (place_of place.now)) }
+    ensures gives { Gives (λ vs. vs) result (list_at (json v.now) (place_of place.now)) }
+    ensures valid { IfOk result (λ vs. ItemsHaveNames (items_of vs)) }
 {
     let items = list(alloc, v, place)?;
     read_items(alloc, items, place)

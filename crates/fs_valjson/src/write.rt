@@ -5,7 +5,7 @@ ghost use Rattle.fs_value.specs.View.{view};
 ghost use Rattle.serde_json.specs.Written.{has_float};
 ghost use Rattle.serde_json.specs.View.{view as json, items_view, members_view};
 ghost use Rattle.fs_valjson.specs.Reading.{array_at, list_at, value_at};
-ghost use Rattle.fs_valjson.specs.Valid.{IsHeld, ItemsAreHeld, MembersAreHeld};
+ghost use Rattle.fs_valjson.specs.Held.{IsHeld, ItemsAreHeld, MembersAreHeld};
 ghost use Rattle.fs_valjson.specs.Writing.{value_json, items_json, members_json, list_content, fields_content, array_json, list_json, with_one, HasNames, ItemsHaveNames};
 
 use crate::names::{

@@ -1,4 +1,4 @@
-use Rattle.std.proofs.Common.{◌≡◌, ◌+◌, [], ◌∷◌, ◌++◌, Ok, Some, drop, string_bytes, sym, ap, ◌∙◌, subst, arith, rules, append_assoc}
+use Rattle.std.proofs.Common.{◌≡◌, ◌+◌, List, [], ◌∷◌, ◌++◌, Ok, Some, drop, string_bytes, sym, ap, ◌∙◌, subst, arith, rules, append_assoc}
 use Rattle.std.proofs.lemmas.List.{drop_more}
 use Rattle.std.specs.List.Sorted.{IsStrictlySortedBy}
 use Rattle.std.specs.Map.{keys_of}
@@ -10,11 +10,16 @@ use Rattle.fs_path.specs.Place.{item_place, member_place}
 use Rattle.fs_path.specs.Way.{place_of}
 use Rattle.fs_value.specs.View.{view}
 use Rattle.fs_json.specs.Members.{at_most_one_at, one_of_at, only_at}
-use Rattle.fs_valjson.specs.Reading.{kinds, array_members, map_members, value_at, items_at, entries_at}
+use Rattle.fs_valjson.specs.Reading.{kinds, array_members, map_members, value_at, items_at, entries_at, list_at}
 use Rattle.fs_valjson.specs.Steps.{the_content, the_kind}
 use Rattle.fs_valjson.proofs.Chosen.{array_at-steps, map_at-steps, value_at-steps}
 use Rattle.fs_json.specs.DepthLaws.{at_most_one_falls, last_ok, one_of_falls, item_falls, entry_falls}
 use Rattle.fs_json.specs.WalkLaws.{behind}
+use Rattle.fs_json.specs.Answer.{Gives}
+use Rattle.fs_value.specs.Data.{Data, items_of}
+use Rattle.fs_valjson.specs.AnswerLaws.{of_reading}
+use Rattle.fs_valjson.specs.ValidLaws.{list_names, value_names}
+use Rattle.fs_valjson.specs.Writing.{HasNames, ItemsHaveNames}
 use Rattle.fs_valjson.proofs.Lists.{next_item, next_entry}
 use Rattle.fs_valjson.proofs.Rising.{one_more_key, rising_front}
 use Rattle.fs_valjson.proofs.read.+read.Goals as goal
@@ -27,11 +32,17 @@ read_value-read_kind-requires t c =
     let found = last_ok (only_at kinds d place) (one_of_at kinds d place) _ both in
     (omega (arith, one_of_falls kinds d place _ found), tt)
 
-pub read_value-returns-in_err-name : goal.read_value-returns-in_err-name
-read_value-returns-in_err-name t c = rw (value_at-steps (json c.args.v.now) (place_of c.args.place.now)) (search rules)
+pub read_value-returns-in_err-name-clause-gives : goal.read_value-returns-in_err-name-clause-gives
+read_value-returns-in_err-name-clause-gives t c = rw (value_at-steps (json c.args.v.now) (place_of c.args.place.now)) (search rules)
 
-pub read_value-returns : goal.read_value-returns
-read_value-returns t c = rw (value_at-steps (json c.args.v.now) (place_of c.args.place.now)) (search rules)
+pub read_value-returns-clause-gives : goal.read_value-returns-clause-gives
+read_value-returns-clause-gives t c = rw (value_at-steps (json c.args.v.now) (place_of c.args.place.now)) (search rules)
+
+pub read_value-returns-clause-valid : goal.read_value-returns-clause-valid
+read_value-returns-clause-valid t c =
+    let d = json c.args.v.now in
+    let place = place_of c.args.place.now in
+    of_reading view HasNames c.read_kind.result (value_at d place) (read_value-returns-clause-gives t c) (value_names d place)
 
 pub read_array-read_list-requires : goal.read_array-read_list-requires
 read_array-read_list-requires t c =
@@ -41,6 +52,13 @@ read_array-read_list-requires t c =
     let found = last_ok (only_at array_members d place) (at_most_one_at array_members d place) _ both in
     (omega (arith, at_most_one_falls array_members d place _ found), tt)
 
+pub read_list-returns-clause-valid : goal.read_list-returns-clause-valid
+read_list-returns-clause-valid t c =
+    let d = json c.args.v.now in
+    let place = place_of c.args.place.now in
+    let gives : Gives {Y = List Data} (λ vs. vs) c.read_items.result (list_at d place) = search rules in
+    of_reading {Y = List Data} (λ vs. vs) (λ vs. ItemsHaveNames (items_of vs)) c.read_items.result (list_at d place) gives (list_names d place)
+
 pub read_map-read_fields-requires : goal.read_map-read_fields-requires
 read_map-read_fields-requires t c =
     let d = json c.args.v.now in
@@ -49,14 +67,14 @@ read_map-read_fields-requires t c =
     let found = last_ok (only_at map_members d place) (at_most_one_at map_members d place) _ both in
     (omega (arith, at_most_one_falls map_members d place _ found), tt)
 
-pub read_array-returns-in_err-name : goal.read_array-returns-in_err-name
-read_array-returns-in_err-name t c = rw (array_at-steps (json c.args.v.now) (place_of c.args.place.now)) (search rules)
+pub read_array-returns-in_err-name-clause-gives : goal.read_array-returns-in_err-name-clause-gives
+read_array-returns-in_err-name-clause-gives t c = rw (array_at-steps (json c.args.v.now) (place_of c.args.place.now)) (search rules)
 
-pub read_array-returns-in-Some : goal.read_array-returns-in-Some
-read_array-returns-in-Some t c = rw (array_at-steps (json c.args.v.now) (place_of c.args.place.now)) (search rules)
+pub read_array-returns-in-Some-clause-gives : goal.read_array-returns-in-Some-clause-gives
+read_array-returns-in-Some-clause-gives t c = rw (array_at-steps (json c.args.v.now) (place_of c.args.place.now)) (search rules)
 
-pub read_array-returns-in-None : goal.read_array-returns-in-None
-read_array-returns-in-None t c = rw (array_at-steps (json c.args.v.now) (place_of c.args.place.now)) (search rules)
+pub read_array-returns-in-None-clause-gives : goal.read_array-returns-in-None-clause-gives
+read_array-returns-in-None-clause-gives t c = rw (array_at-steps (json c.args.v.now) (place_of c.args.place.now)) (search rules)
 
 pub read_map-returns-in_err-name : goal.read_map-returns-in_err-name
 read_map-returns-in_err-name t c = rw (map_at-steps (json c.args.v.now) (place_of c.args.place.now)) (search rules)

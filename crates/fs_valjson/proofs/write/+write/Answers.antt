@@ -6,7 +6,7 @@ use Rattle.fs_path.specs.TextOrder.{text_cmp}
 use Rattle.fs_value.specs.Data.{timestamp, members_of}
 use Rattle.fs_value.specs.View.{view, field_view}
 use Rattle.fs_json.specs.Time.{time_at}
-use Rattle.fs_valjson.specs.Valid.{IsHeld}
+use Rattle.fs_valjson.specs.Held.{IsHeld}
 use Rattle.fs_valjson.specs.Writing.{value_json, members_json}
 use Rattle.fs_valjson.proofs.Again.{on_ok_always}
 use Rattle.fs_valjson.proofs.Written.{one_value, items_push, held_push, one_field, put_last, members_held_push, rising_taken}

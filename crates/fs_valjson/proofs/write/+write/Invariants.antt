@@ -2,7 +2,7 @@ use Rattle.std.proofs.Common.{◌≡◌, ◌+◌, ◌*◌, map, take}
 use Rattle.serde_json.specs.View.{items_view, members_view}
 use Rattle.fs_value.specs.Data.{items_of, members_of, weight, items_weight, members_weight}
 use Rattle.fs_value.specs.View.{view, field_view}
-use Rattle.fs_valjson.specs.Valid.{ItemsAreHeld, MembersAreHeld}
+use Rattle.fs_valjson.specs.Held.{ItemsAreHeld, MembersAreHeld}
 use Rattle.fs_valjson.specs.Writing.{items_json, members_json}
 use Rattle.fs_valjson.proofs.write.+write.Given as goal
 
