@@ -187,14 +187,14 @@ fn push_places(rt: &impl Abort, alloc: Global, told: &mut String, text: &str) {
 }
 
 // The field path of one name, as it is printed.
-fn printed(rt: &impl Abort, alloc: Global, name: &str) -> Text {
+fn printed_name(rt: &impl Abort, alloc: Global, name: &str) -> Text {
     let mut parts = Ids::new(alloc);
     parts.push(text(rt, alloc, name)).expect(rt, "memory");
     print_field(alloc, &FieldPath { parts }).expect(rt, "memory")
 }
 
 fn push_form(rt: &impl Abort, alloc: Global, told: &mut String, name: &str) {
-    let is_quoted = printed(rt, alloc, name).as_str().starts_with('`');
+    let is_quoted = printed_name(rt, alloc, name).as_str().starts_with('`');
     push(rt, told, if is_quoted { "quoted" } else { "simple" });
     push(rt, told, if is_bad_field_name(name) { " bad" } else { "" });
 }

@@ -235,7 +235,6 @@ fn depth_from_1_to_21(rt: HostRuntime) {
 fn values_of_depth_100_are_compared(rt: HostRuntime) {
     let alloc = rt.alloc();
     let deep = nested(&rt, alloc, 100, true);
-    keys_rise(&deep);
     let copied = deep.copy(alloc).expect(&rt, "memory");
     assert!(rt; same(&deep, &copied));
     let other = nested(&rt, alloc, 100, false);
