@@ -36,6 +36,6 @@ pub use paths::Paths;
 pub use place::{Place, Rule};
 pub use print::print_document;
 pub use scope::{Scope, covers, shard_of};
-pub use segment::{first_segment, is_bad_id, is_reserved};
+pub use segment::is_bad_id;
 pub use text::{Bytes, Text};
 pub use way::Way;

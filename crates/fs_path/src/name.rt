@@ -126,8 +126,7 @@ impl DocName {
         self.head().database
     }
 
-    /// The ids with a slash between each two, as `c/a`, or `None` where there are none. `first_segment` reads them one by
-    /// one.
+    /// The ids with a slash between each two, as `c/a`, or `None` where there are none.
     pub fn ids(&self) -> Option<&str>
         ensures { rest_segments (option_copied result) ≡ self.now.ids }
     {

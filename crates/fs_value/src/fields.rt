@@ -132,7 +132,7 @@ impl Fields {
         self.items.is_empty()
     }
 
-    pub fn key_at(&self, i: usize) -> &Text
+    pub(crate) fn key_at(&self, i: usize) -> &Text
         requires { i < length self.now }
         ensures { option_map (λ f. f.0) (slice_get self.now i) ≡ Some result.now }
     {
