@@ -1,6 +1,6 @@
 -- The laws of answers.
-use Rattle.std.proofs.Common.{◌≡◌, Bool, true, false, cond, List, [], ◌∷◌, ◌++◌, take, drop, Less, Equal, Greater, inl, inr, refl, sym, ap, ◌∙◌, subst}
-use Rattle.std.specs.Prelude.{ℤ, Option, Some, None, ◌&&◌}
+use Rattle.std.proofs.Common.{◌≡◌, ℕ, ◌+◌, Bool, true, false, cond, List, [], ◌∷◌, ◌++◌, take, drop, Less, Equal, Greater, inl, inr, refl, sym, ap, ◌∙◌, subst}
+use Rattle.std.specs.Prelude.{ℤ, Option, Some, None, option_map, ◌&&◌}
 use Rattle.std.specs.FinMap.{is_sorted}
 use Rattle.std.specs.FinMap.Entries.{below_all}
 use Rattle.std.specs.List.{Contains, filter, list_all, IsDistinct}
@@ -8,10 +8,8 @@ use Rattle.std.specs.List.Sorted.{IsStrictlySortedBy, IsSorted, IsPermutation}
 use Rattle.std.specs.Ordering.{is_eq, is_lt, is_gt, ordering_reverse, eq_by_cmp}
 use Rattle.std.specs.declared.cmp.Ordering.{Ordering}
 use Rattle.std.proofs.lemmas.Cmp.{tied_itself}
-use Rattle.std.proofs.lemmas.List.{take-append-drop, append_assoc}
+use Rattle.std.proofs.lemmas.List.{take-append-drop, append_assoc, drop-take}
 use Rattle.std.proofs.lemmas.List.Elements.{Contains-append_left, Contains-append_right, Contains-append_cases}
-use Rattle.std.proofs.lemmas.List.Sorted.{Contains-permutation, IsPermutation-sym}
-use Rattle.std.proofs.lemmas.Map.Keys.{IsDistinct-IsPermutation}
 use Rattle.fs_path.specs.NameOrder.{name_cmp, name_cmp_total}
 use Rattle.fs_path.specs.Scope.{covers}
 use Rattle.fs_path.specs.declared.name.DocName.{DocName}
@@ -21,12 +19,14 @@ use Rattle.fs_query.specs.Answer.{AreFitting, IsAnswer, count_of, limited, cut, 
 use Rattle.fs_query.specs.AnswerTo.{in_rise}
 use Rattle.fs_query.specs.Asked.{Asked}
 use Rattle.fs_query.specs.DocumentOrder.{orders_cmp}
+use Rattle.fs_query.specs.Found.{few, is_asked, most_of, KeepsFirst}
 use Rattle.fs_query.specs.Fits.{fits, has_field, meets}
 use Rattle.fs_query.specs.Laws.{OneAnswer, SomeAnswer, AnswersFit, AnsweredOnce, OthersDoNotCount, PagesGoOn, behind, values_of}
 use Rattle.fs_query.specs.Normal.{whole_order}
 use Rattle.fs_query.proofs.CursorLaws.{beside_document, behind_started, first_true, second_true}
+use Rattle.fs_query.proofs.Foremost.{told, keeps_sorted}
 use Rattle.fs_query.proofs.OrderLaws.{orders_total, tells_names, name_is_ordered}
-use Rattle.fs_query.proofs.Rising.{has_none, has_first, has_later, has_cases, has_kept, has_taken, has_left, keeps, all_of, rise_kept, rise_taken, rise_left, rise_rest, rise_behind, first_below, front_below, only_one, in_rise_rises, from_rise, to_rise, rise_sorted, not_below_itself, not_both_below}
+use Rattle.fs_query.proofs.Rising.{has_none, has_first, has_later, has_cases, has_kept, has_taken, has_left, keeps, all_of, rise_kept, rise_taken, rise_left, rise_rest, rise_behind, first_below, front_below, only_one, in_rise_rises, from_rise, to_rise, not_below_itself, not_both_below}
 
 -- the order of a query's documents
 abbrev pub by_query : Asked → Document → Document → Ordering
@@ -248,7 +248,7 @@ pages_go_on q docs front back d none x =
       is_cut = sym (unlimited q.limit (filter (is_between (behind q d)) x.all) none ∙ rest_is q docs x.all (take n (filter (is_between q) x.all) ++ front) back d x.are_fitting split);
     }
 
--- ---- what a sort of those that are kept gives, cut, is the answer
+-- ---- what a sort of the first of those that are asked for gives, cut, is the answer
 
 names_differ : (q : Asked) (p : Document → Bool) (docs : List Document) → is_sorted name_cmp (by_name docs) ≡ true → IsDistinct (eq_by_cmp (by_query q)) (filter p docs)
 unfolding IsDistinct
@@ -273,35 +273,39 @@ names_differ q p (d ∷ ds) up =
     told_apart : (q : Asked) (d e : Document) → ¬ (d.name ≡ e.name) → eq_by_cmp (by_query q) d e ≡ false
     told_apart q d e differ = not_tied (by_query q d e) (λ s. differ (tells_names (whole_order q) d e (name_is_ordered q) s))
 
-tie_back : (q : Asked) (a b : Document) → eq_by_cmp (by_query q) a b ≡ eq_by_cmp (by_query q) b a
-tie_back q a b = ap is_eq ((orders_total (whole_order q)).antisymm a b) ∙ turned_tie (by_query q b a)
-  where
-    turned_tie : (r : Ordering) → is_eq (ordering_reverse r) ≡ is_eq r
-    turned_tie Less = refl
-    turned_tie Equal = refl
-    turned_tie Greater = refl
+asked_told : (q : Asked) (docs : List Document) → is_sorted name_cmp (by_name docs) ≡ true → IsDistinct (eq_by_cmp (by_query q)) (filter (is_asked q) docs)
+asked_told q docs up = names_differ q (is_asked q) docs up
 
-pub sorted_is : (q : Asked) (docs sorted : List Document) → is_sorted name_cmp (by_name docs) ≡ true → IsPermutation (filter (λ d. fits q d && is_between q d) docs) sorted → IsSorted (by_query q) sorted
-    → filter (is_between q) (in_order q docs) ≡ sorted
-sorted_is q docs sorted up moved rises =
+-- those that are kept of all that fit are those that are asked for, in order
+asked_is : (q : Asked) (docs : List Document) → is_sorted name_cmp (by_name docs) ≡ true → filter (is_between q) (in_order q docs) ≡ in_rise (by_query q) (filter (is_asked q) docs)
+asked_is q docs up =
     let total = orders_total (whole_order q) in
     let fitting = in_order_fit q docs up in
-    let apart = IsDistinct-IsPermutation (eq_by_cmp (by_query q)) (tie_back q) (filter (λ d. fits q d && is_between q d) docs) sorted moved (names_differ q (λ d. fits q d && is_between q d) docs up) in
-    only_one (by_query q) total (filter (is_between q) (in_order q docs)) sorted
+    only_one (by_query q) total (filter (is_between q) (in_order q docs)) (in_rise (by_query q) (filter (is_asked q) docs))
     (rise_kept (by_query q) (is_between q) (in_order q docs) fitting.rise)
-    (rise_sorted (by_query q) total sorted rises apart)
+    (in_rise_rises (by_query q) total (filter (is_asked q) docs))
     (λ d h.
     let k = has_kept (is_between q) (in_order q docs) d h in
     let f = (fitting.fitting d).0 k.0 in
-    Contains-permutation (filter (λ d. fits q d && is_between q d) docs) sorted d moved (keeps (λ d. fits q d && is_between q d) docs d f.0 (both (fits q d) (is_between q d) f.1 k.1)))
+    to_rise (by_query q) total (filter (is_asked q) docs) (told (by_query q) total (filter (is_asked q) docs) (asked_told q docs up)) d
+    (keeps (is_asked q) docs d f.0 (both (fits q d) (is_between q d) f.1 k.1)))
     (λ d h.
-    let k = has_kept (λ d. fits q d && is_between q d) docs d (Contains-permutation sorted (filter (λ d. fits q d && is_between q d) docs) d (IsPermutation-sym (filter (λ d. fits q d && is_between q d) docs) sorted moved) h) in
+    let k = has_kept (is_asked q) docs d (from_rise (by_query q) total (filter (is_asked q) docs) d h) in
     keeps (is_between q) (in_order q docs) d ((fitting.fitting d).1 (k.0, first_true (fits q d) (is_between q d) k.1)) (second_true (fits q d) (is_between q d) k.1))
 
-pub answer_of_sorted : (q : Asked) (docs sorted : List Document) → is_sorted name_cmp (by_name docs) ≡ true → IsPermutation (filter (λ d. fits q d && is_between q d) docs) sorted → IsSorted (by_query q) sorted
+-- lists with the same first ones have the same behind an offset, within a limit
+cut_few : (offset : ℕ) (limit : Option ℤ) (xs ys : List Document) → few (option_map (λ l. offset + count_of l) limit) xs ≡ few (option_map (λ l. offset + count_of l) limit) ys
+    → limited limit (drop offset xs) ≡ limited limit (drop offset ys)
+cut_few offset None xs ys e = ap (drop offset) e
+cut_few offset (Some l) xs ys e = sym (drop-take offset (count_of l) xs) ∙ ap (drop offset) e ∙ drop-take offset (count_of l) ys
+
+pub answer_of_kept : (q : Asked) (docs kept sorted : List Document) → is_sorted name_cmp (by_name docs) ≡ true → KeepsFirst (by_query q) (most_of q) (filter (is_asked q) docs) kept → IsPermutation kept sorted → IsSorted (by_query q) sorted
     → IsAnswer q docs (limited q.limit (drop (count_of q.offset) sorted))
-answer_of_sorted q docs sorted up moved rises = record {
+answer_of_kept q docs kept sorted up first moved rises = record {
   all = in_order q docs;
   are_fitting = in_order_fit q docs up;
-  is_cut = ap (λ ds. limited q.limit (drop (count_of q.offset) ds)) (sym (sorted_is q docs sorted up moved rises));
+  is_cut =
+      cut_few (count_of q.offset) q.limit sorted (filter (is_between q) (in_order q docs))
+      (keeps_sorted (by_query q) (orders_total (whole_order q)) (most_of q) (filter (is_asked q) docs) kept sorted first (asked_told q docs up) moved rises
+      ∙ ap (few (most_of q)) (sym (asked_is q docs up)));
 }

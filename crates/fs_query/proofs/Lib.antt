@@ -19,4 +19,6 @@ pub mod JoiningPaths
 pub mod FittingDisjuncts
 pub mod JoiningMembers
 pub mod GivenPaths
+pub mod Foremost
+pub mod Keyed
 pub mod RuleParts

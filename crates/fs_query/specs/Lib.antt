@@ -22,6 +22,7 @@ pub mod Inequalities
 pub mod Census
 pub mod Joining
 pub mod Given
+pub mod Found
 pub mod Peaks
 pub mod Place
 pub mod RuleSteps

@@ -1,20 +1,20 @@
 //! The answer to a query.
-ghost use Rattle.std.specs.Prelude.{◌≡◌, ◌&&◌, IfOk, IsTrue, map, drop};
-ghost use Rattle.std.specs.List.{filter};
-ghost use Rattle.std.specs.List.Sorted.{IsPermutation, IsSorted};
+ghost use Rattle.std.specs.Prelude.{◌≡◌, ◌<◌, ◌^◌, IfOk, IsTrue, map, drop};
+ghost use Rattle.std.specs.List.{All, filter};
 ghost use Rattle.std.specs.FinMap.{is_sorted};
 ghost use Rattle.fs_path.specs.NameOrder.{name_cmp};
 ghost use Rattle.fs_value.specs.Named.{by_name};
 ghost use Rattle.fs_value.specs.View.{view};
-ghost use Rattle.fs_query.specs.Answer.{IsAnswer, count_of, limited, place_cmp, is_behind_start, is_before_end, is_between};
+ghost use Rattle.fs_query.specs.Answer.{IsAnswer, count_of, limited, place_cmp, is_behind_start, is_before_end};
 ghost use Rattle.fs_query.specs.DocumentOrder.{orders_cmp};
-ghost use Rattle.fs_query.specs.Fits.{fits};
+ghost use Rattle.fs_query.specs.Found.{IsKeyed, KeepsFirst, documents_of, is_asked, most_of};
 ghost use Rattle.fs_query.specs.Normal.{whole_order};
 
-use crate::compare::{compare_by, compare_found, turned};
+use crate::compare::{compare_found, turned};
 use crate::cursor::Cursor;
 use crate::field::{Seen, value_at};
 use crate::fits::matches;
+use crate::found::{Found, found_at, push_found, sort_found};
 use crate::order::Order;
 use crate::query::Query;
 use crate::whole_order::whole_order;
@@ -33,7 +33,8 @@ pub fn answer(alloc: Global, q: &Query, docs: &Documents) -> Result<Documents, A
 }
 
 /// The same over documents that stand elsewhere. Each is looked at once; those that fit and stand between the cursors are
-/// sorted by pointers, and only those that are answered are copied.
+/// sorted by pointers, with a limit no more at any time than twice as many as offset and limit ask for, and only those that
+/// are answered are copied.
 pub fn answer_among(alloc: Global, q: &Query, docs: &[&Document]) -> Result<Documents, AllocError>
     requires { IsTrue (is_sorted name_cmp (by_name (map (λ d. d.now) docs.now))) }
     ensures { IfOk result (λ ds. IsAnswer q.now (map (λ d. d.now) docs.now) ds) }
@@ -62,47 +63,54 @@ fn answer_by(
     requires whole { orders.now ≡ whole_order q.now }
     ensures { IfOk result (λ ds. IsAnswer q.now (map (λ d. d.now) docs.now) ds) }
 {
-    let found = found_in(alloc, q, orders, docs)?;
-    let found = sorted(orders, found)?;
+    let mut found = found_in(alloc, q, orders, docs)?;
+    sort_found(orders, &mut found)?;
     copied(alloc, cut(q, found.as_slice()))
 }
 
-// The documents that fit and stand between the cursors.
+// The documents that are asked for, or as many of the first as there may be with a limit.
 fn found_in<'a>(
     alloc: Global,
     q: &Query,
     orders: &[Order],
     docs: &[&'a Document],
-) -> Result<Vec<&'a Document>, AllocError>
+) -> Result<Vec<Found<'a>>, AllocError>
     requires { orders.now ≡ whole_order q.now }
-    ensures { IfOk result (λ v. map (λ d. d.now) v.items
-        ≡ filter (λ d. fits q.now d && is_between q.now d) (map (λ d. d.now) docs.now)) }
+    ensures keyed { IfOk result (λ v. All (IsKeyed orders.now) v.items) }
+    ensures kept { IfOk result (λ v. KeepsFirst (orders_cmp orders.now) (most_of q.now)
+        (filter (is_asked q.now) (map (λ d. d.now) docs.now)) (documents_of v.items)) }
 {
+    let most = most_of(q);
     let mut found = Vec::new(alloc);
     for d in docs {
-        if matches(q, *d)
-            && is_behind_start(orders, &q.start, *d)
-            && is_before_end(orders, &q.end, *d)
-        {
-            found.push(*d)?;
+        if is_asked(q, orders, *d) {
+            push_found(orders, most, &mut found, found_at(orders, *d))?;
         }
     }
     Ok(found)
 }
 
-// The same documents, in order.
-fn sorted<'a>(orders: &[Order], found: Vec<&'a Document>) -> Result<Vec<&'a Document>, AllocError>
-    ensures same { IfOk result (λ v. IsPermutation (map (λ d. d.now) found.entry.items) (map (λ d. d.now) v.items)) }
-    ensures rise { IfOk result (λ v. IsSorted (orders_cmp orders.now) (map (λ d. d.now) v.items)) }
+// Whether a document fits and stands between the cursors.
+fn is_asked(q: &Query, orders: &[Order], d: &Document) -> bool
+    requires { orders.now ≡ whole_order q.now }
+    ensures { result ≡ is_asked q.now d.now }
 {
-    let mut sorted = found;
-    sorted.sort_by(|a, b| compare_by(orders, *a, *b))?;
-    Ok(sorted)
+    matches(q, d) && is_behind_start(orders, &q.start, d) && is_before_end(orders, &q.end, d)
+}
+
+// How many of the first are asked for, those that the offset leaves out among them.
+fn most_of(q: &Query) -> Option<usize>
+    ensures { result ≡ most_of q.now }
+{
+    match q.limit {
+        Some(limit) => Some(count_of(q.offset) + count_of(limit)),
+        None => None,
+    }
 }
 
 // Those behind the offset, within the limit.
-fn cut<'a, 'b>(q: &Query, found: &'b [&'a Document]) -> &'b [&'a Document]
-    ensures { map (λ d. d.now) result.now ≡ limited q.now.limit (drop (count_of q.now.offset) (map (λ d. d.now) found.now)) }
+fn cut<'a, 'b>(q: &Query, found: &'b [Found<'a>]) -> &'b [Found<'a>]
+    ensures { documents_of result.now ≡ limited q.now.limit (drop (count_of q.now.offset) (documents_of found.now)) }
 {
     let from = count_of(q.offset).min(found.len());
     let kept = &found[from..];
@@ -112,19 +120,20 @@ fn cut<'a, 'b>(q: &Query, found: &'b [&'a Document]) -> &'b [&'a Document]
     }
 }
 
-fn copied(alloc: Global, found: &[&Document]) -> Result<Documents, AllocError>
-    ensures { IfOk result (λ ds. ds ≡ map (λ d. d.now) found.now) }
+fn copied(alloc: Global, found: &[Found<'_>]) -> Result<Documents, AllocError>
+    ensures { IfOk result (λ ds. ds ≡ documents_of found.now) }
 {
     let mut items = Vec::with_capacity(alloc, found.len())?;
-    for d in found {
-        items.push(d.copy(alloc)?)?;
+    for one in found {
+        items.push(one.document.copy(alloc)?)?;
     }
     Ok(Documents::of(items))
 }
 
 // A number of documents.
 fn count_of(n: i32) -> usize
-    ensures { result ≡ count_of n }
+    ensures value { result ≡ count_of n }
+    ensures within { result < 2 ^ 31 }
 {
     if n < 0 { 0 } else { n as usize }
 }

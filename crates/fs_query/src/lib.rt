@@ -11,6 +11,7 @@ mod disjuncts;
 mod field;
 mod filter;
 mod fits;
+mod found;
 mod joining;
 mod laws;
 mod limits;

@@ -1,6 +1,7 @@
-use Rattle.std.proofs.Common.{◌≡◌, map, take}
+use Rattle.std.proofs.Common.{◌≡◌, take}
+use Rattle.fs_query.specs.Found.{documents_of}
 use Rattle.fs_query.proofs.answers.copied.Given as goal
 
 -- the documents so far are copied
-abbrev pub invariant-loop-d : goal.invariant-loop-d
-invariant-loop-d l = l.items.items ≡ map (λ d. d.now) (take l.d-index l.found)
+abbrev pub invariant-loop-one : goal.invariant-loop-one
+invariant-loop-one l = l.items.items ≡ documents_of (take l.one-index l.found)

@@ -1,10 +1,13 @@
-use Rattle.std.proofs.Common.{◌≡◌, map, take}
-use Rattle.std.specs.Prelude.{◌&&◌}
-use Rattle.std.specs.List.{filter}
-use Rattle.fs_query.specs.Answer.{is_between}
-use Rattle.fs_query.specs.Fits.{fits}
+use Rattle.std.proofs.Common.{map, take}
+use Rattle.std.specs.List.{All, filter}
+use Rattle.fs_query.specs.DocumentOrder.{orders_cmp}
+use Rattle.fs_query.specs.Found.{IsKeyed, KeepsFirst, documents_of, is_asked, most_of}
 use Rattle.fs_query.proofs.answers.found_in.Given as goal
 
--- those of the documents so far
+-- the first of the documents so far
 abbrev pub invariant-loop-d : goal.invariant-loop-d
-invariant-loop-d l = map (λ d. d.now) l.found.items ≡ filter (λ d. fits l.q d && is_between l.q d) (map (λ d. d.now) (take l.d-index l.docs))
+invariant-loop-d l =
+    record {
+      keyed : All (IsKeyed l.orders) l.found.items;
+      kept : KeepsFirst (orders_cmp l.orders) (most_of l.q) (filter (is_asked l.q) (map (λ d. d.now) (take l.d-index l.docs))) (documents_of l.found.items);
+    }
