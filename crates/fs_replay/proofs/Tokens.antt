@@ -1,42 +1,87 @@
--- The tokens of what a commit is answered, as they are written one after another.
-use Rattle.std.proofs.Common.{◌≡◌, ℕ, ℤ, List, [], ◌∷◌, ◌++◌, Option, Some, None, codes, refl, ap, ◌∙◌, append_assoc}
-use Rattle.json.specs.Print.{print}
-use Rattle.json.specs.Token.{Token, begin_array, begin_object, end_object, key}
-use Rattle.serde_json.specs.Data.{Data}
-use Rattle.serde_json.specs.Written.{compact_text}
-use Rattle.serde_json.proofs.Texts.{print-outline}
-use Rattle.fs_time.specs.Rfc3339.{time_text}
+-- The tokens of what is answered, as they are written one after another.
+use Rattle.std.proofs.Common.{◌≡◌, ℕ, ◌+◌, ◌<◌, drop, get_or, List, [], ◌∷◌, ◌++◌, Option, Some, None, codes, refl, sym, ap, ◌∙◌, append_assoc, length}
+use Rattle.std.proofs.lemmas.List.{append-nil, at_drop_more}
+use Rattle.json.specs.Token.{Token, begin_object, end_object, key, string}
+use Rattle.serde_json.specs.Data as json
+use Rattle.json.specs.Tree.{items_tokens}
+use Rattle.serde_json.specs.View.{items_of}
+use Rattle.serde_json.specs.Written.{items_outline}
+use Rattle.fs_rpc.specs.MessageJson.{commit_json, error_json, error_members, message_json_on, message_members, query_answers_json, result_members, with_results as listed_results}
+use Rattle.fs_rpc.specs.declared.message.Message.{Message}
+use Rattle.fs_rpc.specs.declared.message.Message.TheVariants.{Commit, GetDocument, BatchGetDocuments, RunQuery, Error}
+use Rattle.fs_value.specs.Data.{Data}
+use Rattle.fs_valjson.specs.Document.{document_json}
+use Rattle.fs_valjson.specs.TokenLaws.{object_tokens}
+use Rattle.fs_valjson.specs.Tokens.{member_tokens, text_member, tokens_of}
+use Rattle.fs_valjson.specs.Writing.{list_json}
 use Rattle.fs_write.specs.declared.write_result.WriteResult.{WriteResult}
-use Rattle.fs_rpc.specs.MessageJson.{commit_json}
-use Rattle.fs_writejson.specs.Results.{result_json}
-use Rattle.fs_replay.specs.Tokens.{IsPlain, list_tokens, results_tokens, text_member, tokens_of, updated_tokens}
+use Rattle.fs_writejson.specs.Results.{result_json, with_results}
+use Rattle.fs_replay.specs.Tokens.{answers_json, result_head}
+use Rattle.std.specs.Prelude.{map}
 
-pub updated_same : (u : Option ℤ) (at : ℤ) (text : List ℕ) → u ≡ Some at → text ≡ time_text at → text_member (codes "updateTime") text ≡ updated_tokens u
-updated_same u at text is same = rw (is, same) refl
+-- ---- results of commits
 
--- a token, some, and a token, behind what was written
-pub around : (old one two : List Token) (x y : Token) (ts whole : List Token) → one ≡ old ++ x ∷ [] → two ≡ one ++ ts → x ∷ (ts ++ y ∷ []) ≡ whole → two ++ y ∷ [] ≡ old ++ whole
-around old one two x y ts whole a b same =
-    ap (λ o. o ++ y ∷ []) (b ∙ ap (λ o. o ++ ts) a) ∙ append_assoc (old ++ x ∷ []) ts (y ∷ []) ∙ append_assoc old (x ∷ []) (ts ++ y ∷ []) ∙ ap (λ ts. old ++ ts) same
+-- results of transforms, before what stands behind them
+pub transforms_first : (ds : List Data) (rest : json.Members) → member_tokens (with_results ds json.no_members) ++ member_tokens rest ≡ member_tokens (with_results ds rest)
+transforms_first [] rest = refl
+transforms_first (d ∷ ds) rest = ap (λ ts. key (codes "transformResults") ∷ (ts ++ member_tokens rest)) (append-nil (tokens_of (list_json (d ∷ ds))))
 
--- the result of a write that had no transforms
-result_tokens_at : (u : Option ℤ) (r : WriteResult) → r.updated ≡ u → IsPlain r → begin_object ∷ (updated_tokens u ++ end_object ∷ []) ≡ tokens_of (result_json r)
-unfolding result_json
-result_tokens_at None r is plain = rw (plain, is) refl
-result_tokens_at (Some time) r is plain = rw (plain, is) refl
-
-pub result_tokens : (r : WriteResult) → IsPlain r → begin_object ∷ (updated_tokens r.updated ++ end_object ∷ []) ≡ tokens_of (result_json r)
-result_tokens r plain = result_tokens_at r.updated r refl plain
+pub some_transforms : (ds : List Data) → (ds ≡ [] → ⊥) → key (codes "transformResults") ∷ tokens_of (list_json ds) ≡ member_tokens (with_results ds json.no_members)
+some_transforms [] some = absurd (some refl)
+some_transforms (d ∷ ds) some = sym (append-nil (key (codes "transformResults") ∷ tokens_of (list_json (d ∷ ds))))
 
 -- results that are some
-pub some_listed : (rs : List WriteResult) → (rs ≡ [] → ⊥) → key (codes "writeResults") ∷ begin_array ∷ results_tokens rs ≡ list_tokens rs
-some_listed [] some = absurd (some refl)
-some_listed (r ∷ rs) some = refl
+pub some_results : (rs : List WriteResult) → (rs ≡ [] → ⊥) → key (codes "writeResults") ∷ tokens_of (json.array (items_of (map result_json rs))) ≡ member_tokens (listed_results (items_of (map result_json rs)))
+some_results [] some = absurd (some refl)
+some_results (r ∷ rs) some = sym (append-nil (key (codes "writeResults") ∷ tokens_of (json.array (items_of (map result_json (r ∷ rs))))))
 
-pub answer_tokens : (time : ℤ) (text : List ℕ) (rs : List WriteResult) → text ≡ time_text time → begin_object ∷ ((text_member (codes "commitTime") text ++ list_tokens rs) ++ end_object ∷ []) ≡ tokens_of (commit_json time rs)
-answer_tokens time text [] same = rw same refl
-answer_tokens time text (r ∷ rs) same = rw same refl
+-- ---- messages
 
--- the text of tokens that stand alone
-pub text_of_tokens : (before items : List ℕ) (ts : List Token) (d : Data) → before ≡ [] → ts ≡ tokens_of d → items ≡ before ++ print ts → items ≡ compact_text d
-text_of_tokens before items ts d none same printed = printed ∙ rw (none, same) (print-outline d)
+-- a result behind its head
+head_first : (id : Option (List ℕ)) (d : json.Data) → result_head id ++ tokens_of d ≡ member_tokens (result_members id d)
+head_first None d = sym (append-nil (key (codes "result") ∷ tokens_of d))
+head_first (Some id) d = ap (λ ts. key (codes "id") ∷ string id ∷ ts) (sym (append-nil (key (codes "result") ∷ tokens_of d)))
+
+pub headed : (old now : List Token) (id : Option (List ℕ)) (d : json.Data) → now ≡ old ++ result_head id → now ++ tokens_of d ≡ old ++ member_tokens (result_members id d)
+headed old now id d head = ap (λ o. o ++ tokens_of d) head ∙ append_assoc old (result_head id) (tokens_of d) ∙ ap (λ ts. old ++ ts) (head_first id d)
+
+-- the one member of an object, and a text behind it
+one_member : (k : List ℕ) (d : json.Data) (name text : List ℕ) → (key k ∷ (tokens_of d ++ [])) ++ text_member name text ≡ key k ∷ (tokens_of d ++ text_member name text)
+one_member k d name text = ap (λ ts. key k ∷ (ts ++ text_member name text)) (append-nil (tokens_of d))
+
+result_on : (id : Option (List ℕ)) (d : json.Data) (session : List ℕ)
+    → member_tokens (result_members id d) ++ text_member (codes "session") session ≡ member_tokens (json.put (codes "session") (json.string session) (result_members id d))
+result_on None d session = one_member (codes "result") d (codes "session") session
+result_on (Some id) d session = ap (λ ts. key (codes "id") ∷ string id ∷ ts) (one_member (codes "result") d (codes "session") session)
+
+error_on : (id : Option (List ℕ)) (d : json.Data) (session : List ℕ)
+    → member_tokens (error_members id d) ++ text_member (codes "session") session ≡ member_tokens (json.put (codes "session") (json.string session) (error_members id d))
+error_on None d session = one_member (codes "error") d (codes "session") session
+error_on (Some id) d session = ap (λ ts. key (codes "error") ∷ ts) (append_assoc (tokens_of d) (text_member (codes "id") id) (text_member (codes "session") session))
+
+session_last : (m : Message) (session : List ℕ)
+    → member_tokens (message_members m) ++ text_member (codes "session") session ≡ member_tokens (json.put (codes "session") (json.string session) (message_members m))
+session_last (Commit id time results) session = result_on id (commit_json time results) session
+session_last (GetDocument id document) session = result_on id (document_json document) session
+session_last (BatchGetDocuments id answers) session = result_on id (answers_json answers) session
+session_last (RunQuery id documents time) session = result_on id (json.array (query_answers_json documents time)) session
+session_last (Error id code message) session = error_on id (error_json code message) session
+
+-- a message on its session
+pub message_tokens : (m : Message) (session : List ℕ)
+    → begin_object ∷ ((member_tokens (message_members m) ++ text_member (codes "session") session) ++ end_object ∷ []) ≡ tokens_of (message_json_on session m)
+message_tokens m session =
+    ap (λ ts. begin_object ∷ (ts ++ end_object ∷ [])) (session_last m session) ∙ object_tokens (json.put (codes "session") (json.string session) (message_members m))
+
+-- ---- lists
+
+abbrev rest_of : {A : Type 0} → (A → json.Data) → List A → List Token
+rest_of json_of xs = items_tokens (items_outline (items_of (map json_of xs)))
+
+-- one item more: what is written, and the tokens of those that are left with their bracket, stay the whole
+pub next_item : {A : Type 0} (json_of : A → json.Data) (xs : List A) (i : ℕ) (x : A) (now new whole : List Token) → i < length xs → x ≡ get_or xs i x
+    → new ≡ now ++ tokens_of (json_of x) → now ++ rest_of json_of (drop i xs) ≡ whole → new ++ rest_of json_of (drop (i + 1) xs) ≡ whole
+next_item json_of xs i x now new whole within is one so_far =
+    let rest = rest_of json_of (drop (i + 1) xs) in
+    let step : rest_of json_of (drop i xs) ≡ tokens_of (json_of x) ++ rest = at_drop_more (rest_of json_of) xs i x within ∙ ap (λ y. tokens_of (json_of y) ++ rest) (sym is) in
+    ap (λ ts. ts ++ rest) one ∙ append_assoc now (tokens_of (json_of x)) rest ∙ ap (λ ts. now ++ ts) (sym step) ∙ so_far

@@ -1,145 +1,55 @@
-//! What a commit is answered, written straight to its line: where a script has many commits, a tree of JSON values for each
-//! answer would take a tenth of its run.
-ghost use Rattle.std.specs.Prelude.{◌≡◌, ◌++◌, IfOk, OnOk};
-ghost use Rattle.std.specs.Bool.{OnTrue};
-ghost use Rattle.std.specs.List.{AllByRecursion};
-ghost use Rattle.fs_rpc.specs.MessageJson.{commit_json, message_json_on};
-ghost use Rattle.fs_rpc.specs.declared.message.Message.TheVariants.{Commit};
-ghost use Rattle.serde_json.specs.Written.{compact_text};
+//! What a commit is answered, on its line.
+ghost use Rattle.std.specs.Prelude.{◌≡◌, ◌++◌, map, OnOk};
+ghost use Rattle.serde_json.specs.Data.{array, no_members};
+ghost use Rattle.serde_json.specs.View.{items_of};
+ghost use Rattle.fs_rpc.specs.MessageJson.{commit_json, with_results};
 ghost use Rattle.fs_time.specs.Rfc3339.{time_text};
-ghost use Rattle.fs_writejson.specs.Results.{result_json};
-ghost use Rattle.fs_replay.specs.Reply.{json_line};
-ghost use Rattle.fs_replay.specs.Tokens.{id_tokens, IsPlain, list_tokens, results_tokens, text_member, tokens_of, updated_tokens};
+ghost use Rattle.fs_writejson.specs.Results.{result_json, updated_member, with_results as with_transforms};
+ghost use Rattle.fs_valjson.specs.Tokens.{member_tokens, tokens_of};
 
-use fs_path::Text;
 use fs_time::{Micros, print};
+use fs_valjson::{push_list, push_text, push_time};
+use fs_value::Values;
 use fs_write::WriteResult;
 use json::Writer;
 use std::alloc::{AllocError, Global};
 
-/// Whether no write had transforms.
-pub fn are_plain(results: &[WriteResult]) -> bool
-    ensures { OnTrue result (AllByRecursion IsPlain results.now) }
-{
-    match results {
-        [] => true,
-        [first, rest @ ..] => first.transforms.is_empty() && are_plain(rest),
-    }
-}
-
-/// Adds what a commit is answered whose writes had no transforms, on a line of its own.
+/// Writes what a commit is answered.
 ///
-/// `{"id":"1","result":{"commitTime":"2024-01-01T00:00:00Z","writeResults":[{"updateTime":"2024-01-01T00:00:00Z"}]},
-/// "session":"a"}`
+/// `{"commitTime":"2024-01-01T00:00:00Z","writeResults":[{"transformResults":[{"integerValue":"3"}],
+/// "updateTime":"2024-01-01T00:00:00Z"}]}`
 pub fn push_commit(
     alloc: Global,
-    session: &str,
-    id: &Option<Text>,
+    line: &mut Writer,
     time: Micros,
     results: &[WriteResult],
-    out: &mut Vec<u8>,
 ) -> Result<(), AllocError>
-    requires { AllByRecursion IsPlain results.now }
-    ensures { OnOk result (out.new.items
-        ≡ out.old.items ++ json_line (message_json_on session.now (Commit id.now time results.now))) }
+    ensures tokens { OnOk result (line.new.tokens ≡ line.old.tokens ++ tokens_of (commit_json time results.now)) }
+    ensures before { line.new.before ≡ line.old.before }
 {
     let text = print(alloc, time)?;
-    let line = line_of(alloc, session, id, time, &text, results)?;
-    out.extend_from_slice(&line)?;
-    Ok(out.push(b'\n')?)
+    push_timed(alloc, line, time, &text, results)
 }
 
-// The line without its newline.
-fn line_of(
-    alloc: Global,
-    session: &str,
-    id: &Option<Text>,
-    time: Micros,
-    text: &str,
-    results: &[WriteResult],
-) -> Result<Vec<u8>, AllocError>
-    requires plain { AllByRecursion IsPlain results.now }
-    requires text { text.now ≡ time_text time }
-    ensures { IfOk result (λ b. b.items ≡ compact_text (message_json_on session.now (Commit id.now time results.now))) }
-{
-    let mut line = Writer::new(Vec::with_capacity(alloc, 256)?);
-    push_message(alloc, &mut line, session, id, time, text, results)?;
-    Ok(line.into_inner())
-}
-
-fn push_message(
-    alloc: Global,
-    line: &mut Writer,
-    session: &str,
-    id: &Option<Text>,
-    time: Micros,
-    text: &str,
-    results: &[WriteResult],
-) -> Result<(), AllocError>
-    requires plain { AllByRecursion IsPlain results.now }
-    requires text { text.now ≡ time_text time }
-    ensures tokens { OnOk result (line.new.tokens
-        ≡ line.old.tokens ++ tokens_of (message_json_on session.now (Commit id.now time results.now))) }
-    ensures before { line.new.before ≡ line.old.before }
-{
-    line.begin_object()?;
-    push_id(line, id)?;
-    line.key("result")?;
-    push_answer(alloc, line, time, text, results)?;
-    push_member(line, "session", session)?;
-    line.end_object()
-}
-
-fn push_id(line: &mut Writer, id: &Option<Text>) -> Result<(), AllocError>
-    ensures tokens { OnOk result (line.new.tokens ≡ line.old.tokens ++ id_tokens id.now) }
-    ensures before { line.new.before ≡ line.old.before }
-{
-    match id {
-        Some(id) => push_member(line, "id", id.as_str()),
-        None => Ok(()),
-    }
-}
-
-fn push_answer(
+// The same, with the text of the time.
+fn push_timed(
     alloc: Global,
     line: &mut Writer,
     time: Micros,
     text: &str,
     results: &[WriteResult],
 ) -> Result<(), AllocError>
-    requires plain { AllByRecursion IsPlain results.now }
-    requires text { text.now ≡ time_text time }
+    requires { text.now ≡ time_text time }
     ensures tokens { OnOk result (line.new.tokens ≡ line.old.tokens ++ tokens_of (commit_json time results.now)) }
     ensures before { line.new.before ≡ line.old.before }
 {
     line.begin_object()?;
-    push_member(line, "commitTime", text)?;
-    push_list(alloc, line, time, text, results)?;
+    push_text(line, "commitTime", text)?;
+    push_results(alloc, line, time, text, results)?;
     line.end_object()
 }
 
 // The results, which are left out where there are none.
-fn push_list(
-    alloc: Global,
-    line: &mut Writer,
-    time: Micros,
-    text: &str,
-    results: &[WriteResult],
-) -> Result<(), AllocError>
-    requires plain { AllByRecursion IsPlain results.now }
-    requires text { text.now ≡ time_text time }
-    ensures tokens { OnOk result (line.new.tokens ≡ line.old.tokens ++ list_tokens results.now) }
-    ensures before { line.new.before ≡ line.old.before }
-{
-    if results.is_empty() {
-        return Ok(());
-    }
-    line.key("writeResults")?;
-    line.begin_array()?;
-    push_results(alloc, line, time, text, results)
-}
-
-// The results that are left, and the bracket behind them.
 fn push_results(
     alloc: Global,
     line: &mut Writer,
@@ -147,18 +57,35 @@ fn push_results(
     text: &str,
     results: &[WriteResult],
 ) -> Result<(), AllocError>
-    requires plain { AllByRecursion IsPlain results.now }
-    requires text { text.now ≡ time_text time }
-    ensures tokens { OnOk result (line.new.tokens ≡ line.old.tokens ++ results_tokens results.now) }
+    requires { text.now ≡ time_text time }
+    ensures tokens { OnOk result (line.new.tokens
+        ≡ line.old.tokens ++ member_tokens (with_results (items_of (map result_json results.now)))) }
     ensures before { line.new.before ≡ line.old.before }
 {
-    match results {
-        [] => line.end_array(),
-        [first, rest @ ..] => {
-            push_result(alloc, line, time, text, first)?;
-            push_results(alloc, line, time, text, rest)
-        }
+    if results.is_empty() {
+        return Ok(());
     }
+    line.key("writeResults")?;
+    push_each(alloc, line, time, text, results)
+}
+
+fn push_each(
+    alloc: Global,
+    line: &mut Writer,
+    time: Micros,
+    text: &str,
+    results: &[WriteResult],
+) -> Result<(), AllocError>
+    requires { text.now ≡ time_text time }
+    ensures tokens { OnOk result (line.new.tokens
+        ≡ line.old.tokens ++ tokens_of (array (items_of (map result_json results.now)))) }
+    ensures before { line.new.before ≡ line.old.before }
+{
+    line.begin_array()?;
+    for answer in results {
+        push_result(alloc, line, time, text, answer)?;
+    }
+    line.end_array()
 }
 
 fn push_result(
@@ -168,14 +95,26 @@ fn push_result(
     text: &str,
     answer: &WriteResult,
 ) -> Result<(), AllocError>
-    requires plain { IsPlain answer.now }
-    requires text { text.now ≡ time_text time }
+    requires { text.now ≡ time_text time }
     ensures tokens { OnOk result (line.new.tokens ≡ line.old.tokens ++ tokens_of (result_json answer.now)) }
     ensures before { line.new.before ≡ line.old.before }
 {
     line.begin_object()?;
+    push_transforms(alloc, line, &answer.transforms)?;
     push_updated(alloc, line, time, text, answer.updated)?;
     line.end_object()
+}
+
+// The results of transforms, where there were any.
+fn push_transforms(alloc: Global, line: &mut Writer, values: &Values) -> Result<(), AllocError>
+    ensures tokens { OnOk result (line.new.tokens ≡ line.old.tokens ++ member_tokens (with_transforms values.now no_members)) }
+    ensures before { line.new.before ≡ line.old.before }
+{
+    if values.is_empty() {
+        return Ok(());
+    }
+    line.key("transformResults")?;
+    push_list(alloc, line, values)
 }
 
 // The time of an update is most often that of the commit, whose text is there.
@@ -187,24 +126,11 @@ fn push_updated(
     updated: Option<Micros>,
 ) -> Result<(), AllocError>
     requires { text.now ≡ time_text time }
-    ensures tokens { OnOk result (line.new.tokens ≡ line.old.tokens ++ updated_tokens updated) }
+    ensures tokens { OnOk result (line.new.tokens ≡ line.old.tokens ++ member_tokens (updated_member updated)) }
     ensures before { line.new.before ≡ line.old.before }
 {
     match updated {
-        Some(at) => if at == time {
-            push_member(line, "updateTime", text)
-        } else {
-            push_member(line, "updateTime", &print(alloc, at)?)
-        },
+        Some(at) => push_time(alloc, line, "updateTime", at, time, text),
         None => Ok(()),
     }
-}
-
-// A member that is a text.
-fn push_member(line: &mut Writer, name: &str, text: &str) -> Result<(), AllocError>
-    ensures tokens { OnOk result (line.new.tokens ≡ line.old.tokens ++ text_member name.now text.now) }
-    ensures before { line.new.before ≡ line.old.before }
-{
-    line.key(name)?;
-    line.string(text)
 }

@@ -6,9 +6,9 @@ ghost use Rattle.fs_rpc.specs.MessageJson.{error_json, refused};
 ghost use Rattle.fs_replay.specs.Outboxes.{message_line, message_lines};
 ghost use Rattle.fs_replay.specs.Reply.{json_line, line_error, refusal_json, refused_json};
 
-use crate::commit_line::{are_plain, push_commit};
+use crate::message_line::line_of;
 use fs_path::Text;
-use fs_rpc::{Message, error_json, message_json_on};
+use fs_rpc::{Message, error_json};
 use fs_status::{Reason, Refusal, message};
 use serde_json::{Value, json};
 use std::alloc::{AllocError, Global};
@@ -83,15 +83,9 @@ pub fn say(
 ) -> Result<(), AllocError>
     ensures { OnOk result (out.new.items ≡ out.old.items ++ message_line session.now message.now) }
 {
-    if let Message::Commit { id, time, results } = message
-        && are_plain(results.as_slice())
-    {
-        return push_commit(alloc, session, id, *time, results.as_slice(), out);
-    }
-    let line = message_json_on(alloc, session, message)?;
-    let said = push_line(alloc, out, &line);
-    drop(line);
-    said
+    let line = line_of(alloc, session, message)?;
+    out.extend_from_slice(&line)?;
+    Ok(out.push(b'\n')?)
 }
 
 /// Adds messages of a session.

@@ -1,12 +1,20 @@
-use Rattle.std.proofs.Common.{◌≡◌, OnOk, subst}
+use Rattle.std.proofs.Common.{◌≡◌, ◌∷◌, ◌++◌, [], OnOk, ap, ◌∙◌, subst}
 use Rattle.json.specs.Token.{begin_object, end_object}
-use Rattle.fs_replay.specs.Tokens.{updated_tokens}
-use Rattle.fs_replay.proofs.Tokens.{around, result_tokens}
+use Rattle.serde_json.specs.Data.{no_members}
+use Rattle.fs_writejson.specs.Results.{result_json, updated_member, with_results}
+use Rattle.fs_valjson.specs.TokenLaws.{around, behind_both, object_tokens}
+use Rattle.fs_valjson.specs.Tokens.{member_tokens}
+use Rattle.fs_replay.proofs.Tokens.{transforms_first}
 use Rattle.fs_replay.proofs.commit_line.push_result.Goals as goal
 
 pub returns-clause-tokens : goal.returns-clause-tokens
+unfolding result_json
 returns-clause-tokens c =
     let r = c.args.answer.now in
+    let transforms = member_tokens (with_results r.transforms no_members) in
+    let updated = member_tokens (updated_member r.updated) in
+    let both = behind_both c.begin_object.new.self.tokens _ _ transforms updated c.in_ok-push_transforms.ensures.tokens c.in_ok-push_updated.ensures.tokens in
     subst (λ ts. OnOk c.end_object.result (c.end_object.new.self.tokens ≡ ts))
-    (around c.args.line.now.tokens c.begin_object.new.self.tokens c.push_updated.new.line.tokens begin_object end_object (updated_tokens r.updated) _ c.in_ok-begin_object.ensures.ok c.in_ok-push_updated.ensures.tokens (result_tokens r c.requires.plain))
+    (around c.args.line.now.tokens _ _ begin_object end_object (transforms ++ updated) _ c.in_ok-begin_object.ensures.ok both
+    (ap (λ ts. begin_object ∷ (ts ++ end_object ∷ [])) (transforms_first r.transforms (updated_member r.updated)) ∙ object_tokens (with_results r.transforms (updated_member r.updated))))
     c.end_object.ensures.ok

@@ -1,13 +1,12 @@
 use Rattle.std.proofs.Common.{◌++◌, ◌∙◌, ap}
 use Rattle.fs_rpc.specs.MessageJson.{message_json_on}
-use Rattle.fs_rpc.specs.declared.message.Message.TheVariants.{Commit}
-use Rattle.fs_replay.specs.Tokens.{tokens_of}
-use Rattle.fs_replay.proofs.Tokens.{text_of_tokens}
-use Rattle.fs_replay.proofs.commit_line.line_of.Goals as goal
+use Rattle.fs_valjson.specs.TokenLaws.{text_of_tokens}
+use Rattle.fs_valjson.specs.Tokens.{tokens_of}
+use Rattle.fs_replay.proofs.message_line.line_of.Goals as goal
 
 pub returns : goal.returns
 returns c =
-    let d = message_json_on c.args.session.now (Commit c.args.id.now c.args.time c.args.results.now) in
+    let d = message_json_on c.args.session.now c.args.message.now in
     let none = c.in_ok-push_message.ensures.before ∙ c.new-line.ensures.before ∙ c.in_ok-with_capacity.ensures.items in
     let pushed = c.in_ok-push_message.ensures.tokens ∙ ap (λ ts. ts ++ tokens_of d) c.new-line.ensures.tokens in
     text_of_tokens _ _ _ d none pushed c.into_inner.ensures.items

@@ -1,0 +1,15 @@
+use Rattle.std.proofs.Common.{◌≡◌, ◌++◌, map, drop}
+use Rattle.json.specs.Tree.{items_tokens}
+use Rattle.serde_json.specs.Data.{array}
+use Rattle.serde_json.specs.View.{items_of}
+use Rattle.serde_json.specs.Written.{items_outline}
+use Rattle.fs_valjson.specs.Tokens.{tokens_of}
+use Rattle.fs_writejson.specs.Results.{result_json}
+use Rattle.fs_replay.proofs.commit_line.push_each.Given as goal
+
+-- what is written so far, and the tokens of the results that are left with their bracket, are the list
+abbrev pub invariant-loop-answer : goal.invariant-loop-answer
+invariant-loop-answer l = record {
+  whole : l.line.tokens ++ items_tokens (items_outline (items_of (map result_json (drop l.answer-index l.results)))) ≡ l.fn.line.tokens ++ tokens_of (array (items_of (map result_json l.results)));
+  before : l.line.before ≡ l.fn.line.before;
+}

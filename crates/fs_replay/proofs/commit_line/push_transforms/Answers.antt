@@ -1,0 +1,16 @@
+use Rattle.std.proofs.Common.{◌≡◌, ◌∷◌, ◌++◌, [], codes, OnOk, ap, ◌∙◌, subst, rules, refl}
+use Rattle.json.specs.Token.{key}
+use Rattle.fs_valjson.specs.TokenLaws.{behind_both}
+use Rattle.fs_valjson.specs.Tokens.{tokens_of}
+use Rattle.fs_valjson.specs.Writing.{list_json}
+use Rattle.fs_replay.proofs.Tokens.{some_transforms}
+use Rattle.fs_replay.proofs.commit_line.push_transforms.Goals as goal
+
+pub returns-clause-tokens : goal.returns-clause-tokens
+returns-clause-tokens c =
+    let old = c.args.line.now.tokens in
+    let ds = c.args.values.now in
+    let some : ds ≡ [] → ⊥ = λ none. search rules in
+    subst (λ ts. OnOk c.push_list.result (c.push_list.new.line.tokens ≡ ts))
+    (behind_both old c.key.new.self.tokens _ (key (codes "transformResults") ∷ []) (tokens_of (list_json ds)) c.in_ok-key.ensures.ok refl ∙ ap (λ ts. old ++ ts) (some_transforms ds some))
+    c.push_list.ensures.tokens
