@@ -1,9 +1,11 @@
 -- Laws that other crates cite: what is read as a name is one.
 use Rattle.std.proofs.Common.{◌≡◌, ℕ, List, Result, Ok, Err, IfOk, refl}
+use Rattle.fs_path.specs.Database.{database_of, IsDatabase}
 use Rattle.fs_path.specs.Document.{document_of, parent_of, reference_of, IsDocument, IsDocumentOf, IsParentOf}
 use Rattle.fs_path.specs.declared.error.PathError.{PathError}
 use Rattle.fs_path.specs.declared.name.Root.{Root}
 use Rattle.fs_path.specs.declared.place.Rule.TheVariants.{G}
+use Rattle.fs_path.proofs.Databases.{database_taken}
 use Rattle.fs_path.proofs.Documents.{document_found, parent_found, reference_found}
 use Rattle.serde_json.specs.Data.{Data}
 use Rattle.serde_json.specs.Find.{as_str}
@@ -25,6 +27,10 @@ pub document_name_is : (root : Root) (d : Data) (place : List ℕ) → IfOk (doc
 document_name_is root d place =
     at_last_holds (IsDocumentOf root) (or_fault G place (as_str d)) _
     (λ text. path_holds (IsDocumentOf root) place (document_of root text) (λ n found. (document_found root text n found).0))
+
+-- the name of the root's database
+pub database_is : (root : Root) (text place : List ℕ) → IfOk (path_at place (database_of root text)) (λ u. IsDatabase root)
+database_is root text place = path_holds (λ u. IsDatabase root) place (database_of root text) (λ u found. ((database_taken root text).0 found).0)
 
 -- what has collections: the root's documents, or one of them
 pub parent_is : (root : Root) (text place : List ℕ) → IfOk (path_at place (parent_of root text)) (IsParentOf root)
