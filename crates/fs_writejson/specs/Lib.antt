@@ -6,6 +6,7 @@ pub mod Rules
 pub mod Written
 pub mod Results
 pub mod Valid
+pub mod ValidLaws
 pub mod Steps
 pub mod Held
 pub mod FloatLaws

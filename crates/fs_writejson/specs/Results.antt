@@ -7,7 +7,7 @@ use Rattle.serde_json.specs.Data as json
 use Rattle.fs_value.specs.Data.{Data, items_of}
 use Rattle.fs_json.specs.Time.{time_json}
 use Rattle.fs_valjson.specs.Reading.{list_at}
-use Rattle.fs_valjson.specs.Valid.{IsTimeHeld}
+use Rattle.fs_valjson.specs.Held.{IsTimeHeld}
 use Rattle.fs_valjson.specs.Writing.{list_json, ItemsHaveNames}
 use Rattle.fs_write.specs.declared.write_result.WriteResult.{WriteResult}
 

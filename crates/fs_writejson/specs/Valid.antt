@@ -1,4 +1,4 @@
--- The writes that are read back from what is written of them.
+-- The writes that are read back from what is written of them, and those that are read.
 use Rattle.std.specs.Prelude.{◌≡◌, None}
 use Rattle.std.specs.List.{AllByRecursion}
 use Rattle.fs_path.specs.Document.{IsDocumentOf}
@@ -9,10 +9,17 @@ use Rattle.fs_write.specs.Rules.{input, operand, rule_of_write}
 use Rattle.fs_write.specs.WrittenName.{written_name}
 use Rattle.fs_write.specs.declared.transform.Transform.{Transform}
 use Rattle.fs_write.specs.declared.write.Write.{Write}
+use Rattle.fs_writejson.specs.declared.draft.Draft.{Draft}
 
 -- the references in the elements of an array transform are names of documents
 abbrev pub HasNames : Transform → Type 0
 HasNames t = ItemsHaveNames (items_of (operand t.operation))
+
+-- a draft's write is of one of the root's documents, and its references are names of documents
+pub record IsDraftOf (root : Root) (draft : Draft) : Type 0 where
+  pub named : IsDocumentOf root (written_name draft.write)
+  pub fields : MembersHaveNames (members_of (input draft.write.act))
+  pub elements : AllByRecursion HasNames draft.write.transforms
 
 -- a write of one of the root's documents, whose references are names of documents, and which breaks no rule
 pub record IsWriteOf (root : Root) (w : Write) : Type 0 where

@@ -1,5 +1,6 @@
 //! Reads writes.
-ghost use Rattle.std.specs.Prelude.{◌≡◌, List, Option, option_map};
+ghost use Rattle.std.specs.Prelude.{◌≡◌, List, Option, option_map, IfOk};
+ghost use Rattle.std.specs.List.{AllByRecursion};
 ghost use Rattle.fs_path.specs.Way.{place_of};
 ghost use Rattle.fs_path.specs.declared.field.FieldPath.{FieldPath};
 ghost use Rattle.fs_json.specs.Answer.{Gives};
@@ -7,6 +8,7 @@ ghost use Rattle.serde_json.specs.View.{items_view, view as json};
 ghost use Rattle.fs_write.specs.declared.write.Act.{Act as Acted};
 ghost use Rattle.fs_writejson.specs.Draft.{Beside as Told, act_at, beside_at, draft_at, draft_of, drafts_at, mask_in, with_mask};
 ghost use Rattle.fs_writejson.specs.Rules.{write_at};
+ghost use Rattle.fs_writejson.specs.Valid.{IsDraftOf, IsWriteOf};
 ghost use Rattle.fs_json.specs.Walk.{each_at};
 
 use crate::condition::read_condition_of;
@@ -24,7 +26,10 @@ use std::alloc::Global;
 
 /// Reads one write: the walk, and then the rules of writes, which are told at its place. (v1 reference, "Write".)
 pub fn read_write(alloc: Global, root: &Root, v: &Value, place: &Way<'_>) -> Result<Write, Bad>
-    ensures { Gives (λ w. w) result (write_at root.now (json v.now) (place_of place.now)) }
+    ensures gives { Gives (λ w. w) result (write_at root.now (json v.now) (place_of place.now)) }
+
+    // It writes a document of the root, its references are names of documents, and it breaks no rule.
+    ensures valid { IfOk result (λ w. IsWriteOf root.now w) }
 {
     let draft = read_draft(alloc, root, v, place)?;
     permitted(alloc, draft, place)
@@ -33,7 +38,10 @@ pub fn read_write(alloc: Global, root: &Root, v: &Value, place: &Way<'_>) -> Res
 /// Reads the writes of a commit, each walked whole before the next. Their rules are tested by `judge`, since they come
 /// after the walk of the whole request.
 pub fn read_drafts(alloc: Global, root: &Root, v: &Value, place: &Way<'_>) -> Result<Drafts, Bad>
-    ensures { Gives (λ ds. ds) result (drafts_at root.now (json v.now) (place_of place.now)) }
+    ensures gives { Gives (λ ds. ds) result (drafts_at root.now (json v.now) (place_of place.now)) }
+
+    // Each writes a document of the root, and its references are names of documents.
+    ensures valid { IfOk result (λ ds. AllByRecursion (IsDraftOf root.now) ds) }
 {
     read_items(alloc, root, list(alloc, v, place)?, place)
 }

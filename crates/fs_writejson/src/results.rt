@@ -4,7 +4,7 @@ ghost use Rattle.serde_json.specs.View.{members_view, view as json};
 ghost use Rattle.serde_json.specs.Written.{has_float};
 ghost use Rattle.fs_value.specs.Data.{items_of};
 ghost use Rattle.fs_valjson.specs.Reading.{list_at};
-ghost use Rattle.fs_valjson.specs.Valid.{IsTimeHeld};
+ghost use Rattle.fs_valjson.specs.Held.{IsTimeHeld};
 ghost use Rattle.fs_valjson.specs.Writing.{list_json, ItemsHaveNames};
 ghost use Rattle.fs_writejson.specs.Results.{result_json, IsResultHeld};
 ghost use Rattle.fs_writejson.specs.Steps.{with_results_put, with_updated_put};

@@ -1,8 +1,11 @@
 //! The rules that writes may break though they were walked.
 ghost use Rattle.std.specs.Prelude.{◌≡◌, IfOk};
+ghost use Rattle.std.specs.List.{AllByRecursion};
 ghost use Rattle.fs_path.specs.Way.{place_of};
+ghost use Rattle.fs_path.specs.declared.name.Root.{Root};
 ghost use Rattle.fs_json.specs.Answer.{Gives};
 ghost use Rattle.fs_writejson.specs.Rules.{judged_at, permitted_at, rule_of_draft, rules_at};
+ghost use Rattle.fs_writejson.specs.Valid.{IsDraftOf, IsWriteOf};
 
 use crate::draft::{Draft, Drafts};
 use fs_json::Bad;
@@ -15,7 +18,11 @@ use std::alloc::{AllocError, Global};
 /// delete may not have. 3: a delete with a mask or transforms. 4: the operand of `increment`, `maximum` or `minimum` isn't
 /// an integer. Then those that `fs_write::check` tells.
 pub fn judge(alloc: Global, drafts: Drafts, place: &Way<'_>) -> Result<Writes, Bad>
-    ensures { Gives (λ ws. ws) result (judged_at drafts (place_of place.now)) }
+    ensures gives { Gives (λ ws. ws) result (judged_at drafts (place_of place.now)) }
+
+    // Drafts of the root's documents, whose references are names of documents, are then writes that are read back.
+    ensures valid { (root : Root) → AllByRecursion (IsDraftOf root) drafts
+        → IfOk result (λ ws. AllByRecursion (IsWriteOf root) ws) }
 {
     refuse_broken(alloc, drafts.as_slice(), place)?;
     let writes = drafts.into_vec().into_iter().map(|draft| draft.write);

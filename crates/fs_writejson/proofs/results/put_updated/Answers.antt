@@ -1,6 +1,6 @@
 use Rattle.std.proofs.Common.{Some, IfSome, sym, ap, ◌∙◌}
 use Rattle.fs_json.specs.Time.{time_at}
-use Rattle.fs_valjson.specs.Valid.{IsTimeHeld}
+use Rattle.fs_valjson.specs.Held.{IsTimeHeld}
 use Rattle.fs_writejson.proofs.Written.{on_ok_always}
 use Rattle.fs_writejson.proofs.results.put_updated.Goals as goal
 
