@@ -10,4 +10,5 @@ pub mod Query
 pub mod Steps
 pub mod Written
 pub mod Valid
+pub mod ValidLaws
 pub mod Held

@@ -1,9 +1,10 @@
 //! Reads queries.
-ghost use Rattle.std.specs.Prelude.{◌≡◌, pos};
+ghost use Rattle.std.specs.Prelude.{◌≡◌, pos, IfOk};
 ghost use Rattle.fs_path.specs.Way.{place_of};
 ghost use Rattle.serde_json.specs.View.{view as json};
 ghost use Rattle.fs_json.specs.Answer.{Gives};
 ghost use Rattle.fs_queryjson.specs.Query.{offset_in, permitted_at, query_at, walked_at};
+ghost use Rattle.fs_queryjson.specs.Valid.{IsValid};
 ghost use Rattle.fs_query.specs.Asked.{Asked};
 
 use crate::cursor::read_cursor_of;
@@ -22,7 +23,10 @@ use std::alloc::Global;
 /// Reads a query that goes over collections below the parent: the walk, and then the rules of queries, the least of which is
 /// told at the place of the query itself. (v1 reference, "StructuredQuery".)
 pub fn read_query(alloc: Global, parent: &Ids, v: &Value, place: &Way<'_>) -> Result<Query, Bad>
-    ensures { Gives (λ q. q) result (query_at parent.now (json v.now) (place_of place.now)) }
+    ensures gives { Gives (λ q. q) result (query_at parent.now (json v.now) (place_of place.now)) }
+
+    // It breaks no rule, its references are names of documents, and each of its parts can be told in JSON.
+    ensures valid { IfOk result (λ q. IsValid q) }
 {
     let query = walk_query(alloc, parent, v, place)?;
     judge_query(alloc, query, place)
