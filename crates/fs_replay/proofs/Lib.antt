@@ -7,6 +7,7 @@ mod Json
 mod Tokens
 mod Places
 mod Reading
+mod Removed
 mod Plain
 mod OneLine
 mod Standing

@@ -1,9 +1,12 @@
 -- The lines of a script: what each is read as.
-use Rattle.std.specs.Prelude.{ℕ, ℤ, Bool, List, [], ◌∷◌, length, Option, Some, None, Result, Ok, Err, codes, is_some, nat_lt, option_and_then, if◌then◌else◌}
+use Rattle.std.specs.Prelude.{ℕ, ℤ, Bool, false, ◌&&◌, List, [], ◌∷◌, length, Option, Some, None, Result, Ok, Err, codes, is_some, is_none, nat_lt, option_and_then, if◌then◌else◌}
+use Rattle.std.specs.Cmp.Lexicographic.{slice_cmp}
 use Rattle.std.specs.List.{list_any}
+use Rattle.std.specs.Option.{option_map_or}
+use Rattle.std.specs.Ordering.{nat_cmp, match_ordering}
 use Rattle.std.specs.Str.{is_utf8}
-use Rattle.serde_json.specs.Data.{Data}
-use Rattle.serde_json.specs.Find.{as_bool, as_str, get}
+use Rattle.serde_json.specs.Data.{Data, null, boolean, number, string, array, object, Members, no_members, member}
+use Rattle.serde_json.specs.Find.{as_bool, as_null, as_str, get}
 use Rattle.serde_json.specs.Read.{read}
 use Rattle.fs_path.specs.declared.name.Root.{Root}
 use Rattle.fs_path.specs.declared.place.Rule.TheVariants.{G}
@@ -42,7 +45,7 @@ line_reason (At rule []) = reasons.Line NotAnObject
 line_reason (At rule (b ∷ bs)) = reasons.Rule rule (b ∷ bs)
 line_reason bad = reason_of bad
 
--- ---- lines of their own forms, each told by a member too
+-- ---- lines of other forms than that of a request
 
 -- a line with just a time
 abbrev pub time_line_at : List ℕ → Data → Result ℤ Bad
@@ -65,16 +68,46 @@ abbrev pub line_read : {A : Type 0} → (A → Line) → Result A Bad → Line
 line_read of (Ok x) = of x
 line_read of (Err bad) = line.Refused (line_reason bad)
 
-abbrev pub has : List ℕ → Data → Bool
-has name d = is_some (get name d)
+-- ---- which form a line has: the members that are there tell it, and one that is null isn't there
+--
+--     {"clock":"2024-01-01T00:00:00Z"}                   of the clock
+--     {"session":"s","leave":true}                       a session that leaves
+--     {"session":"s","leave":null,"getDocument":{..}}    a request, as without its leave
+--     {"clock":null}, {"leave":true}, {}                 of no form
 
+abbrev pub is_there : List ℕ → Data → Bool
+is_there name d = option_map_or (λ v. is_none (as_null v)) (get name d) false
+
+-- a session that leaves has both
+abbrev pub leaves_session : Data → Bool
+leaves_session d = is_there (codes "session") d && is_there (codes "leave") d
+
+-- the members without the one of this name
+abbrev pub without_member : List ℕ → Members → Members
+without_member name no_members = no_members
+without_member name (member key d ms) = match_ordering (slice_cmp nat_cmp name key) (member key d (without_member name ms)) ms (member key d (without_member name ms))
+
+abbrev pub without_forms : Members → Members
+without_forms ms = without_member (codes "leave") (without_member (codes "compact") (without_member (codes "clock") ms))
+
+-- a line without the members of the clock, of compactions and of sessions that leave
+abbrev pub bare : Data → Data
+bare null = null
+bare (boolean b) = boolean b
+bare (number n) = number n
+bare (string s) = string s
+bare (array ds) = array ds
+bare (object ms) = object (without_forms ms)
+
+-- What no other form tells is read as a request, whatever of those members it has: they are null, or a leave without a
+-- session. So where it has no session, a member that no form has is at fault at its place, and else the line itself.
 abbrev pub form_of : Root → Data → Line
 form_of root d =
     if is_unbuilt_form d then line.NotBuilt
-    else if has (codes "clock") d then line_read line.Clock (time_line_at (codes "clock") d)
-    else if has (codes "compact") d then line_read line.Compact (time_line_at (codes "compact") d)
-    else if has (codes "leave") d then line_read line.Leave (leave_at d)
-    else line_read line.Asked (session_request_at root d)
+    else if is_there (codes "clock") d then line_read line.Clock (time_line_at (codes "clock") d)
+    else if is_there (codes "compact") d then line_read line.Compact (time_line_at (codes "compact") d)
+    else if leaves_session d then line_read line.Leave (leave_at d)
+    else line_read line.Asked (session_request_at root (bare d))
 
 abbrev pub line_in : Root → Option Data → Line
 line_in root None = line.Refused (reasons.Line NotAnObject)
@@ -93,13 +126,13 @@ abbrev pub line_of : Root → List ℕ → Line
 line_of root [] = line.Empty
 line_of root (b ∷ bs) = if nat_lt longest_line (length (b ∷ bs)) then line.Refused (too_long (length (b ∷ bs))) else line_in root (json_of (b ∷ bs))
 
--- for private clauses: a line whose form is told by a member that no request has
+-- for private clauses: a line that another form tells than that of a request
 abbrev pub told_in : Data → Option Line
 told_in d =
     if is_unbuilt_form d then Some line.NotBuilt
-    else if has (codes "clock") d then Some (line_read line.Clock (time_line_at (codes "clock") d))
-    else if has (codes "compact") d then Some (line_read line.Compact (time_line_at (codes "compact") d))
-    else if has (codes "leave") d then Some (line_read line.Leave (leave_at d))
+    else if is_there (codes "clock") d then Some (line_read line.Clock (time_line_at (codes "clock") d))
+    else if is_there (codes "compact") d then Some (line_read line.Compact (time_line_at (codes "compact") d))
+    else if leaves_session d then Some (line_read line.Leave (leave_at d))
     else None
 
 -- for private clauses: a fault, and not want of memory

@@ -1,10 +1,11 @@
 //! Reading the lines of a script.
 ghost use Rattle.std.specs.Prelude.{◌≡◌, IfOk, codes, map, option_map};
-ghost use Rattle.serde_json.specs.View.{view};
+ghost use Rattle.serde_json.specs.View.{members_view, view};
 ghost use Rattle.fs_json.specs.Answer.{Gives};
 ghost use Rattle.fs_path.specs.Way.{place_of};
+ghost use Rattle.fs_rpc.specs.Envelope.{session_request_at};
 ghost use Rattle.fs_rpc.specs.Times.{required_time_at};
-ghost use Rattle.fs_replay.specs.Line.{form_of, has_any, is_unbuilt_form, IsFault, json_of, leave_at, line_of, line_read, line_reason, time_line_at, told_in};
+ghost use Rattle.fs_replay.specs.Line.{bare, form_of, has_any, is_there, is_unbuilt_form, IsFault, json_of, leave_at, leaves_session, line_of, line_read, line_reason, time_line_at, told_in, without_member};
 
 use crate::limits::LONGEST_LINE;
 use crate::request::Line;
@@ -13,8 +14,9 @@ use fs_path::{Place, Root, Rule, Text, Way};
 use fs_rpc::read_session_request;
 use fs_status::{LineFault, Reason};
 use fs_time::Micros;
-use serde_json::Value;
+use serde_json::{Map, Value};
 use std::alloc::{AllocError, Global};
+use std::mem;
 
 /// The forms of lines that aren't built, each told by a member.
 const UNBUILT_FORMS: [&str; 7] = [
@@ -74,8 +76,8 @@ pub fn read_line(alloc: Global, root: &Root, line: &[u8]) -> Result<Line, AllocE
         return Ok(Line::Refused(Reason::Line(LineFault::HasBytes(bytes))));
     }
     match json_of(alloc, line)? {
-        Some(v) => {
-            let line = line_in(alloc, root, &v);
+        Some(mut v) => {
+            let line = line_in(alloc, root, &mut v);
             drop(v);
             line
         }
@@ -83,36 +85,101 @@ pub fn read_line(alloc: Global, root: &Root, line: &[u8]) -> Result<Line, AllocE
     }
 }
 
-// No member of a request tells another form, so that is looked for only where a line isn't read as a request.
-fn line_in(alloc: Global, root: &Root, v: &Value) -> Result<Line, AllocError>
-    ensures { IfOk result (λ l. l ≡ form_of root.now (view v.now)) }
+// No member that is there of a request tells another form, so that is looked for only where a line isn't read as a request.
+fn line_in(alloc: Global, root: &Root, v: &mut Value) -> Result<Line, AllocError>
+    ensures { IfOk result (λ l. l ≡ form_of root.now (view v.old)) }
 {
     match read_session_request(alloc, root, v) {
         Ok(asked) => Ok(Line::Asked(asked)),
-        Err(bad) => match told_line(alloc, v)? {
-            Some(line) => Ok(line),
-            None => refused(bad),
-        },
+        Err(bad) => {
+            drop(bad);
+            other_line(alloc, root, v)
+        }
     }
 }
 
-// The line whose form a member tells that no request has.
+// A line of any form.
+fn other_line(alloc: Global, root: &Root, v: &mut Value) -> Result<Line, AllocError>
+    ensures { IfOk result (λ l. l ≡ form_of root.now (view v.old)) }
+{
+    match told_line(alloc, v)? {
+        Some(line) => Ok(line),
+        None => bare_line(alloc, root, v),
+    }
+}
+
+// The line that another form tells than that of a request.
 fn told_line(alloc: Global, v: &Value) -> Result<Option<Line>, AllocError>
     ensures { IfOk result (λ found. found ≡ told_in (view v.now)) }
 {
     if is_unbuilt_form(v) {
         return Ok(Some(Line::NotBuilt));
     }
-    if v.get(CLOCK).is_some() {
+    if is_there(v, CLOCK) {
         return Ok(Some(clock_in(alloc, v)?));
     }
-    if v.get(COMPACT).is_some() {
+    if is_there(v, COMPACT) {
         return Ok(Some(compact_in(alloc, v)?));
     }
-    if v.get(LEAVE).is_some() {
+    if leaves_session(v) {
         return Ok(Some(leave_in(alloc, v)?));
     }
     Ok(None)
+}
+
+// Whether a member is there: one that is null isn't.
+fn is_there(v: &Value, name: &str) -> bool
+    ensures { result ≡ is_there name.now (view v.now) }
+{
+    match v.get(name) {
+        Some(found) => !found.is_null(),
+        None => false,
+    }
+}
+
+fn leaves_session(v: &Value) -> bool
+    ensures { result ≡ leaves_session (view v.now) }
+{
+    is_there(v, SESSION) && is_there(v, LEAVE)
+}
+
+// The line as a request, with the members of other forms taken out, none of which tells one.
+fn bare_line(alloc: Global, root: &Root, v: &mut Value) -> Result<Line, AllocError>
+    ensures { IfOk result (λ l. l ≡ line_read Line.Asked (session_request_at root.now (bare (view v.old)))) }
+{
+    let bare = bare_of(mem::replace(v, Value::Null));
+    let line = request_in(alloc, root, &bare);
+    drop(bare);
+    line
+}
+
+fn request_in(alloc: Global, root: &Root, v: &Value) -> Result<Line, AllocError>
+    ensures { IfOk result (λ l. l ≡ line_read Line.Asked (session_request_at root.now (view v.now))) }
+{
+    match read_session_request(alloc, root, v) {
+        Ok(asked) => Ok(Line::Asked(asked)),
+        Err(bad) => refused(bad),
+    }
+}
+
+fn bare_of(v: Value) -> Value
+    ensures { view result ≡ bare (view v) }
+{
+    match v {
+        Value::Object(mut members) => {
+            remove(&mut members, CLOCK);
+            remove(&mut members, COMPACT);
+            remove(&mut members, LEAVE);
+            Value::Object(members)
+        }
+        other => other,
+    }
+}
+
+fn remove(members: &mut Map<String, Value>, name: &str)
+    ensures { members_view members.new.entries ≡ without_member name.now (members_view members.old.entries) }
+{
+    drop(members.remove(name));
 }
 
 fn clock_in(alloc: Global, v: &Value) -> Result<Line, AllocError>

@@ -1,10 +1,7 @@
-use Rattle.std.proofs.Common.{sym, ◌∙◌}
+use Rattle.std.proofs.Common.{sym}
 use Rattle.serde_json.specs.View.{view}
-use Rattle.fs_replay.proofs.Plain.{form_asked, form_told}
+use Rattle.fs_replay.proofs.Plain.{form_asked}
 use Rattle.fs_replay.proofs.line.line_in.Goals as goal
 
 pub returns-in-Ok : goal.returns-in-Ok
 returns-in-Ok c = sym (form_asked c.args.root.now (view c.args.v.now) c.in-Ok.asked c.in-Ok.ensures)
-
-pub returns-in-Some : goal.returns-in-Some
-returns-in-Some c = sym (form_told c.args.root.now (view c.args.v.now) c.in-Some.line (sym c.in_ok-line-in-Err.ensures ∙ c.in-Some.is))
