@@ -1,12 +1,12 @@
-//! What is answered, written straight to its line: a tree of JSON values for each answer would take half the time of a read.
-ghost use Rattle.std.specs.Prelude.{◌≡◌, ◌++◌, ℕ, List, Option, IfOk, OnOk};
-ghost use Rattle.serde_json.specs.Data.{no_members};
+//! What is answered, written straight to its line: a tree of JSON values for each answer would take a third of the time of a
+//! read.
+ghost use Rattle.std.specs.Prelude.{◌≡◌, ◌++◌, IfOk, OnOk};
+ghost use Rattle.serde_json.specs.Data.{array, no_members};
 ghost use Rattle.serde_json.specs.Written.{compact_text};
 ghost use Rattle.fs_rpc.specs.MessageJson.{commit_json, error_json, error_members, message_json_on, message_members, query_answers_json, result_members, with_id};
-ghost use Rattle.fs_replay.specs.Tokens.{answers_json, code_member, result_head};
 ghost use Rattle.fs_valjson.specs.Document.{document_json};
 ghost use Rattle.fs_valjson.specs.Tokens.{member_tokens, tokens_of};
-ghost use Rattle.serde_json.specs.Data.{array};
+ghost use Rattle.fs_replay.specs.Tokens.{answers_json, code_member, result_head};
 
 use crate::commit_line::push_commit;
 use crate::reads_line::{push_answers, push_query_answers};
@@ -27,7 +27,7 @@ const ROOM: usize = 1024;
 ///
 /// `{"id":"1","result":{"commitTime":"2024-01-01T00:00:00Z","writeResults":[{"updateTime":"2024-01-01T00:00:00Z"}]},
 /// "session":"a"}`
-pub fn line_of(alloc: Global, session: &str, message: &Message) -> Result<Vec<u8>, AllocError>
+pub fn message_bytes(alloc: Global, session: &str, message: &Message) -> Result<Vec<u8>, AllocError>
     ensures { IfOk result (λ b. b.items ≡ compact_text (message_json_on session.now message.now)) }
 {
     let mut line = Writer::new(Vec::with_capacity(alloc, ROOM)?);

@@ -1,5 +1,5 @@
 //! What reads of several documents are answered, on their lines.
-ghost use Rattle.std.specs.Prelude.{◌≡◌, ◌++◌, [], map, OnOk};
+ghost use Rattle.std.specs.Prelude.{◌≡◌, ◌++◌, [], codes, map, OnOk};
 ghost use Rattle.serde_json.specs.Data.{array, member, object, string};
 ghost use Rattle.serde_json.specs.View.{items_of};
 ghost use Rattle.fs_path.specs.Document.{document_text};
@@ -8,7 +8,6 @@ ghost use Rattle.fs_time.specs.Rfc3339.{time_text};
 ghost use Rattle.fs_valjson.specs.Document.{document_json};
 ghost use Rattle.fs_valjson.specs.Tokens.{tokens_of};
 ghost use Rattle.fs_replay.specs.Tokens.{answers_json};
-ghost use Rattle.std.specs.Prelude.{codes};
 
 use fs_path::{DocName, print_document};
 use fs_rpc::BatchAnswer;

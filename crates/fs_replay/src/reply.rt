@@ -6,7 +6,7 @@ ghost use Rattle.fs_rpc.specs.MessageJson.{error_json, refused};
 ghost use Rattle.fs_replay.specs.Outboxes.{message_line, message_lines};
 ghost use Rattle.fs_replay.specs.Reply.{json_line, line_error, refusal_json, refused_json};
 
-use crate::message_line::line_of;
+use crate::message_line::message_bytes;
 use fs_path::Text;
 use fs_rpc::{Message, error_json};
 use fs_status::{Reason, Refusal, message};
@@ -83,7 +83,7 @@ pub fn say(
 ) -> Result<(), AllocError>
     ensures { OnOk result (out.new.items ≡ out.old.items ++ message_line session.now message.now) }
 {
-    let line = line_of(alloc, session, message)?;
+    let line = message_bytes(alloc, session, message)?;
     out.extend_from_slice(&line)?;
     Ok(out.push(b'\n')?)
 }
