@@ -19,7 +19,8 @@ use Rattle.fs_json.specs.Members.{is_given}
 use Rattle.fs_json.specs.declared.bad.Bad.{Bad}
 use Rattle.fs_valjson.specs.Document.{document_at, document_json}
 use Rattle.fs_valjson.specs.Reading.{list_at}
-use Rattle.fs_valjson.specs.Valid.{IsTimeHeld, IsValid}
+use Rattle.fs_valjson.specs.Held.{IsTimeHeld}
+use Rattle.fs_valjson.specs.Valid.{IsValid}
 use Rattle.fs_valjson.specs.Writing.{list_json}
 use Rattle.fs_value.specs.Data as value
 use Rattle.fs_value.specs.declared.document.Document.{Document}
@@ -27,7 +28,7 @@ use Rattle.fs_write.specs.declared.write_result.WriteResult.{WriteResult}
 use Rattle.fs_writejson.specs.Results.{result_json, IsResultHeld}
 use Rattle.fs_json.specs.Walk.{each_at}
 use Rattle.fs_rpc.specs.MessageJson.{batch_answer_json, commit_json, error_json, error_members, message_json, query_answer_json, query_answers_json, read_at, result_members}
-use Rattle.fs_rpc.specs.MessageSteps.{IsAnswerHeld, IsMessageHeld}
+use Rattle.fs_rpc.specs.MessageSteps.{IsAnswerHeld, IsDocumentHeld, IsMessageHeld}
 use Rattle.fs_rpc.specs.ReadMessage.{answers_commit, answers_names, commit_result_at, error_at, message_at, query_result_at, result_at}
 use Rattle.fs_rpc.specs.ReadResults.{answered, batch_answer_at, query_answer_at, write_result_at}
 use Rattle.fs_rpc.specs.ValidMessage.{HasNames, IsAnswerOf, IsMessageOf}
@@ -35,10 +36,6 @@ use Rattle.fs_rpc.specs.declared.message.BatchAnswer.{BatchAnswer}
 use Rattle.fs_rpc.specs.declared.message.BatchAnswer.TheVariants.{Found, Missing}
 use Rattle.fs_rpc.specs.declared.message.Message.{Message}
 use Rattle.fs_rpc.specs.declared.message.Message.TheVariants.{Commit, GetDocument, BatchGetDocuments, RunQuery, Error}
-
--- documents are read back, as fs_valjson says
-abbrev pub DocumentsAgain : Type 0
-DocumentsAgain = (root : Root) (d : Document) (place : List ℕ) → IsValid root d → document_at root (document_json d) place ≡ Ok d
 
 -- ---- results of writes
 
@@ -82,15 +79,15 @@ missing_again : (root : Root) (name : DocName) (time : ℤ) (place : List ℕ) �
 unfolding batch_answer_at
 missing_again root name time place h t = rw (h, t (member_place place (codes "readTime"))) refl
 
-answer_again : DocumentsAgain → (root : Root) (a : BatchAnswer) (place : List ℕ) → IsAnswerHeld a → IsAnswerOf root a → batch_answer_at root (batch_answer_json a) place ≡ Ok a
-answer_again again root (Found document time) place t valid =
-    found_again root (document_json document) document time place (document_given (codes "found") document) (again root document (member_place place (codes "found")) valid) t
-answer_again again root (Missing name time) place t valid = missing_again root name time place (name_again root name valid) t
+answer_again : (root : Root) (a : BatchAnswer) (place : List ℕ) → IsAnswerHeld a → IsAnswerOf root a → batch_answer_at root (batch_answer_json a) place ≡ Ok a
+answer_again root (Found document time) place held valid =
+    found_again root (document_json document) document time place (document_given (codes "found") document) (held.0 root (member_place place (codes "found")) valid) held.1
+answer_again root (Missing name time) place t valid = missing_again root name time place (name_again root name valid) t
 
-answers_again : DocumentsAgain → (root : Root) (xs : List BatchAnswer) (i : ℕ) (place : List ℕ) → AllByRecursion IsAnswerHeld xs → AllByRecursion (IsAnswerOf root) xs
+answers_again : (root : Root) (xs : List BatchAnswer) (i : ℕ) (place : List ℕ) → AllByRecursion IsAnswerHeld xs → AllByRecursion (IsAnswerOf root) xs
     → each_at (batch_answer_at root) (items_of (map batch_answer_json xs)) i place ≡ Ok xs
-answers_again again root [] i place held valid = refl
-answers_again again root (a ∷ xs) i place held valid = rw (answer_again again root a (item_place place i) held.0 valid.0, answers_again again root xs (i + 1) place held.1 valid.1) refl
+answers_again root [] i place held valid = refl
+answers_again root (a ∷ xs) i place held valid = rw (answer_again root a (item_place place i) held.0 valid.0, answers_again root xs (i + 1) place held.1 valid.1) refl
 
 -- an item of a query's answer
 abbrev pub told : ℤ → Document → Option Document × ℤ
@@ -102,15 +99,15 @@ one_item : (root : Root) (content : Data) (d : Document) (time : ℤ) (place : L
 unfolding query_answer_at
 one_item root content d time place given h t = rw (given, h, t (member_place place (codes "readTime"))) refl
 
-item_again : DocumentsAgain → (root : Root) (time : ℤ) (d : Document) (place : List ℕ) → IsTimeHeld time → IsValid root d
+item_again : (root : Root) (time : ℤ) (d : Document) (place : List ℕ) → IsDocumentHeld d → IsTimeHeld time → IsValid root d
     → query_answer_at root (query_answer_json time d) place ≡ Ok (told time d)
-item_again again root time d place t valid =
-    one_item root (document_json d) d time place (document_given (codes "document") d) (again root d (member_place place (codes "document")) valid) t
+item_again root time d place held t valid =
+    one_item root (document_json d) d time place (document_given (codes "document") d) (held root (member_place place (codes "document")) valid) t
 
-items_again : DocumentsAgain → (root : Root) (time : ℤ) (ds : List Document) (i : ℕ) (place : List ℕ) → IsTimeHeld time → AllByRecursion (IsValid root) ds
+items_again : (root : Root) (time : ℤ) (ds : List Document) (i : ℕ) (place : List ℕ) → AllByRecursion IsDocumentHeld ds → IsTimeHeld time → AllByRecursion (IsValid root) ds
     → each_at (query_answer_at root) (items_of (map (query_answer_json time) ds)) i place ≡ Ok (map (told time) ds)
-items_again again root time [] i place t valid = refl
-items_again again root time (d ∷ ds) i place t valid = rw (item_again again root time d (item_place place i) t valid.0, items_again again root time ds (i + 1) place t valid.1) refl
+items_again root time [] i place held t valid = refl
+items_again root time (d ∷ ds) i place held t valid = rw (item_again root time d (item_place place i) held.0 t valid.0, items_again root time ds (i + 1) place held.1 t valid.1) refl
 
 same_time : (time : ℤ) → int_eq time time ≡ true
 same_time time = int_eq_equiv.refl time
@@ -143,12 +140,12 @@ none_told root time place t = rw (t (member_place (item_place place 0) (codes "r
 abbrev one_answer : Option (List ℕ) → List ℕ → Option (List Document × ℤ) → Result Message Bad
 one_answer id place o = or_fault G place o >>= λ one. Ok (RunQuery id one.0 one.1)
 
-query_again : DocumentsAgain → (root : Root) (id : Option (List ℕ)) (ds : List Document) (time : ℤ) (place : List ℕ) → IsTimeHeld time → AllByRecursion (IsValid root) ds
+query_again : (root : Root) (id : Option (List ℕ)) (ds : List Document) (time : ℤ) (place : List ℕ) → AllByRecursion IsDocumentHeld ds → IsTimeHeld time → AllByRecursion (IsValid root) ds
     → query_result_at root id (query_answers_json ds time) place ≡ Ok (RunQuery id ds time)
-query_again again root id [] time place t valid =
+query_again root id [] time place held t valid =
     ap (λ r. r >>= λ items. one_answer id place (answered items)) (none_told root time place t) ∙ ap (one_answer id place) (none_again time)
-query_again again root id (d ∷ ds) time place t valid =
-    ap (λ r. r >>= λ items. one_answer id place (answered items)) (items_again again root time (d ∷ ds) 0 place t valid) ∙ ap (one_answer id place) (answered_again time d ds)
+query_again root id (d ∷ ds) time place held t valid =
+    ap (λ r. r >>= λ items. one_answer id place (answered items)) (items_again root time (d ∷ ds) 0 place held t valid) ∙ ap (one_answer id place) (answered_again time d ds)
 
 -- ---- results by their shape
 
@@ -165,9 +162,9 @@ no_commit_at name (f ∷ fs) created updated = refl
 no_commit : (d : Document) → answers_commit (document_json d) ≡ false
 no_commit d = no_commit_at d.name d.fields d.created d.updated
 
-document_result : DocumentsAgain → (root : Root) (id : Option (List ℕ)) (d : Document) (place : List ℕ) → IsValid root d → result_at root id (document_json d) place ≡ Ok (GetDocument id d)
+document_result : (root : Root) (id : Option (List ℕ)) (d : Document) (place : List ℕ) → IsDocumentHeld d → IsValid root d → result_at root id (document_json d) place ≡ Ok (GetDocument id d)
 unfolding result_at
-document_result again root id d place valid = rw (no_list d, no_commit d, again root d place valid) refl
+document_result root id d place held valid = rw (no_list d, no_commit d, held root place valid) refl
 
 commit_result : (root : Root) (id : Option (List ℕ)) (time : ℤ) (rs : List WriteResult) (place : List ℕ) → IsTimeHeld time → AllByRecursion IsResultHeld rs → AllByRecursion HasNames rs
     → result_at root id (commit_json time rs) place ≡ Ok (Commit id time rs)
@@ -180,18 +177,18 @@ unfolding document_json
 tells_names (Found document time) xs = refl
 tells_names (Missing name time) xs = refl
 
-names_result : DocumentsAgain → (root : Root) (id : Option (List ℕ)) (xs : List BatchAnswer) (place : List ℕ) → AllByRecursion IsAnswerHeld xs → AllByRecursion (IsAnswerOf root) xs
+names_result : (root : Root) (id : Option (List ℕ)) (xs : List BatchAnswer) (place : List ℕ) → AllByRecursion IsAnswerHeld xs → AllByRecursion (IsAnswerOf root) xs
     → result_at root id (array (items_of (map batch_answer_json xs))) place ≡ Ok (BatchGetDocuments id xs)
 unfolding result_at
-names_result again root id [] place held valid = refl
-names_result again root id (a ∷ xs) place held valid =
-    rw (tells_names a (items_of (map batch_answer_json xs))) (ap (λ r. r >>= λ answers. Ok (BatchGetDocuments id answers)) (answers_again again root (a ∷ xs) 0 place held valid))
+names_result root id [] place held valid = refl
+names_result root id (a ∷ xs) place held valid =
+    rw (tells_names a (items_of (map batch_answer_json xs))) (ap (λ r. r >>= λ answers. Ok (BatchGetDocuments id answers)) (answers_again root (a ∷ xs) 0 place held valid))
 
-query_result : DocumentsAgain → (root : Root) (id : Option (List ℕ)) (ds : List Document) (time : ℤ) (place : List ℕ) → IsTimeHeld time → AllByRecursion (IsValid root) ds
+query_result : (root : Root) (id : Option (List ℕ)) (ds : List Document) (time : ℤ) (place : List ℕ) → AllByRecursion IsDocumentHeld ds → IsTimeHeld time → AllByRecursion (IsValid root) ds
     → result_at root id (array (query_answers_json ds time)) place ≡ Ok (RunQuery id ds time)
 unfolding result_at
-query_result again root id [] time place t valid = query_again again root id [] time place t valid
-query_result again root id (d ∷ ds) time place t valid = query_again again root id (d ∷ ds) time place t valid
+query_result root id [] time place held t valid = query_again root id [] time place held t valid
+query_result root id (d ∷ ds) time place held t valid = query_again root id (d ∷ ds) time place held t valid
 
 -- ---- errors
 
@@ -219,13 +216,13 @@ unfolding message_at
 error_read root None code message = error_again None code message (codes "error")
 error_read root (Some id) code message = error_again (Some id) code message (codes "error")
 
-pub message_again : DocumentsAgain → (root : Root) (m : Message) → IsMessageHeld m → IsMessageOf root m → message_at root (message_json m) ≡ Ok m
-message_again again root (Commit id time results) held valid =
+pub message_again : (root : Root) (m : Message) → IsMessageHeld m → IsMessageOf root m → message_at root (message_json m) ≡ Ok m
+message_again root (Commit id time results) held valid =
     result_read root id (commit_json time results) (Commit id time results) refl (commit_result root id time results (codes "result") held.0 held.1 valid)
-message_again again root (GetDocument id document) held valid =
-    result_read root id (document_json document) (GetDocument id document) (document_given (codes "result") document) (document_result again root id document (codes "result") valid)
-message_again again root (BatchGetDocuments id answers) held valid =
-    result_read root id (array (items_of (map batch_answer_json answers))) (BatchGetDocuments id answers) refl (names_result again root id answers (codes "result") held valid)
-message_again again root (RunQuery id documents time) held valid =
-    result_read root id (array (query_answers_json documents time)) (RunQuery id documents time) refl (query_result again root id documents time (codes "result") held valid)
-message_again again root (Error id code message) held valid = error_read root id code message
+message_again root (GetDocument id document) held valid =
+    result_read root id (document_json document) (GetDocument id document) (document_given (codes "result") document) (document_result root id document (codes "result") held valid)
+message_again root (BatchGetDocuments id answers) held valid =
+    result_read root id (array (items_of (map batch_answer_json answers))) (BatchGetDocuments id answers) refl (names_result root id answers (codes "result") held valid)
+message_again root (RunQuery id documents time) held valid =
+    result_read root id (array (query_answers_json documents time)) (RunQuery id documents time) refl (query_result root id documents time (codes "result") held.0 held.1 valid)
+message_again root (Error id code message) held valid = error_read root id code message

@@ -15,7 +15,7 @@ use Rattle.serde_json.specs.Data.{Members, no_members, member, object, string, p
 use Rattle.fs_json.specs.Answer.{◌>>=◌}
 use Rattle.fs_json.specs.Paths.{document_name_at as name_at, path_at}
 use Rattle.fs_json.specs.Walk.{each_at}
-use Rattle.fs_valjson.specs.Valid.{IsTimeHeld}
+use Rattle.fs_valjson.specs.Held.{IsTimeHeld}
 use Rattle.fs_rpc.specs.Envelope.{envelope_at, session_request_at}
 use Rattle.fs_rpc.specs.Id.{with_id_put}
 use Rattle.fs_rpc.specs.RequestJson.{batch_get_json, name_json, names_json}

@@ -7,7 +7,7 @@ use Rattle.fs_path.specs.declared.field.FieldPath.{FieldPath}
 use Rattle.fs_path.specs.declared.name.DocName.{DocName}
 use Rattle.fs_path.specs.declared.name.Root.{Root}
 use Rattle.serde_json.specs.Data.{Members, no_members, member, object, string, put}
-use Rattle.fs_valjson.specs.Valid.{IsTimeHeld}
+use Rattle.fs_valjson.specs.Held.{IsTimeHeld}
 use Rattle.fs_rpc.specs.Envelope.{envelope_at, session_request_at}
 use Rattle.fs_rpc.specs.Id.{with_id_put}
 use Rattle.fs_rpc.specs.RequestJson.{get_json}

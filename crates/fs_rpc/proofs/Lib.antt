@@ -11,3 +11,5 @@ pub mod BatchGetAgain
 pub mod RunQueryAgain
 pub mod RequestAgain
 pub mod RequestFloats
+pub mod RequestValid
+pub mod MessageValid

@@ -11,7 +11,7 @@ use Rattle.fs_query.specs.Asked.{Asked}
 use Rattle.fs_queryjson.specs.From.{parent_of as scope_parent}
 use Rattle.fs_queryjson.specs.Query.{permitted_at, query_at, walked_at}
 use Rattle.fs_queryjson.specs.Written.{query_json}
-use Rattle.fs_valjson.specs.Valid.{IsTimeHeld}
+use Rattle.fs_valjson.specs.Held.{IsTimeHeld}
 use Rattle.fs_rpc.specs.Envelope.{envelope_at, session_request_at}
 use Rattle.fs_rpc.specs.Id.{with_id_put}
 use Rattle.fs_rpc.specs.RequestJson.{run_query_json, with_read_time}

@@ -2,9 +2,8 @@
 -- the method's content is answered with the session and the id that were read.
 use Rattle.std.specs.Prelude.{ℕ, List, [], ◌++◌, Option, Result, Ok, codes}
 use Rattle.serde_json.specs.Data.{Data}
-use Rattle.serde_json.specs.Find.{as_str, get}
+use Rattle.serde_json.specs.Find.{as_str}
 use Rattle.serde_json.specs.Read.{read}
-use Rattle.std.specs.Prelude.{option_and_then}
 use Rattle.fs_path.specs.declared.name.Root.{Root}
 use Rattle.fs_path.specs.declared.place.Rule.TheVariants.{G}
 use Rattle.fs_json.specs.Answer.{or_fault, ◌>>=◌}
@@ -38,7 +37,3 @@ session_request_at root d = do
 -- a text, as an envelope
 abbrev pub request_of : Root → List ℕ → Result Envelope Bad
 request_of root text = or_fault G [] (read text) >>= envelope_at root
-
--- the id of an object that has one which is a text
-abbrev pub id_in : Data → Option (List ℕ)
-id_in d = option_and_then as_str (get (codes "id") d)

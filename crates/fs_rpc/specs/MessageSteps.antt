@@ -1,10 +1,14 @@
 -- What only private clauses cite: a part of a message as its members are put in one after another, and that the parts of it,
 -- as they are written, are read back.
-use Rattle.std.specs.Prelude.{ℕ, ℤ, List, codes}
+use Rattle.std.specs.Prelude.{◌≡◌, ℕ, ℤ, List, Ok, codes}
 use Rattle.std.specs.List.{AllByRecursion}
+use Rattle.fs_path.specs.declared.name.Root.{Root}
 use Rattle.serde_json.specs.Data.{Data, object, no_members, put}
 use Rattle.fs_json.specs.Time.{time_json}
-use Rattle.fs_valjson.specs.Valid.{IsTimeHeld}
+use Rattle.fs_value.specs.declared.document.Document.{Document}
+use Rattle.fs_valjson.specs.Document.{document_at, document_json}
+use Rattle.fs_valjson.specs.Held.{IsTimeHeld}
+use Rattle.fs_valjson.specs.Valid.{IsValid}
 use Rattle.fs_writejson.specs.Results.{IsResultHeld}
 use Rattle.fs_rpc.specs.declared.message.BatchAnswer.{BatchAnswer}
 use Rattle.fs_rpc.specs.declared.message.BatchAnswer.TheVariants.{Found, Missing}
@@ -17,15 +21,19 @@ timed_put name content time = object (put (codes "readTime") (time_json time) (p
 
 -- ---- what is read back
 
--- the time of what is told of a name
+-- a document
+abbrev pub IsDocumentHeld : Document → Type 0
+IsDocumentHeld d = (root : Root) (place : List ℕ) → IsValid root d → document_at root (document_json d) place ≡ Ok d
+
+-- what is told of a name
 abbrev pub IsAnswerHeld : BatchAnswer → Type 0
-IsAnswerHeld (Found document time) = IsTimeHeld time
+IsAnswerHeld (Found document time) = IsDocumentHeld document × IsTimeHeld time
 IsAnswerHeld (Missing name time) = IsTimeHeld time
 
--- the times and the results of a message
+-- the documents, the times and the results of a message
 abbrev pub IsMessageHeld : Message → Type 0
 IsMessageHeld (Commit id time results) = IsTimeHeld time × AllByRecursion IsResultHeld results
-IsMessageHeld (GetDocument id document) = Unit {0}
+IsMessageHeld (GetDocument id document) = IsDocumentHeld document
 IsMessageHeld (BatchGetDocuments id answers) = AllByRecursion IsAnswerHeld answers
-IsMessageHeld (RunQuery id documents time) = IsTimeHeld time
+IsMessageHeld (RunQuery id documents time) = AllByRecursion IsDocumentHeld documents × IsTimeHeld time
 IsMessageHeld (Error id code message) = Unit {0}

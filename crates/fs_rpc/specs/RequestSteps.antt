@@ -12,7 +12,7 @@ use Rattle.fs_queryjson.specs.From.{parent_of}
 use Rattle.fs_queryjson.specs.Query.{query_at}
 use Rattle.fs_queryjson.specs.Valid.{IsValid}
 use Rattle.fs_queryjson.specs.Written.{query_json}
-use Rattle.fs_valjson.specs.Valid.{IsTimeHeld}
+use Rattle.fs_valjson.specs.Held.{IsTimeHeld}
 use Rattle.fs_write.specs.declared.write.Write.{Write}
 use Rattle.fs_writejson.specs.Mask.{mask_at, mask_json}
 use Rattle.fs_writejson.specs.Rules.{write_at}

@@ -2,11 +2,12 @@
 ghost use Rattle.std.specs.Prelude.{◌≡◌, IfOk};
 ghost use Rattle.serde_json.specs.View.{view};
 ghost use Rattle.fs_json.specs.Answer.{Gives};
-ghost use Rattle.fs_rpc.specs.Envelope.{envelope_at, id_in, request_of, session_request_at};
+ghost use Rattle.fs_rpc.specs.Envelope.{envelope_at, request_of, session_request_at};
 ghost use Rattle.fs_rpc.specs.Requests.{request_at};
+ghost use Rattle.fs_rpc.specs.ValidRequest.{IsRequestOf};
 
 use crate::id::id_of;
-use crate::names::{ENVELOPE_HEAD, ID, METHODS, SESSION, SESSION_HEAD};
+use crate::names::{ENVELOPE_HEAD, METHODS, SESSION, SESSION_HEAD};
 use crate::read::read_method;
 use crate::request::{Envelope, Request};
 use fs_json::{Bad, member, one_of, only_of_two, text};
@@ -29,7 +30,10 @@ pub struct SessionRequest {
 /// `{"session":"s","id":"1","getDocument":{"name":"c"}}` is read, with a request that is refused at `getDocument.name`.
 #[tactic(auto, unfolding(crate::specs::Envelope::session_request_at))]
 pub fn read_session_request(alloc: Global, root: &Root, v: &Value) -> Result<SessionRequest, Bad>
-    ensures { Gives (λ r. r) result (session_request_at root.now (view v.now)) }
+    ensures gives { Gives (λ r. r) result (session_request_at root.now (view v.now)) }
+
+    // Where the request is one, it is of the root's documents.
+    ensures valid { IfOk result (λ r. IfOk r.request (λ x. IsRequestOf root.now x)) }
 {
     let top = Way::method("");
     only_of_two(alloc, v, &SESSION_HEAD, &METHODS, &top)?;
@@ -65,7 +69,10 @@ fn read_apart(
 /// Reads a request with its id. (`formats`: a socket's message has no session.)
 #[tactic(auto, unfolding(crate::specs::Envelope::envelope_at))]
 pub fn read_envelope(alloc: Global, root: &Root, v: &Value) -> Result<Envelope, Bad>
-    ensures { Gives (λ e. e) result (envelope_at root.now (view v.now)) }
+    ensures gives { Gives (λ e. e) result (envelope_at root.now (view v.now)) }
+
+    // It is a request of the root's documents, so what is written of it is read back.
+    ensures valid { IfOk result (λ e. IsRequestOf root.now e.request) }
 {
     let top = Way::method("");
     only_of_two(alloc, v, &ENVELOPE_HEAD, &METHODS, &top)?;
@@ -77,7 +84,8 @@ pub fn read_envelope(alloc: Global, root: &Root, v: &Value) -> Result<Envelope, 
 
 /// Reads a request's text. One that isn't the JSON of an object is at fault at the empty place.
 pub fn read_request(alloc: Global, root: &Root, line: &str) -> Result<Envelope, Bad>
-    ensures { Gives (λ e. e) result (request_of root.now line.now) }
+    ensures gives { Gives (λ e. e) result (request_of root.now line.now) }
+    ensures valid { IfOk result (λ e. IsRequestOf root.now e.request) }
 {
     match Value::from_str(alloc, line) {
         Ok(v) => read_envelope(alloc, root, &v),
@@ -88,15 +96,5 @@ pub fn read_request(alloc: Global, root: &Root, line: &str) -> Result<Envelope, 
                 Err(Bad::at(alloc, Rule::G, &Way::method("")))
             }
         }
-    }
-}
-
-/// The id of an object that has one which is a text. So a request that isn't read is answered with its id all the same.
-pub fn read_id(alloc: Global, v: &Value) -> Result<Option<Text>, AllocError>
-    ensures { IfOk result (λ id. id ≡ id_in (view v.now)) }
-{
-    match v.get(ID) {
-        Some(Value::String(id)) => Ok(Some(Text::from_str(alloc, id.as_str())?)),
-        _ => Ok(None),
     }
 }

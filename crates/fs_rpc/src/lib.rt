@@ -17,7 +17,7 @@ mod request_write;
 mod results;
 mod times;
 
-pub use envelope::{SessionRequest, read_envelope, read_id, read_request, read_session_request};
+pub use envelope::{SessionRequest, read_envelope, read_request, read_session_request};
 pub use message::{Answers, BatchAnswer, Message};
 pub use message_read::read_message;
 pub use message_write::{error_json, message_json, message_json_on, write_message};

@@ -1,5 +1,5 @@
 //! Reads messages.
-ghost use Rattle.std.specs.Prelude.{◌≡◌, ◌↔◌, Some, []};
+ghost use Rattle.std.specs.Prelude.{◌≡◌, ◌↔◌, Some, IfOk, []};
 ghost use Rattle.serde_json.specs.Read.{read};
 ghost use Rattle.serde_json.specs.View.{items_view, view as json};
 ghost use Rattle.fs_path.specs.Way.{place_of};
@@ -8,6 +8,7 @@ ghost use Rattle.fs_json.specs.Answer.{Gives, or_fault};
 ghost use Rattle.fs_status.specs.Status.{status_text};
 ghost use Rattle.fs_status.specs.declared.code.Code.{Code};
 ghost use Rattle.fs_rpc.specs.ReadMessage.{answers_commit, answers_names, code_named, commit_result_at, documents_result_at, error_at, has, if_numbered, list_result_at, message_at, message_of, object_result_at, outcome_at, query_result_at, required_integer_at, required_text_at, result_at};
+ghost use Rattle.fs_rpc.specs.ValidMessage.{IsMessageOf};
 
 use crate::answers::{answered, read_answers, read_query_answers};
 use crate::id::id_of;
@@ -31,7 +32,10 @@ use std::alloc::{AllocError, Global};
 ///
 /// A text that is no JSON object is refused at the empty place, and a query's items that have different times at `result`.
 pub fn read_message(alloc: Global, root: &Root, text: &str) -> Result<Message, Bad>
-    ensures { Gives (λ m. m) result (message_of root.now text.now) }
+    ensures gives { Gives (λ m. m) result (message_of root.now text.now) }
+
+    // Its documents and names are the root's, and its references are names of documents.
+    ensures valid { IfOk result (λ m. IsMessageOf root.now m) }
 {
     let v = json_of(alloc, text)?;
     read_members(alloc, root, &v)

@@ -6,10 +6,11 @@ ghost use Rattle.serde_json.specs.Read.{max_depth};
 ghost use Rattle.serde_json.specs.View.{items_of, items_view, members_view, view as json};
 ghost use Rattle.serde_json.specs.Written.{compact_text, has_float};
 ghost use Rattle.fs_path.specs.declared.name.Root.{Root};
-ghost use Rattle.fs_valjson.specs.Valid.{IsTimeHeld};
+ghost use Rattle.fs_valjson.specs.Document.{document_json};
+ghost use Rattle.fs_valjson.specs.Held.{IsTimeHeld};
 ghost use Rattle.fs_writejson.specs.Results.{result_json, IsResultHeld};
 ghost use Rattle.fs_rpc.specs.MessageJson.{batch_answer_json, commit_json, error_json, error_members, message_json, message_json_on, message_members, query_answer_json, query_answers_json, result_members};
-ghost use Rattle.fs_rpc.specs.MessageSteps.{IsAnswerHeld, IsMessageHeld, timed_put};
+ghost use Rattle.fs_rpc.specs.MessageSteps.{IsAnswerHeld, IsDocumentHeld, IsMessageHeld, timed_put};
 ghost use Rattle.fs_rpc.specs.ReadMessage.{message_of};
 ghost use Rattle.fs_rpc.specs.ValidMessage.{IsMessageOf};
 
@@ -23,7 +24,7 @@ use crate::times::moment;
 use fs_path::{Text, print_document};
 use fs_status::Code;
 use fs_time::Micros;
-use fs_valjson::{documents_read_back, write_document};
+use fs_valjson::write_document;
 use fs_value::Document;
 use fs_write::WriteResult;
 use fs_writejson::write_result;
@@ -68,7 +69,6 @@ pub fn write_message(alloc: Global, m: &Message) -> Result<Text, AllocError>
     ensures reads_back { IfOk result (λ t. (root : Root) → IsMessageOf root m.now
         → depth (message_json m.now) ≤ max_depth → message_of root t ≡ Ok m.now) }
 {
-    documents_read_back();
     let members = write_members(alloc, m)?;
     let text = Value::Object(members).to_string(alloc)?;
     Ok(Text::of(text))
@@ -84,7 +84,7 @@ fn write_members(alloc: Global, m: &Message) -> Result<Map<String, Value>, Alloc
             with_result(alloc, id, written)
         }
         Message::GetDocument { id, document } => {
-            let written = write_document(alloc, document)?;
+            let written = document_value(alloc, document)?;
             with_result(alloc, id, written)
         }
         Message::BatchGetDocuments { id, answers } => {
@@ -166,6 +166,13 @@ fn write_answers(alloc: Global, answers: &[BatchAnswer]) -> Result<Vec<Value>, A
     Ok(items)
 }
 
+fn document_value(alloc: Global, document: &Document) -> Result<Value, AllocError>
+    ensures value { IfOk result (λ j. json j ≡ document_json document.now) }
+    ensures held { OnOk result (IsDocumentHeld document.now) }
+{
+    write_document(alloc, document)
+}
+
 /// What is told of a name. (v1 reference, `BatchGetDocumentsResponse`.)
 fn write_answer(alloc: Global, answer: &BatchAnswer) -> Result<Value, AllocError>
     ensures value { IfOk result (λ j. json j ≡ batch_answer_json answer.now) }
@@ -173,7 +180,7 @@ fn write_answer(alloc: Global, answer: &BatchAnswer) -> Result<Value, AllocError
 {
     match answer {
         BatchAnswer::Found(document, time) => {
-            let document = write_document(alloc, document)?;
+            let document = document_value(alloc, document)?;
             with_read_time(alloc, FOUND, document, *time)
         }
         BatchAnswer::Missing(name, time) => {
@@ -191,7 +198,7 @@ fn write_query_answers(
     time: Micros,
 ) -> Result<Vec<Value>, AllocError>
     ensures value { IfOk result (λ l. items_view l.items ≡ query_answers_json documents.now time) }
-    ensures held { OnOk result (IsTimeHeld time) }
+    ensures held { OnOk result (AllByRecursion IsDocumentHeld documents.now × IsTimeHeld time) }
 {
     if documents.is_empty() {
         write_none(alloc, time)
@@ -213,11 +220,11 @@ fn write_none(alloc: Global, time: Micros) -> Result<Vec<Value>, AllocError>
 
 fn write_some(alloc: Global, documents: &[Document], time: Micros) -> Result<Vec<Value>, AllocError>
     ensures value { IfOk result (λ l. items_view l.items ≡ items_of (map (query_answer_json time) documents.now)) }
-    ensures held { OnOk result (0 < length documents.now → IsTimeHeld time) }
+    ensures held { OnOk result (AllByRecursion IsDocumentHeld documents.now × (0 < length documents.now → IsTimeHeld time)) }
 {
     let mut items = Vec::with_capacity(alloc, documents.len())?;
     for document in documents {
-        let document = write_document(alloc, document)?;
+        let document = document_value(alloc, document)?;
         items.push(with_read_time(alloc, DOCUMENT, document, time)?)?;
     }
     Ok(items)

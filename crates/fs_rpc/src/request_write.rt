@@ -7,7 +7,7 @@ ghost use Rattle.serde_json.specs.Read.{max_depth};
 ghost use Rattle.serde_json.specs.View.{items_view, members_view, view};
 ghost use Rattle.serde_json.specs.Written.{compact_text, has_float};
 ghost use Rattle.fs_queryjson.specs.Written.{query_json};
-ghost use Rattle.fs_valjson.specs.Valid.{IsTimeHeld};
+ghost use Rattle.fs_valjson.specs.Held.{IsTimeHeld};
 ghost use Rattle.fs_writejson.specs.Mask.{mask_json};
 ghost use Rattle.fs_writejson.specs.Written.{write_json};
 ghost use Rattle.fs_rpc.specs.Envelope.{envelope_at, request_of, session_request_at};

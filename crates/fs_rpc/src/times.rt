@@ -4,7 +4,7 @@ ghost use Rattle.fs_path.specs.Way.{place_of};
 ghost use Rattle.serde_json.specs.View.{view as json};
 ghost use Rattle.fs_json.specs.Answer.{Gives};
 ghost use Rattle.fs_json.specs.Time.{time_json};
-ghost use Rattle.fs_valjson.specs.Valid.{IsTimeHeld};
+ghost use Rattle.fs_valjson.specs.Held.{IsTimeHeld};
 ghost use Rattle.fs_rpc.specs.Times.{optional_time_at, required_time_at};
 
 use fs_json::{Bad, member, required, time, write_time};

@@ -26,4 +26,4 @@ returns-clause-reads_back c = λ root valid shallow.
     let nests = subst (λ d. depth d ≤ max_depth) (sym seen) shallow in
     let again : read (string_bytes c.in_ok-text.text) ≡ Some (message_json m) = c.in_ok-text.ensures.reads_back nests ∙ ap Some seen in
     ap (message_of root) c.of.ensures ∙ ap (λ o. or_fault G [] o >>= message_at root) again
-    ∙ message_again c.documents_read_back.ensures root m c.in_ok-members.ensures.held valid
+    ∙ message_again root m c.in_ok-members.ensures.held valid

@@ -2,7 +2,7 @@ use Rattle.std.proofs.Common.{◌≡◌, ℕ, ℤ, List, Result, Ok, Err, IfOk, 
 use Rattle.serde_json.specs.View.{view}
 use Rattle.serde_json.specs.declared.value.Value.{Value}
 use Rattle.fs_json.specs.Time.{time_at, time_json}
-use Rattle.fs_valjson.specs.Valid.{IsTimeHeld}
+use Rattle.fs_valjson.specs.Held.{IsTimeHeld}
 use Rattle.fs_rpc.proofs.times.moment.Goals as goal
 
 -- what is written of a time is its text, so that is read back

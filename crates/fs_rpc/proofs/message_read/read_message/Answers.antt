@@ -1,0 +1,12 @@
+use Rattle.serde_json.specs.View.{view as json}
+use Rattle.fs_valjson.specs.AnswerLaws.{of_reading}
+use Rattle.fs_rpc.specs.ReadMessage.{message_at}
+use Rattle.fs_rpc.specs.ValidMessage.{IsMessageOf}
+use Rattle.fs_rpc.proofs.MessageValid.{message_valid}
+use Rattle.fs_rpc.proofs.message_read.read_message.Goals as goal
+
+pub returns-clause-valid : goal.returns-clause-valid
+returns-clause-valid c =
+    let root = c.args.root.now in
+    let d = json c.in_ok-v.v in
+    of_reading (λ m. m) (IsMessageOf root) c.read_members.result (message_at root d) c.read_members.ensures (message_valid root d)
