@@ -1,5 +1,5 @@
 -- Bytes that go from a source and into a sink in several calls.
-use Rattle.std.proofs.Common.{◌≡◌, ℕ, ◌+◌, ◌≤◌, arith, Bool, true, false, List, [], ◌++◌, length, take, drop, Option, Some, None, option_map, Result, Ok, Err, OnErr, refl, sym, ap, subst, ◌∙◌, append_assoc}
+use Rattle.std.proofs.Common.{◌≡◌, ℕ, ◌+◌, ◌≤◌, arith, Bool, true, false, List, [], ◌∷◌, ◌++◌, length, take, drop, Option, Some, None, option_map, Result, Ok, Err, OnErr, refl, sym, ap, subst, ◌∙◌, append_assoc}
 use Rattle.std.proofs.lemmas.List.{append-nil, take-append-drop, length-take, length-append}
 use Rattle.std.proofs.Math.Seq.{take-append_seam}
 use Rattle.std.specs.Bool.{OnTrue, OnFalse}
@@ -25,6 +25,17 @@ gained_nothing (Some had) = ap Some (sym (append-nil had))
 pub gained_more : (a b c : Option (List ℕ)) (x y : List ℕ) → Gained a b x → Gained b c y → Gained a c (x ++ y)
 gained_more None b c x y p q = q ∙ ap (option_map (λ had. had ++ y)) p
 gained_more (Some had) b c x y p q = q ∙ ap (option_map (λ had. had ++ y)) p ∙ ap Some (append_assoc had x y)
+
+-- each part of nothing is nothing
+pub nothing_behind : (given out total : List ℕ) → given ++ out ≡ total → total ≡ [] → out ≡ []
+nothing_behind [] out total told none = told ∙ none
+nothing_behind (x ∷ given) out total told none = absurd (cc)
+
+pub nothing_between : (given out rest total : List ℕ) → given ++ (out ++ rest) ≡ total → total ≡ [] → out ≡ []
+nothing_between given [] rest total told none = refl
+nothing_between given (x ∷ out) rest total told none =
+    let some = nothing_behind given ((x ∷ out) ++ rest) total told none in
+    absurd (cc)
 
 -- a fact that holds anyhow holds at an error
 pub on_err_anyhow : {T E P : Type 0} (r : Result T E) → P → OnErr r P

@@ -5,6 +5,7 @@ use Rattle.std.specs.List.{onto_first}
 use Rattle.fs_replay.specs.declared.state.State.{State}
 use Rattle.fs_replay.specs.Step.{start, after_line, line_output}
 use Rattle.fs_replay.specs.Transcript.{lines_of, all_but_last, written, played, transcript}
+use Rattle.fs_replay.proofs.Flow.{nothing_between}
 
 some_lines_at : (b : Bool) (x : ℕ) (lines : List (List ℕ)) → (line : List ℕ) × (more : List (List ℕ)) × (cond b ([] ∷ lines) (onto_first x lines) ≡ line ∷ more)
 some_lines_at true x lines = ([], lines, refl)
@@ -61,3 +62,9 @@ written_front s n (line ∷ next ∷ lines) =
 pub played_front : (whole : Bool) (script : List ℕ) → (more : List ℕ) × (played whole start 1 script ++ more ≡ transcript script)
 played_front true script = ([], append-nil (transcript script))
 played_front false script = written_front start 1 (lines_of script)
+
+-- where a script writes nothing, it does not where it was cut off
+pub played_nothing : (whole : Bool) (script : List ℕ) → transcript script ≡ [] → played whole start 1 script ≡ []
+played_nothing whole script none =
+    let front = played_front whole script in
+    nothing_between [] (played whole start 1 script) front.0 (transcript script) front.1 none

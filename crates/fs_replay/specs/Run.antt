@@ -1,5 +1,6 @@
--- What a run has written when it ends.
+-- What a run has done when it ends: what it has written, and how often its source and its sink have failed.
 use Rattle.std.specs.Prelude.{◌≡◌, ℕ, List, Option}
+use Rattle.fs_edge.specs.Count.{one_more, AtMostOneMore}
 use Rattle.fs_edge.specs.declared.status.Status.{Status}
 use Rattle.fs_edge.specs.declared.status.Status.TheVariants as status
 use Rattle.fs_replay.specs.Moved.{Gained, GainedFront}
@@ -15,3 +16,34 @@ Wrote status.ReadFault taken before after = Gained before after (begun taken)
 Wrote status.WriteFault taken before after = GainedFront before after (transcript taken)
 Wrote status.InputLimit taken before after = Gained before after (begun taken)
 Wrote status.DoorFault taken before after = after ≡ before
+
+-- How often a read has failed: the first failure ends the run. Where the sink failed or memory ran out, that came behind
+-- the last read, which may have failed as well.
+abbrev pub ReadFaults : Status → ℕ → ℕ → Type 0
+ReadFaults status.Ok before after = after ≡ before
+ReadFaults status.Usage before after = after ≡ before
+ReadFaults status.Memory before after = AtMostOneMore before after
+ReadFaults status.ReadFault before after = after ≡ one_more before
+ReadFaults status.WriteFault before after = AtMostOneMore before after
+ReadFaults status.InputLimit before after = after ≡ before
+ReadFaults status.DoorFault before after = after ≡ before
+
+-- How often a read has told the end: it is asked for once.
+abbrev pub Ends : Status → ℕ → ℕ → Type 0
+Ends status.Ok before after = after ≡ one_more before
+Ends status.Usage before after = after ≡ before
+Ends status.Memory before after = AtMostOneMore before after
+Ends status.ReadFault before after = after ≡ before
+Ends status.WriteFault before after = AtMostOneMore before after
+Ends status.InputLimit before after = after ≡ before
+Ends status.DoorFault before after = after ≡ before
+
+-- How often a write has failed: the first failure ends the run.
+abbrev pub WriteFaults : Status → ℕ → ℕ → Type 0
+WriteFaults status.Ok before after = after ≡ before
+WriteFaults status.Usage before after = after ≡ before
+WriteFaults status.Memory before after = after ≡ before
+WriteFaults status.ReadFault before after = after ≡ before
+WriteFaults status.WriteFault before after = after ≡ one_more before
+WriteFaults status.InputLimit before after = after ≡ before
+WriteFaults status.DoorFault before after = after ≡ before

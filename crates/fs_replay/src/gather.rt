@@ -1,9 +1,10 @@
 //! Reading all that a source has.
-ghost use Rattle.std.specs.Prelude.{◌≡◌, ◌↔◌, ◌<◌, ◌≤◌, ℕ, List, [], Option, length, IfOk, IfSome, OnOk, OnErr, vec_len};
-ghost use Rattle.fs_edge.specs.Count.{Rose};
-ghost use Rattle.fs_replay.specs.Gathering.{GrowsBy};
+ghost use Rattle.std.specs.Prelude.{◌≡◌, ◌≢◌, ◌↔◌, ◌<◌, ◌≤◌, ℕ, List, [], Option, length, IfOk, IfSome, OnOk, OnErr, vec_len};
+ghost use Rattle.fs_edge.specs.Count.{one_more};
+ghost use Rattle.fs_replay.specs.Gathering.{GrowsBy, status_of};
 ghost use Rattle.fs_replay.specs.Limits.{longest_input};
 ghost use Rattle.fs_replay.specs.Moved.{Taken, TakenUpTo};
+ghost use Rattle.fs_replay.specs.Run.{Ends, ReadFaults};
 
 use crate::limits::{LONGEST_INPUT, PIECE};
 use fs_edge::{Source, Status, Took};
@@ -72,10 +73,10 @@ fn take_next<S: Source>(
     ensures err { OnErr result (TakenUpTo (length buffer.old) (S.left source.old) (S.left source.new)) }
     ensures grows { IfOk result (λ took. GrowsBy took (vec_len bytes.old) (length buffer.old) (vec_len bytes.new)) }
     ensures end { IfOk result (λ took. took ≡ Took.End → IfSome (S.left source.new) (λ rest. rest ≡ [])) }
-    ensures ends { IfOk result (λ took. took ≡ Took.End → Rose (S.ends source.old) (S.ends source.new)) }
-    ensures faults { IfOk result (λ took. took ≡ Took.Failed → Rose (S.faults source.old) (S.faults source.new)) }
-    ensures no_fewer_ends { S.ends source.old ≤ S.ends source.new }
-    ensures no_fewer_faults { S.faults source.old ≤ S.faults source.new }
+    ensures failed { result ≡ Ok Took.Failed → S.faults source.new ≡ one_more (S.faults source.old) }
+    ensures no_fault { result ≢ Ok Took.Failed → S.faults source.new ≡ S.faults source.old }
+    ensures ended { result ≡ Ok Took.End → S.ends source.new ≡ one_more (S.ends source.old) }
+    ensures no_end { result ≢ Ok Took.End → S.ends source.new ≡ S.ends source.old }
 {
     let took = source.read(buffer);
     if let Took::Bytes(count) = took {
@@ -89,8 +90,10 @@ pub fn gather<S: Source>(alloc: Global, source: &mut S) -> Result<Input, AllocEr
     ensures taken { IfOk result (λ input. Taken (S.left source.old) (S.left source.new) input.bytes.items) }
     ensures err { OnErr result (TakenUpTo longest_input (S.left source.old) (S.left source.new)) }
     ensures end { IfOk result (λ input. input.stop ≡ Stop.End → IfSome (S.left source.new) (λ rest. rest ≡ [])) }
-    ensures ended { IfOk result (λ input. input.stop ≡ Stop.End → Rose (S.ends source.old) (S.ends source.new)) }
-    ensures failed { IfOk result (λ input. input.stop ≡ Stop.Failed → Rose (S.faults source.old) (S.faults source.new)) }
+    ensures faults { IfOk result (λ input. ReadFaults (status_of input.stop) (S.faults source.old) (S.faults source.new)) }
+    ensures ends { IfOk result (λ input. Ends (status_of input.stop) (S.ends source.old) (S.ends source.new)) }
+    ensures no_fault { OnErr result (S.faults source.new ≡ S.faults source.old) }
+    ensures no_end { OnErr result (S.ends source.new ≡ S.ends source.old) }
     ensures within { IfOk result (λ input. length input.bytes.items ≤ longest_input) }
     ensures full { IfOk result (λ input. (input.stop ≡ Stop.Full) ↔ (length input.bytes.items ≡ longest_input)) }
 {

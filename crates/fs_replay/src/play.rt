@@ -1,7 +1,7 @@
 //! Carrying out a script, line by line.
 ghost use Rattle.std.specs.Prelude.{◌≡◌, ◌∷◌, ◌++◌, ◌≤◌, [], length, IfOk, OnOk, OnErr};
 ghost use Rattle.std.specs.Bool.{OnTrue, OnFalse};
-ghost use Rattle.fs_edge.specs.Count.{Rose};
+ghost use Rattle.fs_edge.specs.Count.{one_more};
 ghost use Rattle.fs_replay.specs.Limits.{longest_input};
 ghost use Rattle.fs_replay.specs.Moved.{Gained, GainedFront};
 ghost use Rattle.fs_replay.specs.Step.{IsIdle, start};
@@ -48,9 +48,12 @@ fn play_on<K: Sink>(
         (played whole state.old 1 script.now))) }
     ensures failed { IfOk result (λ done. OnFalse done (GainedFront (K.given sink.old) (K.given sink.new)
         (played whole state.old 1 script.now))) }
-    ensures cause { IfOk result (λ done. OnFalse done (Rose (K.faults sink.old) (K.faults sink.new))) }
+    ensures no_fault { IfOk result (λ done. OnTrue done (K.faults sink.new ≡ K.faults sink.old)) }
+    ensures cause { IfOk result (λ done. OnFalse done (K.faults sink.new ≡ one_more (K.faults sink.old))) }
     ensures err { OnErr result (GainedFront (K.given sink.old) (K.given sink.new)
         (played whole state.old 1 script.now)) }
+    ensures err_no_fault { OnErr result (K.faults sink.new ≡ K.faults sink.old) }
+    ensures unasked { played whole state.old 1 script.now ≡ [] → sink.new ≡ sink.old }
 {
     let mut out = Vec::new(alloc);
     let mut rest = script;
@@ -80,9 +83,12 @@ pub fn play<K: Sink>(
         (played whole start 1 script.now))) }
     ensures failed { IfOk result (λ done. OnFalse done (GainedFront (K.given sink.old) (K.given sink.new)
         (played whole start 1 script.now))) }
-    ensures cause { IfOk result (λ done. OnFalse done (Rose (K.faults sink.old) (K.faults sink.new))) }
+    ensures no_fault { IfOk result (λ done. OnTrue done (K.faults sink.new ≡ K.faults sink.old)) }
+    ensures cause { IfOk result (λ done. OnFalse done (K.faults sink.new ≡ one_more (K.faults sink.old))) }
     ensures err { OnErr result (GainedFront (K.given sink.old) (K.given sink.new)
         (played whole start 1 script.now)) }
+    ensures err_no_fault { OnErr result (K.faults sink.new ≡ K.faults sink.old) }
+    ensures unasked { played whole start 1 script.now ≡ [] → sink.new ≡ sink.old }
 {
     let mut state = State::new(alloc)?;
     let done = play_on(alloc, &mut state, script, whole, sink);

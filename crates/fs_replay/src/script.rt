@@ -1,9 +1,9 @@
 //! The top call: a script from a source, and its transcript into a sink.
 ghost use Rattle.std.specs.Prelude.{◌≡◌, ◌≢◌, ◌⊎◌, [], length, IfOk, IfSome, OnErr};
-ghost use Rattle.fs_edge.specs.Count.{Rose};
+ghost use Rattle.std.specs.Result.{result_unwrap_or};
 ghost use Rattle.fs_replay.specs.Limits.{longest_input};
 ghost use Rattle.fs_replay.specs.Moved.{TakenUpTo, IfTaken, Gained, GainedFront};
-ghost use Rattle.fs_replay.specs.Run.{Wrote};
+ghost use Rattle.fs_replay.specs.Run.{Ends, ReadFaults, WriteFaults, Wrote};
 ghost use Rattle.fs_replay.specs.Transcript.{transcript};
 
 use crate::gather::gather;
@@ -18,8 +18,7 @@ use std::alloc::{AllocError, Global};
 pub fn replay<S: Source, K: Sink>(alloc: Global, source: &mut S, sink: &mut K) -> Status
     ensures some { (result ≢ Status.Usage) × (result ≢ Status.DoorFault) }
 
-    // At status 0 the source told its end, and the sink has gained the transcript of all that the source had.
-    ensures ended { result ≡ Status.Ok → Rose (S.ends source.old) (S.ends source.new) }
+    // At status 0 all that the source had was read, and the sink has gained its transcript.
     ensures all_read { result ≡ Status.Ok → IfSome (S.left source.new) (λ rest. rest ≡ []) }
     ensures transcript { result ≡ Status.Ok → IfSome (S.left source.old) (λ script.
         Gained (K.given sink.old) (K.given sink.new) (transcript script)) }
@@ -29,9 +28,13 @@ pub fn replay<S: Source, K: Sink>(alloc: Global, source: &mut S, sink: &mut K) -
     ensures written { IfTaken (S.left source.old) (S.left source.new) (λ taken.
         Wrote result taken (K.given sink.old) (K.given sink.new)) }
 
-    // A fault has its cause in what was handed in.
-    ensures read_fault { result ≡ Status.ReadFault → Rose (S.faults source.old) (S.faults source.new) }
-    ensures write_fault { result ≡ Status.WriteFault → Rose (K.faults sink.old) (K.faults sink.new) }
+    // Where that is nothing, the sink isn't asked.
+    ensures unasked { IfTaken (S.left source.old) (S.left source.new) (λ taken. transcript taken ≡ [] → sink.new ≡ sink.old) }
+
+    // A fault has its cause in what was handed in, and nothing is tried again.
+    ensures read_faults { ReadFaults result (S.faults source.old) (S.faults source.new) }
+    ensures ends { Ends result (S.ends source.old) (S.ends source.new) }
+    ensures write_faults { WriteFaults result (K.faults sink.old) (K.faults sink.new) }
 
     // The input limit is told exactly where so many bytes were taken, but for a write fault and want of memory.
     ensures limit { result ≡ Status.InputLimit → IfTaken (S.left source.old) (S.left source.new) (λ taken.
@@ -51,7 +54,6 @@ fn replay_all<S: Source, K: Sink>(
     source: &mut S,
     sink: &mut K,
 ) -> Result<Status, AllocError>
-    ensures ended { IfOk result (λ status. status ≡ Status.Ok → Rose (S.ends source.old) (S.ends source.new)) }
     ensures all_read { IfOk result (λ status. status ≡ Status.Ok → IfSome (S.left source.new) (λ rest. rest ≡ [])) }
     ensures transcript { IfOk result (λ status. status ≡ Status.Ok → IfSome (S.left source.old) (λ script.
         Gained (K.given sink.old) (K.given sink.new) (transcript script))) }
@@ -59,8 +61,10 @@ fn replay_all<S: Source, K: Sink>(
     ensures written { IfOk result (λ status. IfTaken (S.left source.old) (S.left source.new) (λ taken.
         Wrote status taken (K.given sink.old) (K.given sink.new))) }
     ensures some { IfOk result (λ status. (status ≢ Status.Usage) × (status ≢ Status.DoorFault)) }
-    ensures read_fault { IfOk result (λ status. status ≡ Status.ReadFault → Rose (S.faults source.old) (S.faults source.new)) }
-    ensures write_fault { IfOk result (λ status. status ≡ Status.WriteFault → Rose (K.faults sink.old) (K.faults sink.new)) }
+    ensures unasked { IfTaken (S.left source.old) (S.left source.new) (λ taken. transcript taken ≡ [] → sink.new ≡ sink.old) }
+    ensures read_faults { ReadFaults (result_unwrap_or result Status.Memory) (S.faults source.old) (S.faults source.new) }
+    ensures ends { Ends (result_unwrap_or result Status.Memory) (S.ends source.old) (S.ends source.new) }
+    ensures write_faults { WriteFaults (result_unwrap_or result Status.Memory) (K.faults sink.old) (K.faults sink.new) }
     ensures limit { IfOk result (λ status. status ≡ Status.InputLimit → IfTaken (S.left source.old) (S.left source.new)
         (λ taken. length taken ≡ longest_input)) }
     ensures limit_told { IfOk result (λ status. IfTaken (S.left source.old) (S.left source.new) (λ taken.

@@ -1,9 +1,8 @@
 //! The top call: a command, by the words of its command line.
 ghost use Rattle.std.specs.Prelude.{◌≡◌, ◌≢◌, ◌↔◌, ◌⊎◌, ◌∷◌, [], length, map, codes, string_bytes, IsTrue, IfSome};
-ghost use Rattle.fs_edge.specs.Count.{Rose};
 ghost use Rattle.fs_replay.specs.Limits.{longest_input};
 ghost use Rattle.fs_replay.specs.Moved.{TakenUpTo, IfTaken, Gained};
-ghost use Rattle.fs_replay.specs.Run.{Wrote};
+ghost use Rattle.fs_replay.specs.Run.{Ends, ReadFaults, WriteFaults, Wrote};
 ghost use Rattle.fs_replay.specs.Transcript.{transcript};
 
 use fs_edge::{Clock, Doors, Sink, Source, Status};
@@ -29,8 +28,7 @@ pub fn run<Rt, S: Source, K: Sink, D: Doors, C: Clock>(
     ensures clock { clock.new ≡ clock.old }
     ensures no_door_fault { result ≢ Status.DoorFault }
 
-    // At status 0 the source told its end, and the sink has gained the transcript of all that the source had.
-    ensures ended { result ≡ Status.Ok → Rose (S.ends source.old) (S.ends source.new) }
+    // At status 0 all that the source had was read, and the sink has gained its transcript.
     ensures all_read { result ≡ Status.Ok → IfSome (S.left source.new) (λ rest. rest ≡ []) }
     ensures transcript { result ≡ Status.Ok → IfSome (S.left source.old) (λ script.
         Gained (K.given sink.old) (K.given sink.new) (transcript script)) }
@@ -40,9 +38,13 @@ pub fn run<Rt, S: Source, K: Sink, D: Doors, C: Clock>(
     ensures written { IfTaken (S.left source.old) (S.left source.new) (λ taken.
         Wrote result taken (K.given sink.old) (K.given sink.new)) }
 
-    // A fault has its cause in what was handed in.
-    ensures read_fault { result ≡ Status.ReadFault → Rose (S.faults source.old) (S.faults source.new) }
-    ensures write_fault { result ≡ Status.WriteFault → Rose (K.faults sink.old) (K.faults sink.new) }
+    // Where that is nothing, the sink isn't asked.
+    ensures unasked { IfTaken (S.left source.old) (S.left source.new) (λ taken. transcript taken ≡ [] → sink.new ≡ sink.old) }
+
+    // A fault has its cause in what was handed in, and nothing is tried again.
+    ensures read_faults { ReadFaults result (S.faults source.old) (S.faults source.new) }
+    ensures ends { Ends result (S.ends source.old) (S.ends source.new) }
+    ensures write_faults { WriteFaults result (K.faults sink.old) (K.faults sink.new) }
 
     // The input limit is told exactly where so many bytes were taken, but for a write fault and want of memory.
     ensures limit { result ≡ Status.InputLimit → IfTaken (S.left source.old) (S.left source.new) (λ taken.

@@ -8,8 +8,8 @@ use Rattle.fs_replay.proofs.gather.gather.Given as goal
 abbrev pub invariant-loop-bytes : goal.invariant-loop-bytes
 invariant-loop-bytes g l = record {
   taken : Taken (g.S.Source.left l.fn.source) (g.S.Source.left l.source) l.bytes.items;
-  faults : g.S.Source.faults l.fn.source ≤ g.S.Source.faults l.source;
-  ends : g.S.Source.ends l.fn.source ≤ g.S.Source.ends l.source;
+  faults : g.S.Source.faults l.source ≡ g.S.Source.faults l.fn.source;
+  ends : g.S.Source.ends l.source ≡ g.S.Source.ends l.fn.source;
   within : vec_len l.bytes ≤ longest_input;
   buffer : vec_len l.buffer ≡ PIECE;
 }

@@ -1,4 +1,4 @@
-use Rattle.std.proofs.Common.{◌≡◌, ℕ, ◌+◌, ◌≤◌, List, ◌++◌, length}
+use Rattle.std.proofs.Common.{◌≡◌, ℕ, ◌+◌, ◌≤◌, List, [], ◌++◌, length}
 use Rattle.fs_replay.specs.Step.{IsIdle}
 use Rattle.fs_replay.specs.Moved.{Gained}
 use Rattle.fs_replay.specs.Transcript.{played}
@@ -12,7 +12,8 @@ invariant-lines g l =
       told : given ++ (l.out.items ++ played l.whole l.state l.number l.rest) ≡ played l.whole l.initial.state 1 l.script;
       count : l.number + length l.rest ≤ length l.script + 1;
       idle : IsIdle l.state;
-      faults : g.K.Sink.faults l.fn.sink ≤ g.K.Sink.faults l.sink;
+      faults : g.K.Sink.faults l.sink ≡ g.K.Sink.faults l.fn.sink;
+      unasked : played l.whole l.initial.state 1 l.script ≡ [] → l.sink ≡ l.fn.sink;
     }
 
 abbrev pub decreases-lines : goal.decreases-lines

@@ -1,4 +1,4 @@
-use Rattle.std.proofs.Common.{◌≡◌, length, sym, ap, subst, ◌∙◌, inl, ◌⊎◌}
+use Rattle.std.proofs.Common.{◌≡◌, [], length, sym, ap, subst, ◌∙◌, inl, ◌⊎◌}
 use Rattle.std.specs.Bool.{OnTrue, OnFalse}
 use Rattle.fs_edge.specs.declared.status.Status.TheVariants as status
 use Rattle.fs_replay.specs.Run.{Wrote}
@@ -9,6 +9,7 @@ use Rattle.fs_replay.specs.Transcript.{played, transcript}
 use Rattle.fs_replay.specs.Limits.{longest_input}
 use Rattle.fs_replay.proofs.Flow.{on_err_anyhow}
 use Rattle.fs_replay.proofs.Ending.{if_taken, if_all_taken, front_of_transcript, wrote_here, ended_whole, ended_full}
+use Rattle.fs_replay.proofs.Written.{played_nothing}
 use Rattle.fs_replay.proofs.script.replay_all.Goals as goal
 
 pub returns-in_err-play-clause-err : goal.returns-in_err-play-clause-err
@@ -27,6 +28,21 @@ returns-then-not-branch-clause-written g c =
     let failed = subst (λ done. OnFalse done (GainedFront a b (played c.is_whole.result start 1 c.deref.result.now))) c.if-not-branch.true c.in_ok-play.ensures.failed in
     let part = front_of_transcript a b c.is_whole.result c.deref.result.now failed in
     if_taken _ _ bytes (λ taken. GainedFront a b (transcript taken)) c.in_ok-input.ensures.taken (subst (λ s. GainedFront a b (transcript s)) c.deref.ensures.value part)
+
+pub returns-in_err-play-clause-unasked : goal.returns-in_err-play-clause-unasked
+returns-in_err-play-clause-unasked g c =
+    if_taken _ _ c.in_ok-input.input.bytes.items (λ taken. transcript taken ≡ [] → c.play.new.sink ≡ c.args.sink.now) c.in_ok-input.ensures.taken
+    (λ none. c.in_err-play.ensures.unasked (played_nothing c.is_whole.result c.deref.result.now (ap transcript c.deref.ensures.value ∙ none)))
+
+pub returns-then-not-branch-clause-unasked : goal.returns-then-not-branch-clause-unasked
+returns-then-not-branch-clause-unasked g c =
+    if_taken _ _ c.in_ok-input.input.bytes.items (λ taken. transcript taken ≡ [] → c.play.new.sink ≡ c.args.sink.now) c.in_ok-input.ensures.taken
+    (λ none. c.in_ok-play.ensures.unasked (played_nothing c.is_whole.result c.deref.result.now (ap transcript c.deref.ensures.value ∙ none)))
+
+pub returns-clause-unasked : goal.returns-clause-unasked
+returns-clause-unasked g c =
+    if_taken _ _ c.in_ok-input.input.bytes.items (λ taken. transcript taken ≡ [] → c.play.new.sink ≡ c.args.sink.now) c.in_ok-input.ensures.taken
+    (λ none. c.in_ok-play.ensures.unasked (played_nothing c.is_whole.result c.deref.result.now (ap transcript c.deref.ensures.value ∙ none)))
 
 pub returns-clause-written : goal.returns-clause-written
 returns-clause-written g c =
