@@ -2,9 +2,9 @@
 ghost use Rattle.std.specs.Prelude.{◌≡◌, [], IfOk, IsSome, OnOk};
 ghost use Rattle.fs_machine.specs.Open.{open_answer, opened};
 ghost use Rattle.fs_machine.specs.Request.{answered, asked};
-ghost use Rattle.fs_machine.specs.Settle.{ComesTo, pending_of, settled};
+ghost use Rattle.fs_machine.specs.Settle.{pending_of, settled};
 
-use fs_machine::{Answer, Outcome, Settled};
+use fs_machine::{Answer, Settled};
 use fs_rpc::Envelope;
 use fs_server::Server;
 use fs_status::{Id, Reason, Refusal};
@@ -46,27 +46,12 @@ pub fn ask(
     Ok(answer)
 }
 
-// What the writes of a pending commit come to.
-fn outcome_of(alloc: Global, server: &Server, commit: Id) -> Result<Outcome, AllocError>
-    requires { IsSome (pending_of server.now.past commit) }
-    ensures { IfOk result (λ o. ComesTo server.now.past commit o) }
-{
-    let outcome = server.outcome(alloc, commit);
-    if let Outcome::Refused(refusal) = &outcome
-        && let Reason::Memory = &refusal.reason
-    {
-        drop(outcome);
-        return Err(AllocError);
-    }
-    Ok(outcome)
-}
-
 /// Settles a pending commit.
 pub fn settle(alloc: Global, server: &mut Server, commit: Id) -> Result<(), AllocError>
     requires { IsSome (pending_of server.old.past commit) }
     ensures { OnOk result (server.new ≡ settled server.old commit) }
 {
-    let outcome = outcome_of(alloc, server, commit)?;
+    let outcome = server.outcome(alloc, commit)?;
     match server.settle(alloc, commit, outcome) {
         Settled::Released(_) => Ok(()),
         Settled::Waiting(_) => Ok(()),

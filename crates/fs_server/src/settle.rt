@@ -7,7 +7,7 @@ use crate::commit::copy_id;
 use crate::server::Server;
 use fs_machine::{Outcome, Settled, Unreleased};
 use fs_rpc::Message;
-use fs_status::{Id, Reason, Refusal};
+use fs_status::{Id, Refusal};
 use fs_time::Micros;
 use fs_write::{Changes, WriteResults};
 use std::alloc::{AllocError, Global};
@@ -49,30 +49,23 @@ fn rejection(alloc: Global, commit: &Unreleased, refusal: &Refusal) -> Result<Me
 }
 
 impl Server {
-    ghost use Rattle.std.specs.Prelude.{◌≡◌, ◌≢◌, IfOk, IsSome, OnOk, OnErr};
+    ghost use Rattle.std.specs.Prelude.{◌≡◌, IfOk, IsSome, OnOk, OnErr};
     ghost use Rattle.fs_rpc.specs.MessageJson.{refused};
     ghost use Rattle.fs_rpc.specs.declared.message.Message.TheVariants.{Commit};
-    ghost use Rattle.fs_status.specs.Refusal.{refusal_of};
-    ghost use Rattle.fs_status.specs.declared.reason.Reason.TheVariants.{Memory};
     ghost use Rattle.fs_machine.specs.Alone.{IsAlone, with_batch, without_batch};
     ghost use Rattle.fs_machine.specs.Settle.{ComesTo, Settles, pending_of};
     ghost use Rattle.fs_machine.specs.Stays.{Stays};
-    ghost use Rattle.fs_machine.specs.declared.answer.Outcome.TheVariants.{Refused};
     ghost use Rattle.fs_machine.specs.declared.unreleased.Unreleased.{Unreleased as IsCommit};
     ghost use Rattle.fs_past.specs.UnderWay.{ComesToEffects, IsUnderWay};
     ghost use Rattle.fs_server.specs.Place.{told_more};
 
-    /// What the writes of a pending commit come to, on what the commits before it leave. Want of memory is told as the refusal
-    /// for that reason, and isn't what they come to.
-    pub fn outcome(&self, alloc: Global, commit: Id) -> Outcome
+    /// What the writes of a pending commit come to, on what the commits before it leave. It is never refused for want of memory.
+    pub fn outcome(&self, alloc: Global, commit: Id) -> Result<Outcome, AllocError>
         requires { IsSome (pending_of self.now.past commit) }
-        ensures { result ≢ Refused (refusal_of Memory) → ComesTo self.now.past commit result }
+        ensures { IfOk result (λ o. ComesTo self.now.past commit o) }
     {
         self.alone(commit);
-        match self.past.outcome(alloc) {
-            Ok(outcome) => outcome,
-            Err(_) => Outcome::Refused(Refusal::of(Reason::Memory)),
-        }
+        self.past.outcome(alloc)
     }
 
     /// A pending commit is settled with what its writes come to: it is accepted, or dropped where they are refused; what can be
