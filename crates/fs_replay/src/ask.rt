@@ -8,9 +8,9 @@ use crate::calls::{ask, open};
 use crate::reply::{refuse, say};
 use crate::state::State;
 use fs_json::Bad;
-use fs_machine::Answer;
 use fs_path::Text;
 use fs_rpc::{Envelope, Request, SessionRequest};
+use fs_server::Answer;
 use fs_status::{Reason, Refusal};
 use std::alloc::{AllocError, Global};
 

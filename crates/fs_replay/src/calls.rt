@@ -4,9 +4,8 @@ ghost use Rattle.fs_machine.specs.Open.{open_answer, opened};
 ghost use Rattle.fs_machine.specs.Request.{answered, asked};
 ghost use Rattle.fs_machine.specs.Settle.{pending_of, settled};
 
-use fs_machine::{Answer, Settled};
 use fs_rpc::Envelope;
-use fs_server::Server;
+use fs_server::{Answer, Server, Settled};
 use fs_status::{Id, Reason, Refusal};
 use std::alloc::{AllocError, Global};
 

@@ -2,9 +2,8 @@
 ghost use Rattle.std.specs.Prelude.{◌≡◌, IfOk};
 
 use crate::directory::Directory;
-use fs_machine::{Config, Limits};
 use fs_path::{Root, Text};
-use fs_server::Server;
+use fs_server::{Config, Limits, Server};
 use fs_time::Micros;
 use std::alloc::{AllocError, Global};
 

@@ -10,5 +10,6 @@ mod server;
 mod sessions;
 mod settle;
 
+pub use fs_machine::{Answer, Config, Limits, Messages, Outcome, Settled};
 pub use fs_past::Chain;
 pub use server::Server;
