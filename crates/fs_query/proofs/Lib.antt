@@ -18,7 +18,8 @@ pub mod Counted
 pub mod JoiningPaths
 pub mod FittingDisjuncts
 pub mod JoiningMembers
-pub mod GivenPaths
+pub mod PathsInOrder
 pub mod Foremost
 pub mod Keyed
+pub mod KeptInOrder
 pub mod RuleParts

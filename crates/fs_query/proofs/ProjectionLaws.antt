@@ -63,12 +63,12 @@ in_rests key (p ∷ ps) r h =
       | inr s ↦ Contains-append_right (rest_behind key p) (rests key ps) r (in_rests key ps r s)
     ]
 
-ends_in : (ps : List (List (List ℕ))) → ends_here ps ≡ true → Contains ps []
+pub ends_in : (ps : List (List (List ℕ))) → ends_here ps ≡ true → Contains ps []
 ends_in [] h = absurd (cc)
 ends_in ([] ∷ ps) h = has_first [] ps
 ends_in ((k ∷ ks) ∷ ps) h = has_later (k ∷ ks) ps [] (ends_in ps h)
 
-in_ends : (ps : List (List (List ℕ))) → Contains ps [] → ends_here ps ≡ true
+pub in_ends : (ps : List (List (List ℕ))) → Contains ps [] → ends_here ps ≡ true
 in_ends [] h = absurd (has_none [] h)
 in_ends ([] ∷ ps) h = refl
 in_ends ((k ∷ ks) ∷ ps) h = elim (has_cases (k ∷ ks) ps [] h) [ inl s ↦ absurd (cc) | inr s ↦ in_ends ps s ]

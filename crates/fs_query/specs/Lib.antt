@@ -21,7 +21,8 @@ pub mod Seen
 pub mod Inequalities
 pub mod Census
 pub mod Joining
-pub mod Given
+pub mod SortedPaths
+pub mod PathsBehind
 pub mod Found
 pub mod Peaks
 pub mod Place

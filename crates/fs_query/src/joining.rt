@@ -3,7 +3,7 @@ ghost use Rattle.std.specs.Prelude.{◌≡◌, ◌++◌, IfOk, OnOk, map};
 ghost use Rattle.std.specs.List.{filter};
 ghost use Rattle.std.specs.List.Sorted.{IsPermutation};
 ghost use Rattle.fs_query.specs.Condition.{conditions_of};
-ghost use Rattle.fs_query.specs.Given.{AreInOrder, is_given, joins_given, neighbours_same, paths_at, paths_of};
+ghost use Rattle.fs_query.specs.SortedPaths.{AreInOrder, is_given, joins_given, neighbours_same, paths_at, paths_of};
 ghost use Rattle.fs_query.specs.Normal.{inequality_paths, inequality_paths_of, joining};
 ghost use Rattle.fs_query.specs.Rules.{some_twice};
 ghost use Rattle.fs_query.specs.View.{view};

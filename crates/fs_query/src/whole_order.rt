@@ -3,7 +3,7 @@ ghost use Rattle.std.specs.Prelude.{◌≡◌, ◌+◌, ◌-◌, ◌^◌, ◌++�
 ghost use Rattle.std.specs.Option.{option_copied};
 ghost use Rattle.fs_query.specs.Condition.{conditions_of};
 ghost use Rattle.fs_query.specs.Field.{name_path};
-ghost use Rattle.fs_query.specs.Given.{paths_at};
+ghost use Rattle.fs_query.specs.SortedPaths.{paths_at};
 ghost use Rattle.fs_query.specs.Joining.{is_above, nearer, least_of};
 ghost use Rattle.fs_query.specs.Normal.{inequality_paths, inequality_paths_of, is_ordered, joined, joining, last_descending, whole_order};
 ghost use Rattle.fs_query.specs.View.{view};

@@ -1,9 +1,9 @@
 use Rattle.std.proofs.Common.{◌++◌, map, take, ap, sym, ◌∙◌, append_assoc}
 use Rattle.fs_query.specs.Condition.{conditions_of}
-use Rattle.fs_query.specs.Given.{paths_at}
+use Rattle.fs_query.specs.SortedPaths.{paths_at}
 use Rattle.fs_query.specs.Normal.{inequality_paths, inequality_paths_of}
 use Rattle.fs_query.specs.View.{view}
-use Rattle.fs_query.proofs.GivenPaths.{inequalities_more}
+use Rattle.fs_query.proofs.PathsInOrder.{inequalities_more}
 use Rattle.fs_query.proofs.joining.+inequalities.Goals as goal
 
 pub push_all_inequalities-loop-filter-preserved : goal.push_all_inequalities-loop-filter-preserved

@@ -1,5 +1,5 @@
 use Rattle.std.proofs.Common.{◌≡◌, take}
-use Rattle.fs_query.specs.Given.{paths_at, paths_of}
+use Rattle.fs_query.specs.SortedPaths.{paths_at, paths_of}
 use Rattle.fs_query.proofs.joining.given_paths.Given as goal
 
 -- the paths of the orders so far

@@ -1,5 +1,5 @@
 use Rattle.std.proofs.Common.{◌∙◌}
-use Rattle.fs_query.proofs.GivenPaths.{searched}
+use Rattle.fs_query.proofs.PathsInOrder.{searched}
 use Rattle.fs_query.proofs.joining.is_given.Goals as goal
 
 pub returns : goal.returns

@@ -4,10 +4,10 @@ use Rattle.std.specs.List.Sorted.{IsPermutation}
 use Rattle.std.proofs.lemmas.List.Filters.{dedup_is}
 use Rattle.std.proofs.lemmas.List.Sorted.{IsPermutation-map}
 use Rattle.std.proofs.lemmas.Result.{IfOk-weaker}
-use Rattle.fs_query.specs.Given.{same_path, paths_at, paths_of, joins_given}
+use Rattle.fs_query.specs.SortedPaths.{same_path, paths_at, paths_of, joins_given}
 use Rattle.fs_query.specs.Normal.{inequality_paths, joining}
 use Rattle.fs_query.specs.View.{view}
-use Rattle.fs_query.proofs.GivenPaths.{joining_is, once_at, rise_at}
+use Rattle.fs_query.proofs.PathsInOrder.{joining_is, once_at, rise_at}
 use Rattle.fs_query.proofs.joining.joining.Goals as goal
 
 pub returns : goal.returns

@@ -1,5 +1,5 @@
 use Rattle.std.proofs.Common.{◌-◌, drop, sym, ◌∙◌, arith, length-drop}
-use Rattle.fs_query.proofs.GivenPaths.{few_apart}
+use Rattle.fs_query.proofs.PathsInOrder.{few_apart}
 use Rattle.fs_query.proofs.joining.neighbours_same.Goals as goal
 
 pub returns : goal.returns

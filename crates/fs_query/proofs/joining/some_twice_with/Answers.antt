@@ -1,6 +1,6 @@
 use Rattle.std.proofs.Common.{ap, ◌∙◌}
-use Rattle.fs_query.specs.Given.{paths_at, neighbours_same}
-use Rattle.fs_query.proofs.GivenPaths.{twice_sorted}
+use Rattle.fs_query.specs.SortedPaths.{paths_at, neighbours_same}
+use Rattle.fs_query.proofs.PathsInOrder.{twice_sorted}
 use Rattle.fs_query.proofs.joining.some_twice_with.Goals as goal
 
 pub returns : goal.returns

@@ -5,6 +5,6 @@ use Rattle.fs_query.specs.Project.{kept}
 use Rattle.fs_query.proofs.projection.+kept.Given as goal
 
 -- what is kept of the fields so far
-abbrev pub invariant-kept-loop-field : goal.invariant-kept-loop-field
-invariant-kept-loop-field l =
+abbrev pub invariant-kept_in_order-loop-field : goal.invariant-kept_in_order-loop-field
+invariant-kept_in_order-loop-field l =
     map field_view l.all.items ≡ kept (map (λ p. p.now) l.paths) (members_of (map field_view (take l.field-index l.field-items)))

@@ -1,22 +1,17 @@
-use Rattle.std.proofs.Common.{◌≡◌, [], ◌∷◌, sym, ap, ◌∙◌, arith, append-nil}
-use Rattle.std.specs.Prelude.{option_map}
-use Rattle.std.specs.Option.{option_to_list}
-use Rattle.std.proofs.lemmas.Grind.{common_steps}
-use Rattle.fs_query.specs.Project.{rest_behind}
-use Rattle.fs_query.proofs.Projected.{rests_next}
+use Rattle.std.proofs.Common.{◌≡◌, ◌-◌, map, length, take, drop, ap, ◌∙◌, arith}
+use Rattle.std.proofs.lemmas.Result.{IfOk-weaker}
+use Rattle.fs_query.specs.Project.{rests}
+use Rattle.fs_query.proofs.Cuts.{rest_from}
+use Rattle.fs_query.proofs.KeptInOrder.{rests_from}
 use Rattle.fs_query.proofs.projection.rests.Goals as goal
-use Rattle.fs_query.proofs.projection.rests.Goals.{in-Some+in_ok-push, in_default}
 
-pub loop-path-preserved : goal.loop-path-preserved
-loop-path-preserved c =
-    let next = rests_next c.args.key.now c.args.paths.now c.loop-path.path-index c.path-item.result c.loop-path-test.true c.path-item.is in
-    elim c.match-rest_behind.branch [
-      | in-Some+in_ok-push w ↦
-          let e : rest_behind c.args.key.now c.path-item.result.now ≡ w.in-Some.rest.now ∷ [] =
-          sym c.rest_behind.ensures ∙ ap (λ o. option_to_list (option_map (λ p. p.now) o)) w.in-Some.is in
-          rw (next, ← c.loop-path.invariant, w.all-is, e) (grind (arith, common_steps))
-      | in_default w ↦
-          let e : rest_behind c.args.key.now c.path-item.result.now ≡ [] =
-          sym c.rest_behind.ensures ∙ ap (λ o. option_to_list (option_map (λ p. p.now) o)) w.in_default.is in
-          rw (next, ← c.loop-path.invariant, w.all-is, e, append-nil)
-    ]
+pub returns : goal.returns
+returns c =
+    let key = c.args.key.now in
+    let paths = c.args.paths.now in
+    let from = c.first_not_before-from.result in
+    let others = take (length paths - from) (drop from paths) in
+    let all : rests key (map (λ p. p.now) others) ≡ rests key (map (λ p. p.now) paths) =
+    ap (λ ps. rests key (map (λ p. p.now) ps)) (rest_from from from paths (omega (arith, c.first_not_before-from.ensures.within)))
+    ∙ rests_from key paths from c.first_not_before-from.ensures.before c.first_not_before-from.ensures.within in
+    IfOk-weaker c.rests_in_front.result (λ v. map (λ p. p.now) v.items ≡ rests key (map (λ p. p.now) others)) (λ v. map (λ p. p.now) v.items ≡ rests key (map (λ p. p.now) paths)) (λ v e. e ∙ all) c.rests_in_front.ensures

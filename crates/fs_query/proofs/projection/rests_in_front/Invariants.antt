@@ -1,6 +1,6 @@
 use Rattle.std.proofs.Common.{◌≡◌, map, take}
 use Rattle.fs_query.specs.Project.{rests}
-use Rattle.fs_query.proofs.projection.rests.Given as goal
+use Rattle.fs_query.proofs.projection.rests_in_front.Given as goal
 
 -- those of the paths so far
 abbrev pub invariant-loop-path : goal.invariant-loop-path

@@ -18,7 +18,7 @@ use Rattle.fs_path.specs.TextOrder.{ids_cmp_total, ids_eq_equiv, ids_ties}
 use Rattle.fs_path.specs.declared.field.FieldPath.{FieldPath}
 use Rattle.fs_query.specs.Condition.{conditions_of}
 use Rattle.fs_query.specs.Field.{is_name}
-use Rattle.fs_query.specs.Given.{by_parts, same_path, AreInOrder, paths_at, paths_of, is_given, joins_given, neighbours_same}
+use Rattle.fs_query.specs.SortedPaths.{by_parts, same_path, AreInOrder, paths_at, paths_of, is_given, joins_given, neighbours_same}
 use Rattle.fs_query.specs.Normal.{inequality_paths, inequality_paths_of, in_order, is_ordered, joins}
 use Rattle.fs_query.specs.Rules.{some_twice}
 use Rattle.fs_query.specs.declared.order.Order.{Order}
