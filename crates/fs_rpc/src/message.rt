@@ -1,4 +1,5 @@
 //! Messages: the answers to requests.
+use crate::id::copy_id;
 use fs_path::{DocName, Text};
 use fs_status::{Code, Refusal, message};
 use fs_time::Micros;
@@ -58,6 +59,40 @@ impl Message {
             message: message(alloc, refusal)?,
         })
     }
+
+    pub fn copy(&self, alloc: Global) -> Result<Message, AllocError>
+        ensures { IfOk result (λ m. m ≡ self.now) }
+    {
+        Ok(match self {
+            Message::Commit { id, time, results } => Message::Commit {
+                id: copy_id(alloc, id)?,
+                time: *time,
+                results: results.copy(alloc)?,
+            },
+            Message::GetDocument { id, document } => Message::GetDocument {
+                id: copy_id(alloc, id)?,
+                document: document.copy(alloc)?,
+            },
+            Message::BatchGetDocuments { id, answers } => Message::BatchGetDocuments {
+                id: copy_id(alloc, id)?,
+                answers: answers.copy(alloc)?,
+            },
+            Message::RunQuery {
+                id,
+                documents,
+                time,
+            } => Message::RunQuery {
+                id: copy_id(alloc, id)?,
+                documents: documents.copy(alloc)?,
+                time: *time,
+            },
+            Message::Error { id, code, message } => Message::Error {
+                id: copy_id(alloc, id)?,
+                code: *code,
+                message: message.copy(alloc)?,
+            },
+        })
+    }
 }
 
 /// What is told of a name that was asked for: the document that stood there at a time, or that none did.
@@ -65,6 +100,19 @@ impl Message {
 pub enum BatchAnswer {
     Found(Document, Micros),
     Missing(DocName, Micros),
+}
+
+impl BatchAnswer {
+    ghost use Rattle.std.specs.Prelude.{◌≡◌, IfOk};
+
+    pub fn copy(&self, alloc: Global) -> Result<BatchAnswer, AllocError>
+        ensures { IfOk result (λ a. a ≡ self.now) }
+    {
+        Ok(match self {
+            BatchAnswer::Found(document, time) => BatchAnswer::Found(document.copy(alloc)?, *time),
+            BatchAnswer::Missing(name, time) => BatchAnswer::Missing(name.copy(alloc)?, *time),
+        })
+    }
 }
 
 /// Answers in their order. Contracts see them as a list.
@@ -87,7 +135,7 @@ impl Model for Answers {
 }
 
 impl Answers {
-    ghost use Rattle.std.specs.Prelude.{◌≡◌, ◌∷◌, ◌++◌, OnOk, OnErr, [], length};
+    ghost use Rattle.std.specs.Prelude.{◌≡◌, ◌∷◌, ◌++◌, IfOk, OnOk, OnErr, [], length};
 
     /// No answers. The allocator serves those that are pushed.
     pub fn new(alloc: Global) -> Answers
@@ -110,5 +158,15 @@ impl Answers {
         ensures err { OnErr result (self.new ≡ self.old) }
     {
         Ok(self.items.push(answer)?)
+    }
+
+    pub fn copy(&self, alloc: Global) -> Result<Answers, AllocError>
+        ensures { IfOk result (λ l. l ≡ self.now) }
+    {
+        let mut items = Vec::with_capacity(alloc, self.items.len())?;
+        for answer in &self.items {
+            items.push(answer.copy(alloc)?)?;
+        }
+        Ok(Answers { items })
     }
 }
