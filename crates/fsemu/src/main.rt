@@ -4,13 +4,12 @@
 mod program;
 mod run;
 
-use fs_edge::Status;
 use std::process::ExitCode;
 
 fn main(rt: HostRuntime) -> ExitCode {
     let ended = program::start(&rt);
-    if let Ok(Status::Usage) = ended {
-        let _ = eprintln!(rt; "usage: fsemu replay|serve|client|generate");
+    if let Some(usage) = program::usage_of(&ended) {
+        let _ = eprintln!(rt; "{usage}");
     }
     ExitCode::from(program::exit_code(ended))
 }
