@@ -5,4 +5,4 @@ use Rattle.fs_replay.proofs.Reading.{read_refused}
 use Rattle.fs_replay.proofs.line.request_in.Goals as goal
 
 pub returns-in-Err : goal.returns-in-Err
-returns-in-Err c = read_refused (λ x. x) line.Asked c.in-Err.bad (session_request_at c.args.root.now (view c.args.v.now)) c.refused.result c.in-Err.ensures c.refused.ensures
+returns-in-Err c = read_refused (λ x. x) line.Asked c.in-Err.bad (session_request_at c.args.root.now (view c.args.v.now)) c.refused.result c.in-Err.ensures.gives c.refused.ensures
