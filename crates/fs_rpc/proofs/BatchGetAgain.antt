@@ -11,12 +11,12 @@ use Rattle.fs_path.specs.Place.{item_place, member_place}
 use Rattle.fs_path.specs.declared.field.FieldPath.{FieldPath}
 use Rattle.fs_path.specs.declared.name.DocName.{DocName}
 use Rattle.fs_path.specs.declared.name.Root.{Root}
-use Rattle.serde_json.specs.Data.{Members, no_members, member, object, string, put}
+use Rattle.serde_json.specs.Data.{Members, no_members, member, object}
 use Rattle.fs_json.specs.Answer.{◌>>=◌}
 use Rattle.fs_json.specs.Paths.{document_name_at as name_at, path_at}
 use Rattle.fs_json.specs.Walk.{each_at}
 use Rattle.fs_valjson.specs.Held.{IsTimeHeld}
-use Rattle.fs_rpc.specs.Envelope.{envelope_at, session_request_at}
+use Rattle.fs_rpc.specs.Envelope.{envelope_at}
 use Rattle.fs_rpc.specs.Id.{with_id_put}
 use Rattle.fs_rpc.specs.RequestJson.{batch_get_json, name_json, names_json}
 use Rattle.fs_rpc.specs.RequestSteps.{IsMaskHeld}
@@ -81,10 +81,3 @@ pub batch_get_read : (root : Root) (id : Option (List ℕ)) (ms : Members) (r : 
 unfolding envelope_at
 batch_get_read root None ms r h = rw h refl
 batch_get_read root (Some id) ms r h = rw h refl
-
-pub batch_get_read_on : (root : Root) (session : List ℕ) (id : Option (List ℕ)) (ms : Members) (r : Request) → batch_get_at root (object ms) (codes "batchGetDocuments") ≡ Ok r
-    → session_request_at root (object (put (codes "session") (string session) (with_id_put id (member (codes "batchGetDocuments") (object ms) no_members))))
-    ≡ Ok (record { session = session; id = id; request = Ok r })
-unfolding session_request_at
-batch_get_read_on root session None ms r h = rw h refl
-batch_get_read_on root session (Some id) ms r h = rw h refl

@@ -4,7 +4,7 @@ use Rattle.std.specs.List.{AllByRecursion}
 use Rattle.fs_path.specs.Database.{IsDatabase}
 use Rattle.fs_path.specs.Place.{item_place, member_place}
 use Rattle.fs_path.specs.declared.name.Root.{Root}
-use Rattle.serde_json.specs.Data.{Data, Items, item, Members, no_members, member, object, string, put}
+use Rattle.serde_json.specs.Data.{Data, Items, item, Members, no_members, member, object}
 use Rattle.fs_json.specs.Answer.{◌>>=◌}
 use Rattle.fs_json.specs.Walk.{each_at}
 use Rattle.fs_json.specs.declared.bad.Bad.{Bad}
@@ -14,7 +14,7 @@ use Rattle.fs_writejson.specs.Rules.{judged_at, permitted_at, rule_of_draft, rul
 use Rattle.fs_writejson.specs.Valid.{IsWriteOf}
 use Rattle.fs_writejson.specs.Written.{write_json}
 use Rattle.fs_writejson.specs.declared.draft.Draft.{Draft}
-use Rattle.fs_rpc.specs.Envelope.{envelope_at, session_request_at}
+use Rattle.fs_rpc.specs.Envelope.{envelope_at}
 use Rattle.fs_rpc.specs.Id.{with_id_put}
 use Rattle.fs_rpc.specs.RequestJson.{commit_json, writes_json}
 use Rattle.fs_rpc.specs.RequestSteps.{IsWriteHeld}
@@ -84,10 +84,3 @@ pub commit_read : (root : Root) (id : Option (List ℕ)) (ms : Members) (r : Req
 unfolding envelope_at
 commit_read root None ms r h = rw h refl
 commit_read root (Some id) ms r h = rw h refl
-
-pub commit_read_on : (root : Root) (session : List ℕ) (id : Option (List ℕ)) (ms : Members) (r : Request) → commit_at root (object ms) (codes "commit") ≡ Ok r
-    → session_request_at root (object (put (codes "session") (string session) (with_id_put id (member (codes "commit") (object ms) no_members))))
-    ≡ Ok (record { session = session; id = id; request = Ok r })
-unfolding session_request_at
-commit_read_on root session None ms r h = rw h refl
-commit_read_on root session (Some id) ms r h = rw h refl

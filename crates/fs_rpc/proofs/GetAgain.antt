@@ -6,9 +6,9 @@ use Rattle.fs_path.specs.Place.{member_place}
 use Rattle.fs_path.specs.declared.field.FieldPath.{FieldPath}
 use Rattle.fs_path.specs.declared.name.DocName.{DocName}
 use Rattle.fs_path.specs.declared.name.Root.{Root}
-use Rattle.serde_json.specs.Data.{Members, no_members, member, object, string, put}
+use Rattle.serde_json.specs.Data.{Members, no_members, member, object}
 use Rattle.fs_valjson.specs.Held.{IsTimeHeld}
-use Rattle.fs_rpc.specs.Envelope.{envelope_at, session_request_at}
+use Rattle.fs_rpc.specs.Envelope.{envelope_at}
 use Rattle.fs_rpc.specs.Id.{with_id_put}
 use Rattle.fs_rpc.specs.RequestJson.{get_json}
 use Rattle.fs_rpc.specs.RequestSteps.{IsMaskHeld}
@@ -34,10 +34,3 @@ pub get_read : (root : Root) (id : Option (List ℕ)) (ms : Members) (r : Reques
 unfolding envelope_at
 get_read root None ms r h = rw h refl
 get_read root (Some id) ms r h = rw h refl
-
-pub get_read_on : (root : Root) (session : List ℕ) (id : Option (List ℕ)) (ms : Members) (r : Request) → get_at root (object ms) (codes "getDocument") ≡ Ok r
-    → session_request_at root (object (put (codes "session") (string session) (with_id_put id (member (codes "getDocument") (object ms) no_members))))
-    ≡ Ok (record { session = session; id = id; request = Ok r })
-unfolding session_request_at
-get_read_on root session None ms r h = rw h refl
-get_read_on root session (Some id) ms r h = rw h refl

@@ -1,5 +1,5 @@
 -- What is read as a message is a message of the root's documents.
-use Rattle.std.proofs.Common.{◌≡◌, ℕ, ℤ, List, [], ◌∷◌, ◌++◌, Option, Some, None, Result, Ok, Err, IfOk, IfSome, codes, bytes_eq, filter_map, option_map}
+use Rattle.std.proofs.Common.{ℕ, ℤ, List, [], ◌∷◌, Option, Some, None, Ok, IfOk, IfSome, codes, bytes_eq, filter_map, option_map}
 use Rattle.std.specs.List.{AllByRecursion}
 use Rattle.serde_json.specs.Data.{Data, Items}
 use Rattle.serde_json.specs.Find.{as_array}
@@ -13,7 +13,7 @@ use Rattle.fs_json.specs.Paths.{document_name_at}
 use Rattle.fs_json.specs.Walk.{all_at, each_at}
 use Rattle.fs_value.specs.Data.{items_of}
 use Rattle.fs_value.specs.declared.document.Document.{Document}
-use Rattle.fs_valjson.specs.AnswerLaws.{at_last_holds, each_item, each_of_list, either, found_or, given, in_turn_holds}
+use Rattle.fs_valjson.specs.AnswerLaws.{at_last_holds, each_item, each_of_list, either, found_or, in_turn_holds}
 use Rattle.fs_valjson.specs.Document.{document_at}
 use Rattle.fs_valjson.specs.NameLaws.{document_name_is}
 use Rattle.fs_valjson.specs.Reading.{list_at}
@@ -23,7 +23,7 @@ use Rattle.fs_valjson.specs.Writing.{ItemsHaveNames}
 use Rattle.fs_rpc.specs.Id.{id_at}
 use Rattle.fs_rpc.specs.ReadMessage.{answers_commit, answers_names, code_named, commit_result_at, commit_result_members, documents_result_at, error_at, if_numbered, list_result_at, message_at, message_members, object_result_at, outcome_at, outcomes, query_result_at, required_integer_at, required_text_at, result_at}
 use Rattle.fs_rpc.specs.ReadMessage as read
-use Rattle.fs_rpc.specs.ReadResults.{answered, batch_answer_at, batch_answer_members, document_in, found_at, found_or_missing, missing_at, query_answer_at, query_answer_members, results_in, time_of, told_at, transforms_in, write_result_at, write_result_members}
+use Rattle.fs_rpc.specs.ReadResults.{answered, batch_answer_at, batch_answer_members, document_in, found_at, found_or_missing, missing_at, query_answer_at, query_answer_members, results_in, time_of, transforms_in, write_result_at, write_result_members}
 use Rattle.fs_rpc.specs.Times.{optional_time_at, required_time_at}
 use Rattle.fs_rpc.specs.ValidMessage.{HasNames, IsAnswerOf, IsMessageOf}
 

@@ -1,18 +1,18 @@
--- What is written of a request is read as the same request, with the same id, also on a session.
+-- What is written of a request is read as the same request, with the same id.
 use Rattle.std.proofs.Common.{◌≡◌, ℕ, List, Option, Ok, codes, sym, subst}
 use Rattle.fs_path.specs.declared.name.Root.{Root}
-use Rattle.fs_rpc.specs.Envelope.{envelope_at, session_request_at}
-use Rattle.fs_rpc.specs.RequestJson.{envelope_json, envelope_json_on, method_of, request_json}
+use Rattle.fs_rpc.specs.Envelope.{envelope_at}
+use Rattle.fs_rpc.specs.RequestJson.{envelope_json, method_of, request_json}
 use Rattle.fs_rpc.specs.RequestSteps.{IsRequestHeld}
 use Rattle.fs_rpc.specs.Requests.{request_at}
 use Rattle.fs_rpc.specs.ValidRequest.{IsRequestOf}
 use Rattle.fs_rpc.specs.declared.request.Envelope.{Envelope}
 use Rattle.fs_rpc.specs.declared.request.Request.{Request}
 use Rattle.fs_rpc.specs.declared.request.Request.TheVariants.{Commit, GetDocument, BatchGetDocuments, RunQuery}
-use Rattle.fs_rpc.proofs.BatchGetAgain.{batch_get_again, batch_get_read, batch_get_read_on}
-use Rattle.fs_rpc.proofs.CommitAgain.{commit_again, commit_read, commit_read_on}
-use Rattle.fs_rpc.proofs.GetAgain.{get_again, get_read, get_read_on}
-use Rattle.fs_rpc.proofs.RunQueryAgain.{run_query_again, run_query_read, run_query_read_on}
+use Rattle.fs_rpc.proofs.BatchGetAgain.{batch_get_again, batch_get_read}
+use Rattle.fs_rpc.proofs.CommitAgain.{commit_again, commit_read}
+use Rattle.fs_rpc.proofs.GetAgain.{get_again, get_read}
+use Rattle.fs_rpc.proofs.RunQueryAgain.{run_query_again, run_query_read}
 
 -- what stands under the method
 content_again : (root : Root) (r : Request) → IsRequestHeld r → IsRequestOf root r → request_at root (method_of r) (request_json r) ≡ Ok r
@@ -36,16 +36,5 @@ read_again root id (GetDocument name mask time) h = get_read root id _ (GetDocum
 read_again root id (BatchGetDocuments database documents mask time) h = batch_get_read root id _ (BatchGetDocuments database documents mask time) h
 read_again root id (RunQuery database query time) h = run_query_read root id _ (RunQuery database query time) h
 
-read_again_on : (root : Root) (session : List ℕ) (id : Option (List ℕ)) (r : Request) → request_at root (method_of r) (request_json r) ≡ Ok r
-    → session_request_at root (envelope_json_on session (with_id id r)) ≡ Ok (record { session = session; id = id; request = Ok r })
-read_again_on root session id (Commit database writes) h = commit_read_on root session id _ (Commit database writes) h
-read_again_on root session id (GetDocument name mask time) h = get_read_on root session id _ (GetDocument name mask time) h
-read_again_on root session id (BatchGetDocuments database documents mask time) h = batch_get_read_on root session id _ (BatchGetDocuments database documents mask time) h
-read_again_on root session id (RunQuery database query time) h = run_query_read_on root session id _ (RunQuery database query time) h
-
 pub envelope_again : (root : Root) (e : Envelope) → IsRequestHeld e.request → IsRequestOf root e.request → envelope_at root (envelope_json e) ≡ Ok e
 envelope_again root e held valid = read_again root e.id e.request (content_again root e.request held valid)
-
-pub session_again : (root : Root) (session : List ℕ) (e : Envelope) → IsRequestHeld e.request → IsRequestOf root e.request
-    → session_request_at root (envelope_json_on session e) ≡ Ok (record { session = session; id = e.id; request = Ok e.request })
-session_again root session e held valid = read_again_on root session e.id e.request (content_again root e.request held valid)

@@ -12,7 +12,7 @@ use Rattle.fs_path.specs.declared.field.FieldPath.{FieldPath}
 use Rattle.fs_path.specs.declared.name.DocName.{DocName}
 use Rattle.fs_write.specs.declared.write.Write.{Write}
 use Rattle.fs_rpc.specs.Id.{with_id_put}
-use Rattle.fs_rpc.specs.RequestJson.{envelope_json, envelope_json_on, envelope_members, method_of, names_json, request_json, with_mask, with_read_time, writes_json, writes_member}
+use Rattle.fs_rpc.specs.RequestJson.{envelope_json, envelope_members, method_of, names_json, request_json, with_mask, with_read_time, writes_json, writes_member}
 use Rattle.fs_rpc.specs.RequestSteps.{IsMaskHeld, IsRequestHeld, IsWriteHeld}
 use Rattle.fs_rpc.specs.declared.request.Envelope.{Envelope}
 use Rattle.fs_rpc.specs.declared.request.Request.{Request}
@@ -73,6 +73,3 @@ envelope_members_float e held = with_id_float e.id (member (method_of e.request)
 
 pub envelope_float : (e : Envelope) → IsRequestHeld e.request → has_float (envelope_json e) ≡ false
 envelope_float e held = envelope_members_float e held
-
-pub envelope_on_float : (session : List ℕ) (e : Envelope) → IsRequestHeld e.request → has_float (envelope_json_on session e) ≡ false
-envelope_on_float session e held = put_float (codes "session") (string session) (envelope_members e) refl (envelope_members_float e held)

@@ -1,38 +1,33 @@
 -- What is read as a request is a request of the root's documents.
-use Rattle.std.proofs.Common.{◌≡◌, ℕ, ℤ, List, [], ◌∷◌, ◌++◌, Bool, true, false, Option, Some, None, Result, Ok, Err, IfOk, codes, cond, bytes_eq, refl, sym, subst, ◌∙◌}
+use Rattle.std.proofs.Common.{◌≡◌, ℕ, ℤ, List, [], ◌∷◌, ◌++◌, Bool, true, false, Option, Ok, IfOk, codes, cond, bytes_eq, refl, sym, subst, ◌∙◌}
 use Rattle.std.proofs.lemmas.Bool.{or_parts}
 use Rattle.std.proofs.lemmas.List.Folds.{list_any-append}
 use Rattle.std.proofs.lemmas.Map.Keys.{IsDistinct-cons}
 use Rattle.std.specs.List.{list_any, AllByRecursion, IsDistinct}
 use Rattle.serde_json.specs.Data.{Data}
 use Rattle.serde_json.specs.Find.{as_array, as_str}
-use Rattle.serde_json.specs.Read.{read}
-use Rattle.fs_path.specs.Database.{database_of, IsDatabase}
+use Rattle.fs_path.specs.Database.{IsDatabase}
 use Rattle.fs_path.specs.Document.{IsDocumentOf, IsParentOf}
 use Rattle.fs_path.specs.NameOrder.{name_eq, name_eq_equiv}
 use Rattle.fs_path.specs.Place.{member_place}
 use Rattle.fs_path.specs.declared.name.DocName.{DocName}
 use Rattle.fs_path.specs.declared.name.Root.{Root}
 use Rattle.fs_path.specs.declared.place.Rule.TheVariants.{G}
-use Rattle.fs_json.specs.Answer.{or_fault, ◌>>=◌}
-use Rattle.fs_json.specs.Members.{member_at, one_of_at, only_at, required_at, unbuilt_at}
-use Rattle.fs_json.specs.Paths.{document_name_at as name_at, path_at}
+use Rattle.fs_json.specs.Answer.{or_fault}
+use Rattle.fs_json.specs.Members.{member_at, only_at, required_at, unbuilt_at}
+use Rattle.fs_json.specs.Paths.{document_name_at as name_at}
 use Rattle.fs_json.specs.Walk.{each_at}
 use Rattle.fs_query.specs.Asked.{Asked}
 use Rattle.fs_queryjson.specs.Query.{permitted_at, walked_at}
 use Rattle.fs_queryjson.specs.ValidLaws.{permitted_valid, walked_valid, IsReadBelow, IsWalked}
-use Rattle.fs_valjson.specs.AnswerLaws.{at_last_holds, each_item, either, found_or, given, in_turn_holds}
+use Rattle.fs_valjson.specs.AnswerLaws.{at_last_holds, each_item, either, found_or, in_turn_holds}
 use Rattle.fs_valjson.specs.NameLaws.{database_is, document_name_is, parent_is}
 use Rattle.fs_writejson.specs.Draft.{drafts_at}
 use Rattle.fs_writejson.specs.Rules.{judged_at}
 use Rattle.fs_writejson.specs.Valid.{IsDraftOf, IsWriteOf}
 use Rattle.fs_writejson.specs.ValidLaws.{drafts_valid, judged_valid}
-use Rattle.fs_rpc.specs.Envelope.{envelope_at, request_of}
-use Rattle.fs_rpc.specs.Id.{id_at}
-use Rattle.fs_rpc.specs.Methods.{envelope_head, methods}
-use Rattle.fs_rpc.specs.Requests.{batch_get_at, batch_get_members, commit_at, commit_members, database_at, drafts_in, each_once_at, get_at, get_members, mask_in, names_at, once, once_after, parent_at, request_at, run_query_at, run_query_members, structured_at, when_at}
+use Rattle.fs_rpc.specs.Requests.{batch_get_at, batch_get_members, commit_at, commit_members, database_at, drafts_in, get_at, get_members, mask_in, names_at, once_after, parent_at, request_at, run_query_at, run_query_members, structured_at, when_at}
 use Rattle.fs_rpc.specs.ValidRequest.{IsRequestOf}
-use Rattle.fs_rpc.specs.declared.request.Envelope.{Envelope}
 
 -- ---- names, each once
 

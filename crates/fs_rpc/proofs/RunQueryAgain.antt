@@ -3,7 +3,7 @@ use Rattle.std.proofs.Common.{◌≡◌, ℕ, ℤ, true, List, Option, Some, Non
 use Rattle.fs_path.specs.Document.{document_text, under, IsParentOf}
 use Rattle.fs_path.specs.Place.{member_place}
 use Rattle.fs_path.specs.declared.name.Root.{Root}
-use Rattle.serde_json.specs.Data.{Data, Members, no_members, member, object, string, put}
+use Rattle.serde_json.specs.Data.{Data, Members, no_members, member, object, string}
 use Rattle.fs_json.specs.Answer.{◌>>=◌}
 use Rattle.fs_json.specs.Members.{is_given, required_at}
 use Rattle.fs_json.specs.declared.bad.Bad.{Bad}
@@ -12,7 +12,7 @@ use Rattle.fs_queryjson.specs.From.{parent_of as scope_parent}
 use Rattle.fs_queryjson.specs.Query.{permitted_at, query_at, walked_at}
 use Rattle.fs_queryjson.specs.Written.{query_json}
 use Rattle.fs_valjson.specs.Held.{IsTimeHeld}
-use Rattle.fs_rpc.specs.Envelope.{envelope_at, session_request_at}
+use Rattle.fs_rpc.specs.Envelope.{envelope_at}
 use Rattle.fs_rpc.specs.Id.{with_id_put}
 use Rattle.fs_rpc.specs.RequestJson.{run_query_json, with_read_time}
 use Rattle.fs_rpc.specs.Requests.{run_query_at, structured_at, when_at}
@@ -73,10 +73,3 @@ pub run_query_read : (root : Root) (id : Option (List ℕ)) (ms : Members) (r : 
 unfolding envelope_at
 run_query_read root None ms r h = rw h refl
 run_query_read root (Some id) ms r h = rw h refl
-
-pub run_query_read_on : (root : Root) (session : List ℕ) (id : Option (List ℕ)) (ms : Members) (r : Request) → run_query_at root (object ms) (codes "runQuery") ≡ Ok r
-    → session_request_at root (object (put (codes "session") (string session) (with_id_put id (member (codes "runQuery") (object ms) no_members))))
-    ≡ Ok (record { session = session; id = id; request = Ok r })
-unfolding session_request_at
-run_query_read_on root session None ms r h = rw h refl
-run_query_read_on root session (Some id) ms r h = rw h refl

@@ -1,6 +1,6 @@
 -- What stands round a request: its id, and on a line of a script its session. A fault there is one of the line; a fault of
 -- the method's content is answered with the session and the id that were read.
-use Rattle.std.specs.Prelude.{ℕ, List, [], ◌++◌, Option, Result, Ok, codes}
+use Rattle.std.specs.Prelude.{ℕ, List, [], ◌++◌, Result, Ok, codes}
 use Rattle.serde_json.specs.Data.{Data}
 use Rattle.serde_json.specs.Find.{as_str}
 use Rattle.serde_json.specs.Read.{read}

@@ -16,7 +16,7 @@ use Rattle.fs_path.specs.declared.field.FieldPath.{FieldPath}
 use Rattle.fs_path.specs.declared.name.DocName.{DocName}
 use Rattle.fs_path.specs.declared.name.Root.{Root}
 use Rattle.fs_path.specs.declared.scope.Scope.{Scope}
-use Rattle.serde_json.specs.Data.{Data, string, array, object, Items, Members, no_members, member, put}
+use Rattle.serde_json.specs.Data.{Data, string, array, object, Items, Members, no_members, member}
 use Rattle.serde_json.specs.View.{items_of}
 use Rattle.fs_json.specs.Time.{time_json}
 use Rattle.fs_query.specs.Asked.{Asked}
@@ -99,7 +99,3 @@ envelope_members e = with_id_put e.id (member (method_of e.request) (request_jso
 
 abbrev pub envelope_json : Envelope → Data
 envelope_json e = object (envelope_members e)
-
--- the same on a session
-abbrev pub envelope_json_on : List ℕ → Envelope → Data
-envelope_json_on session e = object (put (codes "session") (string session) (envelope_members e))

@@ -41,14 +41,6 @@ pub fn error_json(alloc: Global, code: Code, message: &str) -> Result<Value, All
     json!(in alloc; {"code": code.http(), "message": message, "status": code.status()})
 }
 
-/// Writes a message.
-pub fn message_json(alloc: Global, m: &Message) -> Result<Value, AllocError>
-    ensures value { IfOk result (λ j. json j ≡ message_json m.now) }
-    ensures no_float { IfOk result (λ j. has_float (json j) ≡ false) }
-{
-    Ok(Value::Object(write_members(alloc, m)?))
-}
-
 /// Writes a message with the name of its session, as a line of a transcript has it.
 pub fn message_json_on(alloc: Global, session: &str, m: &Message) -> Result<Value, AllocError>
     ensures value { IfOk result (λ j. json j ≡ message_json_on session.now m.now) }

@@ -1,17 +1,17 @@
 //! Writes requests.
-ghost use Rattle.std.specs.Prelude.{◌≡◌, ◌≤◌, false, Some, Ok, IfOk, IfSome, OnOk};
+ghost use Rattle.std.specs.Prelude.{◌≡◌, ◌≤◌, Ok, IfOk, IfSome, OnOk};
 ghost use Rattle.std.specs.List.{AllByRecursion};
 ghost use Rattle.fs_path.specs.declared.name.Root.{Root};
 ghost use Rattle.serde_json.specs.Data.{depth};
 ghost use Rattle.serde_json.specs.Read.{max_depth};
 ghost use Rattle.serde_json.specs.View.{items_view, members_view, view};
-ghost use Rattle.serde_json.specs.Written.{compact_text, has_float};
+ghost use Rattle.serde_json.specs.Written.{compact_text};
 ghost use Rattle.fs_queryjson.specs.Written.{query_json};
 ghost use Rattle.fs_valjson.specs.Held.{IsTimeHeld};
 ghost use Rattle.fs_writejson.specs.Mask.{mask_json};
 ghost use Rattle.fs_writejson.specs.Written.{write_json};
-ghost use Rattle.fs_rpc.specs.Envelope.{envelope_at, request_of, session_request_at};
-ghost use Rattle.fs_rpc.specs.RequestJson.{batch_get_json, commit_json, database_json, envelope_json, envelope_json_on, envelope_members, get_json, method_of, names_json, parent_json, request_json, run_query_json, writes_json};
+ghost use Rattle.fs_rpc.specs.Envelope.{request_of};
+ghost use Rattle.fs_rpc.specs.RequestJson.{batch_get_json, commit_json, database_json, envelope_json, envelope_members, get_json, method_of, names_json, parent_json, request_json, run_query_json, writes_json};
 ghost use Rattle.fs_rpc.specs.RequestSteps.{ArePathsHeld, IsMaskHeld, IsQueryHeld, IsRequestHeld, IsWriteHeld, with_mask_put, with_read_time_put};
 ghost use Rattle.fs_rpc.specs.ValidRequest.{IsRequestOf};
 
@@ -19,12 +19,11 @@ use crate::id::put_id;
 use crate::list::put_list;
 use crate::names::{
     BATCH_GET_DOCUMENTS, COMMIT, DATABASE, DOCUMENTS, GET_DOCUMENT, MASK, NAME, PARENT, READ_TIME,
-    RUN_QUERY, SESSION, STRUCTURED_QUERY, WRITES,
+    RUN_QUERY, STRUCTURED_QUERY, WRITES,
 };
 use crate::print::{print_database, print_parent};
 use crate::request::{Envelope, Request};
 use crate::times::moment;
-use fs_json::write_text;
 use fs_path::{DocName, Paths, Root, Scope, Text, print_document};
 use fs_query::Query;
 use fs_queryjson::write_query;
@@ -34,40 +33,12 @@ use fs_writejson::{write_mask, write_write};
 use serde_json::{Map, Value};
 use std::alloc::{AllocError, Global};
 
-/// Writes a request with its id, where it has one, as a socket's message has it.
-pub fn request_json(alloc: Global, e: &Envelope) -> Result<Value, AllocError>
-    ensures json { IfOk result (λ v. view v ≡ envelope_json e.now) }
-
-    // It has no float, so what is printed of it is told byte for byte.
-    ensures no_float { IfOk result (λ v. has_float (view v) ≡ false) }
-
-    // Where it is a request of the root's documents, it is read back as the same request, with the same id.
-    ensures again { IfOk result (λ v. (root : Root) → IsRequestOf root e.now.request
-        → envelope_at root (view v) ≡ Ok e.now) }
-{
-    Ok(Value::Object(write_members(alloc, e)?))
-}
-
-/// Writes a request with the name of its session, as a line of a script has it.
-pub fn request_json_on(alloc: Global, session: &Text, e: &Envelope) -> Result<Value, AllocError>
-    ensures json { IfOk result (λ v. view v ≡ envelope_json_on session.now e.now) }
-    ensures no_float { IfOk result (λ v. has_float (view v) ≡ false) }
-
-    // It is read back as the same request on that session.
-    ensures again { IfOk result (λ v. (root : Root) → IsRequestOf root e.now.request
-        → session_request_at root (view v) ≡ Ok (record { session = session.now; id = e.now.id; request = Ok e.now.request })) }
-{
-    let mut members = write_members(alloc, e)?;
-    let session = write_text(alloc, session)?;
-    serde_json::put(&mut members, alloc, SESSION, session)?;
-    Ok(Value::Object(members))
-}
-
-/// Writes a request as the text of its JSON, without spaces.
+/// Writes a request with its id, where it has one, as the text of its JSON, without spaces.
 pub fn write_request(alloc: Global, e: &Envelope) -> Result<Text, AllocError>
     ensures text { IfOk result (λ t. t ≡ compact_text (envelope_json e.now)) }
 
-    // Where its JSON also nests no deeper than JSON is read, the text is read back as the same request, with the same id.
+    // Where it is a request of the root's documents, and its JSON nests no deeper than JSON is read, the text is read back as
+    // the same request, with the same id.
     ensures again { IfOk result (λ t. (root : Root) → IsRequestOf root e.now.request
         → depth (envelope_json e.now) ≤ max_depth → request_of root t ≡ Ok e.now) }
 {

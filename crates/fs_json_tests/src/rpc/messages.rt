@@ -1,10 +1,9 @@
 //! What is made of messages.
-use crate::made::{a_text, both, demo, moment, printed};
+use crate::made::{a_text, demo, moment, printed};
 use fs_json::Bad;
 use fs_path::parse_document;
 use fs_rpc::{
-    Answers, BatchAnswer, Message, error_json, message_json, message_json_on, read_message,
-    write_message,
+    Answers, BatchAnswer, Message, error_json, message_json_on, read_message, write_message,
 };
 use fs_status::{Code, Reason, Refusal};
 use fs_time::Micros;
@@ -16,21 +15,17 @@ fn read(rt: &impl Abort, alloc: Global, json: &str) -> Result<Message, Bad> {
     read_message(alloc, &root, json)
 }
 
-// What both writers write of a message, or what is written on the session `s`.
+// What is written of a message, or what is written on the session `s`.
 fn written(rt: &impl Abort, alloc: Global, is_on: bool, message: Message) -> String {
     let told = if is_on {
         printed(rt, alloc, message_json_on(alloc, "s", &message))
     } else {
-        written_twice(rt, alloc, &message)
+        write_message(alloc, &message)
+            .expect(rt, "memory")
+            .into_string()
     };
     drop(message);
     told
-}
-
-fn written_twice(rt: &impl Abort, alloc: Global, message: &Message) -> String {
-    let text = write_message(alloc, message).expect(rt, "memory");
-    let whole = printed(rt, alloc, message_json(alloc, message));
-    both(rt, alloc, text.as_str(), whole.as_str())
 }
 
 pub(crate) fn message_again(rt: &impl Abort, alloc: Global, json: &str) -> Result<String, Bad> {

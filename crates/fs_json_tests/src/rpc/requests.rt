@@ -1,11 +1,7 @@
 //! What is made of requests.
-use crate::made::{a_text, both, demo, printed, shown};
+use crate::made::{both, demo, shown};
 use fs_json::Bad;
-use fs_path::Text;
-use fs_rpc::{
-    Envelope, SessionRequest, read_request, read_session_request, request_json, request_json_on,
-    write_request,
-};
+use fs_rpc::{Envelope, SessionRequest, read_request, read_session_request, write_request};
 use serde_json::Value;
 use std::alloc::Global;
 use std::process::Abort;
@@ -15,18 +11,15 @@ fn read(rt: &impl Abort, alloc: Global, json: &str) -> Result<Envelope, Bad> {
     read_request(alloc, &root, json)
 }
 
-// What both writers write of a request.
-fn written(rt: &impl Abort, alloc: Global, envelope: &Envelope) -> String {
-    let text = write_request(alloc, envelope).expect(rt, "memory");
-    let whole = printed(rt, alloc, request_json(alloc, envelope));
-    both(rt, alloc, text.as_str(), whole.as_str())
+fn written(rt: &impl Abort, alloc: Global, envelope: Envelope) -> String {
+    let text = write_request(alloc, &envelope);
+    drop(envelope);
+    text.expect(rt, "memory").into_string()
 }
 
 pub(crate) fn request_again(rt: &impl Abort, alloc: Global, json: &str) -> Result<String, Bad> {
     let envelope = read(rt, alloc, json)?;
-    let told = written(rt, alloc, &envelope);
-    drop(envelope);
-    Ok(told)
+    Ok(written(rt, alloc, envelope))
 }
 
 fn session_request(rt: &impl Abort, alloc: Global, line: &Value) -> SessionRequest {
@@ -34,10 +27,12 @@ fn session_request(rt: &impl Abort, alloc: Global, line: &Value) -> SessionReque
     read_session_request(alloc, &root, line).expect(rt, "a session")
 }
 
-fn line_of(rt: &impl Abort, alloc: Global, session: &Text, envelope: Envelope) -> Value {
-    let line = request_json_on(alloc, session, &envelope);
-    drop(envelope);
-    line.expect(rt, "memory")
+// What is written of a request, on a session.
+fn line_of(rt: &impl Abort, alloc: Global, session: &str, envelope: Envelope) -> Value {
+    let text = written(rt, alloc, envelope);
+    let members = text.as_str().strip_prefix("{").expect(rt, "an object");
+    let line = format!(in alloc; "{{\"session\":\"{session}\",{members}").expect(rt, "memory");
+    Value::from_str(alloc, line.as_str()).expect(rt, "JSON")
 }
 
 // What is written of the request that a line of a script is read as.
@@ -48,13 +43,12 @@ fn line_again(rt: &impl Abort, alloc: Global, read: SessionRequest) -> Value {
         request,
     } = read;
     let request = request.expect(rt, "a request");
-    line_of(rt, alloc, &session, Envelope { id, request })
+    line_of(rt, alloc, session.as_str(), Envelope { id, request })
 }
 
 fn line(rt: &impl Abort, alloc: Global, json: &str) -> Value {
-    let session = a_text(rt, alloc, "s");
     let envelope = read(rt, alloc, json).expect(rt, "a request");
-    line_of(rt, alloc, &session, envelope)
+    line_of(rt, alloc, "s", envelope)
 }
 
 pub(crate) fn request_on(rt: &impl Abort, alloc: Global, json: &str) -> String {
