@@ -1,6 +1,6 @@
 -- Only private clauses cite this: documents that fit, each with what stands at the first field of the order, of which only
 -- the first may be kept.
-use Rattle.std.specs.Prelude.{◌≡◌, ℕ, ◌+◌, Bool, ◌&&◌, List, [], ◌∷◌, ◌++◌, Option, Some, None, map, option_map, take}
+use Rattle.std.specs.Prelude.{⊤, ◌≡◌, ℕ, ◌+◌, ◌*◌, ◌≤◌, Bool, ◌&&◌, List, [], ◌∷◌, ◌++◌, Option, Some, None, map, option_map, take}
 use Rattle.std.specs.List.{IsDistinct}
 use Rattle.std.specs.List.Sorted.{IsPermutation}
 use Rattle.std.specs.Ordering.{eq_by_cmp, ordering_then}
@@ -45,6 +45,11 @@ is_asked q d = fits q d && is_between q d
 -- how many of the first are asked for, those that the offset leaves out among them
 abbrev pub most_of : Asked → Option ℕ
 most_of q = option_map (λ limit. count_of q.offset + count_of limit) q.limit
+
+-- where so many are asked for, this many are at most twice as many and one
+abbrev pub IsHeld : Option ℕ → ℕ → Type 0
+IsHeld None held = ⊤
+IsHeld (Some n) held = held ≤ 2 * n + 1
 
 abbrev pub few : {X : Type 0} → Option ℕ → List X → List X
 few None xs = xs

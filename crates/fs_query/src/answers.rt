@@ -1,5 +1,5 @@
 //! The answer to a query.
-ghost use Rattle.std.specs.Prelude.{◌≡◌, ◌<◌, ◌^◌, IfOk, IsTrue, map, drop};
+ghost use Rattle.std.specs.Prelude.{◌≡◌, ◌<◌, ◌^◌, IfOk, IsTrue, map, drop, vec_len};
 ghost use Rattle.std.specs.List.{All, filter};
 ghost use Rattle.std.specs.FinMap.{is_sorted};
 ghost use Rattle.fs_path.specs.NameOrder.{name_cmp};
@@ -7,7 +7,7 @@ ghost use Rattle.fs_value.specs.Named.{by_name};
 ghost use Rattle.fs_value.specs.View.{view};
 ghost use Rattle.fs_query.specs.Answer.{IsAnswer, count_of, limited, place_cmp, is_behind_start, is_before_end};
 ghost use Rattle.fs_query.specs.DocumentOrder.{orders_cmp};
-ghost use Rattle.fs_query.specs.Found.{IsKeyed, KeepsFirst, documents_of, is_asked, most_of};
+ghost use Rattle.fs_query.specs.Found.{IsHeld, IsKeyed, KeepsFirst, documents_of, is_asked, most_of};
 ghost use Rattle.fs_query.specs.Normal.{whole_order};
 
 use crate::compare::{compare_found, turned};
@@ -79,6 +79,7 @@ fn found_in<'a>(
     ensures keyed { IfOk result (λ v. All (IsKeyed orders.now) v.items) }
     ensures kept { IfOk result (λ v. KeepsFirst (orders_cmp orders.now) (most_of q.now)
         (filter (is_asked q.now) (map (λ d. d.now) docs.now)) (documents_of v.items)) }
+    ensures held { IfOk result (λ v. IsHeld (most_of q.now) (vec_len v)) }
 {
     let most = most_of(q);
     let mut found = Vec::new(alloc);

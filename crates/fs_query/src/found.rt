@@ -1,9 +1,9 @@
 //! Documents that fit a query, in its order.
-ghost use Rattle.std.specs.Prelude.{◌≡◌, ℕ, ◌∷◌, ◌++◌, [], OnOk, Some, option_map};
+ghost use Rattle.std.specs.Prelude.{◌≡◌, ◌≤◌, ℕ, ◌∷◌, ◌++◌, [], OnOk, Some, option_map, vec_len};
 ghost use Rattle.std.specs.List.{All};
 ghost use Rattle.std.specs.List.Sorted.{IsPermutation, IsSorted};
 ghost use Rattle.fs_query.specs.DocumentOrder.{orders_cmp};
-ghost use Rattle.fs_query.specs.Found.{IsKeyed, KeepsFirst, documents_of, first_of, keyed_cmp};
+ghost use Rattle.fs_query.specs.Found.{IsHeld, IsKeyed, KeepsFirst, documents_of, first_of, keyed_cmp};
 ghost use Rattle.fs_query.specs.Seen.{seen};
 
 use crate::compare::{compare_by, compare_found, turned};
@@ -67,7 +67,7 @@ pub(crate) fn sort_found(orders: &[Order], found: &mut Vec<Found<'_>>) -> Result
     Ok(())
 }
 
-/// Adds one. Where so many of the first are asked for, the others are left out whenever twice as many are held.
+/// Adds one. Where so many of the first are asked for, the others are left out whenever more than twice as many are held.
 pub(crate) fn push_found<'a>(
     orders: &[Order],
     most: Option<usize>,
@@ -77,7 +77,9 @@ pub(crate) fn push_found<'a>(
     requires keyed { All (IsKeyed orders.now) found.old.items }
     requires one { IsKeyed orders.now one }
     ensures keyed { All (IsKeyed orders.now) found.new.items }
-    ensures kept { OnOk result (KeepsFirst (orders_cmp orders.now) most (documents_of found.old.items ++ one.entry.document.now ∷ []) (documents_of found.new.items)) }
+    ensures kept { OnOk result (KeepsFirst (orders_cmp orders.now) most
+        (documents_of found.old.items ++ one.entry.document.now ∷ []) (documents_of found.new.items)) }
+    ensures held { OnOk result (IsHeld most (vec_len found.old) → IsHeld most (vec_len found.new)) }
 {
     found.push(one)?;
     match most {
@@ -90,7 +92,9 @@ pub(crate) fn push_found<'a>(
 fn keep_first(orders: &[Order], most: usize, found: &mut Vec<Found<'_>>) -> Result<(), AllocError>
     requires { All (IsKeyed orders.now) found.old.items }
     ensures keyed { All (IsKeyed orders.now) found.new.items }
-    ensures kept { OnOk result (KeepsFirst (orders_cmp orders.now) (Some most) (documents_of found.old.items) (documents_of found.new.items)) }
+    ensures kept { OnOk result (KeepsFirst (orders_cmp orders.now) (Some most)
+        (documents_of found.old.items) (documents_of found.new.items)) }
+    ensures held { OnOk result (vec_len found.new ≤ most) }
 {
     sort_found(orders, found)?;
     found.truncate(most);

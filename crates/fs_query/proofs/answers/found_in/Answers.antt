@@ -1,7 +1,7 @@
-use Rattle.std.proofs.Common.{◌≡◌, ◌+◌, [], ◌∷◌, ◌++◌, cond, map, take, sym, ap, ◌∙◌, subst, append-nil}
+use Rattle.std.proofs.Common.{◌≡◌, ◌+◌, [], ◌∷◌, ◌++◌, cond, map, take, sym, ap, ◌∙◌, subst, append-nil, vec_len}
 use Rattle.std.specs.List.{All, filter}
 use Rattle.fs_query.specs.DocumentOrder.{orders_cmp}
-use Rattle.fs_query.specs.Found.{IsKeyed, KeepsFirst, documents_of, is_asked, most_of}
+use Rattle.fs_query.specs.Found.{IsHeld, IsKeyed, KeepsFirst, documents_of, is_asked, most_of}
 use Rattle.fs_query.proofs.Foremost.{filter_more, keeps_more, keeps_then}
 use Rattle.fs_query.proofs.OrderLaws.{orders_total}
 use Rattle.fs_query.proofs.answers.found_in.Goals as goal
@@ -32,6 +32,9 @@ loop-d-preserved c =
             kept =
                 subst (λ ds. KeepsFirst order (most_of q) ds (documents_of c.if-is_asked.found.items)) (sym (more ∙ ap (λ b. all ++ cond b (d ∷ []) []) (sym w.if-is_asked.ensures)))
                 (subst (λ v. KeepsFirst order (most_of q) (all ++ d ∷ []) (documents_of v.items)) (sym w.found-is) grown);
+            held =
+                subst (λ v. IsHeld (most_of q) (vec_len v)) (sym w.found-is)
+                (subst (λ m. IsHeld m (vec_len c.loop-d.found) → IsHeld m (vec_len w.push_found.new.found)) c.most_of-most.ensures w.in_ok-push_found.ensures.held c.loop-d.invariant.held);
           }
       | else-is_asked w ↦
           record {
@@ -39,5 +42,6 @@ loop-d-preserved c =
             kept =
                 subst (λ ds. KeepsFirst order (most_of q) ds (documents_of c.if-is_asked.found.items)) (sym (more ∙ ap (λ b. all ++ cond b (d ∷ []) []) (sym w.if-is_asked.ensures) ∙ append-nil all))
                 (subst (λ v. KeepsFirst order (most_of q) all (documents_of v.items)) (sym w.found-is) c.loop-d.invariant.kept);
+            held = subst (λ v. IsHeld (most_of q) (vec_len v)) (sym w.found-is) c.loop-d.invariant.held;
           }
     ]
