@@ -6,8 +6,8 @@ use crate::table::holds;
 use crate::valjson::{SHORT, document_of};
 use fs_path::{FieldPath, Paths, parse_field, print_field};
 use fs_query::{
-    Normal, Order, Query, answer, answers_are_lawful, check, compare_docs, filters_are_lawful,
-    matches, normal_form, project, projections_are_lawful,
+    Normal, Order, Query, QueryRule, answer, answers_are_lawful, check, check_with, compare_docs,
+    filters_are_lawful, matches, normal_form, project, projections_are_lawful,
 };
 use fs_valjson::write_document;
 use fs_value::{Document, DocumentMap};
@@ -113,8 +113,10 @@ fn shape_of(rt: &impl Abort, alloc: Global, normal: &Normal) -> String {
 /// The paths of a query's whole order, and the number of its disjuncts.
 pub(crate) fn shape(rt: &impl Abort, alloc: Global, q: &Query) -> String {
     let normal = normal_form(alloc, q).expect(rt, "memory");
-    let shape = shape_of(rt, alloc, &normal);
+    let copy = normal.copy(alloc).expect(rt, "memory");
     drop(normal);
+    let shape = shape_of(rt, alloc, &copy);
+    drop(copy);
     shape
 }
 
@@ -124,11 +126,18 @@ fn orders_and_disjuncts_are_those_of_the_normal_form(rt: HostRuntime) {
     holds(&rt, make, &SHORT, NORMAL);
 }
 
-/// The rule that a query breaks, if it breaks one.
-pub(crate) fn rule_told(alloc: Global, q: &Query) -> Result<String, AllocError> {
-    match check(q) {
-        Some(rule) => i64::from(rule.number).to_string(alloc),
-        None => String::from_str(alloc, "none"),
+/// The rule that a query breaks, if it breaks one: both checks tell the same.
+pub(crate) fn rule_of(rt: &impl Abort, alloc: Global, q: &Query) -> Option<QueryRule> {
+    let rule = check_with(alloc, q).expect(rt, "memory");
+    assert!(rt; rule == check(q), "two rules");
+    rule
+}
+
+/// Its number.
+pub(crate) fn rule_told(rt: &impl Abort, alloc: Global, q: &Query) -> String {
+    match rule_of(rt, alloc, q) {
+        Some(rule) => i64::from(rule.number).to_string(alloc).expect(rt, "memory"),
+        None => word(rt, alloc, "none"),
     }
 }
 

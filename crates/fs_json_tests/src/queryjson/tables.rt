@@ -155,9 +155,12 @@ pub(crate) const RULES: &str = r#"{} => Q(1, None) at x
 {~,"where":{"fieldFilter":{"field":{"fieldPath":"__name__"},"op":"EQUAL","value":#}}} => Q(10, None) at x
 {~,"startAt":{}} => Q(11, None) at x
 {~,"endAt":{"values":[#]}} => Q(11, None) at x
+{~,"where":^,"endAt":{"values":[#,#]}} => Q(11, None) at x
+{~,"where":^,"orderBy":[{"field":{"fieldPath":"b"}}],"endAt":{"values":[#,#,%,#]}} => Q(11, None) at x
 {~,"offset":-1} => Q(12, None) at x
 {~,"limit":"-1"} => Q(12, None) at x
 {~,"orderBy":[{"field":@},{"field":@}]} => Q(13, None) at x
+{~,"orderBy":[{"field":@},{"field":{"fieldPath":"b"}},{"field":@}]} => Q(13, None) at x
 {~,"where":{"compositeFilter":{"op":"AND"}}} => Q(14, None) at x
 {~,"where":{"compositeFilter":{"op":"OR","filters":[]}}} => Q(14, None) at x
 {"from":[{}],"limit":-1,"select":{"fields":[{"fieldPath":"__a__"}]}} => Q(1, None) at x

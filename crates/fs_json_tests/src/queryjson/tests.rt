@@ -1,12 +1,12 @@
 //! Queries that are read and written again, and those that are refused.
 use crate::made::{Form, Make, a_text, json, printed, word};
-use crate::query::tests::{answered, rule_told, shape};
+use crate::query::tests::{answered, rule_of, rule_told, shape};
 use crate::queryjson::tables::{QUERIES, REFUSALS, RULES};
 use crate::table::holds;
 use fs_json::Bad;
 use fs_path::{Ids, Paths, Scope, Text, Way};
 use fs_query::{Filter, Filters, Query};
-use fs_queryjson::{read_query, write_query};
+use fs_queryjson::{read_query, walk_query, write_query};
 use serde_json::Value;
 use std::alloc::Global;
 use std::mem::replace;
@@ -48,7 +48,20 @@ fn below(rt: &impl Abort, alloc: Global) -> Ids {
 
 fn query_of(rt: &impl Abort, alloc: Global, ask: Ask, v: &Value) -> Result<Query, Bad> {
     let parent = parent(rt, alloc, ask);
-    read_query(alloc, &parent, v, &Way::method("x"))
+    let place = Way::method("x");
+    check_walked(rt, alloc, &parent, v, &place);
+    read_query(alloc, &parent, v, &place)
+}
+
+// Asserts that both checks tell the same of a query that is walked.
+fn check_walked(rt: &impl Abort, alloc: Global, parent: &Ids, v: &Value, place: &Way<'_>) {
+    match walk_query(alloc, parent, v, place) {
+        Ok(query) => {
+            let _rule = rule_of(rt, alloc, &query);
+            drop(query);
+        }
+        Err(bad) => drop(bad),
+    }
 }
 
 /// What a query tells that is read.
@@ -96,7 +109,7 @@ fn told(rt: &impl Abort, alloc: Global, ask: Ask, query: &Query) -> String {
         Ask::Scope => scope_told(rt, alloc, &query.scope),
         Ask::Answer => copy_answered(rt, alloc, query),
         Ask::Shape => shape(rt, alloc, query),
-        Ask::Limit(_) => rule_told(alloc, query).expect(rt, "memory"),
+        Ask::Limit(_) => rule_told(rt, alloc, query),
     }
 }
 
