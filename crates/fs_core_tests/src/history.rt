@@ -100,7 +100,9 @@ impl Says for Journal {
         let (texts, rest) = cell(line);
         let (shown, bytes) = cell(rest);
         let number = self.count().saturating_add(1);
-        add(rt, self, batch(rt, alloc, number, texts, shown));
+        let batch = batch(rt, alloc, number, texts, shown);
+        add(rt, self, batch.copy(alloc).expect(rt, "memory"));
+        drop(batch);
         self.bytes() == bytes.parse::<u128>().unwrap_or(0)
     }
 }

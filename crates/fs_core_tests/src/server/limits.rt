@@ -1,6 +1,6 @@
 //! Limits as cases write them.
 use crate::short::cut;
-use fs_machine::Limits;
+use fs_server::Limits;
 use std::process::Abort;
 
 // Another number under a name, as `ids 2`.

@@ -5,10 +5,8 @@ use crate::server::told::{
     push_answer, push_chain, push_messages, push_open, push_outcome, push_settled,
 };
 use crate::short::{cut, micros, moment, name_of, push_moment, root};
-use fs_machine::{Config, Outcome};
 use fs_rpc::Envelope;
-use fs_server::Server;
-use fs_status::Reason;
+use fs_server::{Config, Server};
 use std::alloc::{AllocError, Global};
 use std::fmt::Write as _;
 use std::process::Abort;
@@ -74,13 +72,7 @@ fn settle(
     told: &mut String,
 ) -> Result<(), AllocError> {
     let commit = server.next_pending().expect(rt, "a pending commit");
-    let outcome = server.outcome(alloc, commit);
-    // the server tells want of memory as a refusal, which is no outcome
-    if let Outcome::Refused(refusal) = &outcome
-        && let Reason::Memory = &refusal.reason
-    {
-        panic!(rt; "memory");
-    }
+    let outcome = server.outcome(alloc, commit).expect(rt, "memory");
     push_settled(told, server.settle(alloc, commit, outcome))
 }
 
@@ -91,7 +83,7 @@ fn outcome(
     told: &mut String,
 ) -> Result<(), AllocError> {
     let commit = server.next_pending().expect(rt, "a pending commit");
-    let outcome = server.outcome(alloc, commit);
+    let outcome = server.outcome(alloc, commit).expect(rt, "memory");
     let done = push_outcome(told, alloc, &outcome);
     drop(outcome);
     done

@@ -1,8 +1,7 @@
 //! What calls of a server answer, as steps write it. Each adds to a text, what stands in a row with a space before it.
 use crate::short::{InRow, push_in_row, push_n, push_row};
-use fs_machine::{Answer, Messages, Outcome, Settled};
 use fs_rpc::{BatchAnswer, Message};
-use fs_server::Chain;
+use fs_server::{Answer, Chain, Messages, Outcome, Settled};
 use fs_status::{Id, Reason, Refusal, message};
 use fs_time::Micros;
 use fs_value::Documents;

@@ -64,6 +64,7 @@ impl Database {
     /// The same, and the store takes the release in if it fits.
     pub(crate) fn take_in(&mut self, rt: &impl Abort, alloc: Global, line: &str) -> bool {
         let release = self.release(rt, alloc, line);
+        let release = release.copy(alloc).expect(rt, "memory");
         is_taken_in(rt, alloc, &mut self.store, &release)
     }
 }

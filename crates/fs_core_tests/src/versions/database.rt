@@ -97,6 +97,7 @@ fn push_chain(rt: &impl Abort, alloc: Global, text: &mut String, versions: &Vers
     let name = name_of(rt, alloc, path);
     text.push_str(" |").expect(rt, "memory");
     if let Some(chain) = versions.chain(&name) {
+        let chain = chain.copy(alloc).expect(rt, "memory");
         push_row(text, chain.as_slice()).expect(rt, "memory");
     }
 }
