@@ -2,7 +2,7 @@
 use crate::json::{read, scalar_written};
 use crate::query::tests::kept;
 use crate::queryjson::tests::{Ask, filtered_again, query_told};
-use crate::rpc::messages::{error, message_again, message_on, missing, refused};
+use crate::rpc::messages::{error, message_again, missing, refused};
 use crate::rpc::requests::{request_again, request_on};
 use crate::valjson::{array_len, document_again, value_again};
 use crate::writejson::tests::{draft_told, list_again, mask_again, result_written, write_again};
@@ -28,8 +28,6 @@ pub(crate) enum Make {
     Kept,
     /// A message is read and written.
     Message,
-    /// A message is read, and written on the session `s`.
-    MessageOn,
     /// A request is read and written.
     Request,
     /// A request is read, written on the session `s`, and read and written again.
@@ -78,7 +76,6 @@ pub(crate) fn made(rt: &impl Abort, alloc: Global, make: Make, text: &str) -> Re
         Make::WriteResult => Ok(result_written(rt, alloc, text)),
         Make::Kept => Ok(kept(rt, alloc, text)),
         Make::Message => message_again(rt, alloc, text),
-        Make::MessageOn => message_on(rt, alloc, text),
         Make::Request => request_again(rt, alloc, text),
         Make::RequestOn => Ok(request_on(rt, alloc, text)),
         Make::Refusal => Ok(refused(rt, alloc, text)),

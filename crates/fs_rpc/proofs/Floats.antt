@@ -1,6 +1,6 @@
 -- What is written of a message has no float, so its text is told byte for byte.
-use Rattle.std.proofs.Common.{◌≡◌, ℕ, ℤ, false, List, [], ◌∷◌, map, Option, Some, None, codes, refl}
-use Rattle.serde_json.specs.Data.{Data, put, string}
+use Rattle.std.proofs.Common.{◌≡◌, ℕ, ℤ, false, List, [], ◌∷◌, map, Option, Some, None, refl}
+use Rattle.serde_json.specs.Data.{Data}
 use Rattle.serde_json.specs.View.{items_of}
 use Rattle.serde_json.specs.Written.{has_float, items_have_float, members_have_float}
 use Rattle.fs_status.specs.declared.code.Code.{Code}
@@ -10,7 +10,7 @@ use Rattle.fs_value.specs.declared.document.Document.{Document}
 use Rattle.fs_write.specs.declared.write_result.WriteResult.{WriteResult}
 use Rattle.fs_writejson.specs.FloatLaws.{result_float}
 use Rattle.fs_writejson.specs.Results.{result_json}
-use Rattle.fs_rpc.specs.MessageJson.{batch_answer_json, commit_json, error_json, error_members, message_json, message_json_on, query_answer_json, query_answers_json, result_members}
+use Rattle.fs_rpc.specs.MessageJson.{batch_answer_json, commit_json, error_json, error_members, message_json, query_answer_json, query_answers_json, result_members}
 use Rattle.fs_rpc.specs.declared.message.BatchAnswer.{BatchAnswer}
 use Rattle.fs_rpc.specs.declared.message.BatchAnswer.TheVariants.{Found, Missing}
 use Rattle.fs_rpc.specs.declared.message.Message.{Message}
@@ -64,20 +64,3 @@ message_float (GetDocument id document) = with_result id (document_json document
 message_float (BatchGetDocuments id answers) = with_result id _ (answers_float answers)
 message_float (RunQuery id documents time) = with_result id _ (query_float time documents)
 message_float (Error id code message) = with_error id (error_json code message) refl
-
--- ---- the same on a session
-
-result_on : (session : List ℕ) (id : Option (List ℕ)) (d : Data) → has_float d ≡ false → members_have_float (put (codes "session") (string session) (result_members id d)) ≡ false
-result_on session None d h = rw h refl
-result_on session (Some id) d h = rw h refl
-
-error_on : (session : List ℕ) (id : Option (List ℕ)) (d : Data) → has_float d ≡ false → members_have_float (put (codes "session") (string session) (error_members id d)) ≡ false
-error_on session None d h = rw h refl
-error_on session (Some id) d h = rw h refl
-
-pub message_on_float : (session : List ℕ) (m : Message) → has_float (message_json_on session m) ≡ false
-message_on_float session (Commit id time results) = result_on session id (commit_json time results) (commit_float time results)
-message_on_float session (GetDocument id document) = result_on session id (document_json document) (no_float document)
-message_on_float session (BatchGetDocuments id answers) = result_on session id _ (answers_float answers)
-message_on_float session (RunQuery id documents time) = result_on session id _ (query_float time documents)
-message_on_float session (Error id code message) = error_on session id (error_json code message) refl

@@ -20,6 +20,6 @@ mod times;
 pub use envelope::{SessionRequest, read_envelope, read_request, read_session_request};
 pub use message::{Answers, BatchAnswer, Message};
 pub use message_read::read_message;
-pub use message_write::{error_json, message_json_on, write_message};
+pub use message_write::{error_json, write_message};
 pub use request::{Envelope, Request};
 pub use request_write::write_request;

@@ -9,7 +9,7 @@ ghost use Rattle.fs_path.specs.declared.name.Root.{Root};
 ghost use Rattle.fs_valjson.specs.Document.{document_json};
 ghost use Rattle.fs_valjson.specs.Held.{IsTimeHeld};
 ghost use Rattle.fs_writejson.specs.Results.{result_json, IsResultHeld};
-ghost use Rattle.fs_rpc.specs.MessageJson.{batch_answer_json, commit_json, error_json, error_members, message_json, message_json_on, message_members, query_answer_json, query_answers_json, result_members};
+ghost use Rattle.fs_rpc.specs.MessageJson.{batch_answer_json, commit_json, error_json, error_members, message_json, message_members, query_answer_json, query_answers_json, result_members};
 ghost use Rattle.fs_rpc.specs.MessageSteps.{IsAnswerHeld, IsDocumentHeld, IsMessageHeld, timed_put};
 ghost use Rattle.fs_rpc.specs.ReadMessage.{message_of};
 ghost use Rattle.fs_rpc.specs.ValidMessage.{IsMessageOf};
@@ -18,7 +18,7 @@ use crate::id::put_id;
 use crate::list::put_list;
 use crate::message::{BatchAnswer, Message};
 use crate::names::{
-    COMMIT_TIME, DOCUMENT, ERROR, FOUND, MISSING, READ_TIME, RESULT, SESSION, WRITE_RESULTS,
+    COMMIT_TIME, DOCUMENT, ERROR, FOUND, MISSING, READ_TIME, RESULT, WRITE_RESULTS,
 };
 use crate::times::moment;
 use fs_path::{Text, print_document};
@@ -39,17 +39,6 @@ pub fn error_json(alloc: Global, code: Code, message: &str) -> Result<Value, All
     ensures no_float { IfOk result (λ j. has_float (json j) ≡ false) }
 {
     json!(in alloc; {"code": code.http(), "message": message, "status": code.status()})
-}
-
-/// Writes a message with the name of its session, as a line of a transcript has it.
-pub fn message_json_on(alloc: Global, session: &str, m: &Message) -> Result<Value, AllocError>
-    ensures value { IfOk result (λ j. json j ≡ message_json_on session.now m.now) }
-    ensures no_float { IfOk result (λ j. has_float (json j) ≡ false) }
-{
-    let mut members = write_members(alloc, m)?;
-    let session = Value::try_from_str(alloc, session)?;
-    serde_json::put(&mut members, alloc, SESSION, session)?;
-    Ok(Value::Object(members))
 }
 
 /// Writes a message as the text of its JSON, without spaces.

@@ -96,14 +96,6 @@ pub(crate) const REFUSED: &str = r#" => G at
 {"result":[{"readTime":"1us"},{"document":{"name":"~/c/a"},"readTime":"1us"}]} => G at result
 {"result":[{"readTime":"1us"},{"readTime":"1us"}]} => G at result"#;
 
-/// What is written on the session `s`.
-pub(crate) const ON_A_SESSION: &str =
-    r#"{"id":"1","result":{"commitTime":"1us","writeResults":[{"updateTime":"1us"}]}} => {"id":"1","result":{"commitTime":"1us","writeResults":[{"updateTime":"1us"}]},"session":"s"}
-{"id":"2","result":{"createTime":"1us","fields":{"n":{"integerValue":"1"}},"name":"~/c/a","updateTime":"1us"}} => {"id":"2","result":{"createTime":"1us","fields":{"n":{"integerValue":"1"}},"name":"~/c/a","updateTime":"1us"},"session":"s"}
-{"id":"1","result":[{"readTime":"0s"}]} => {"id":"1","result":[{"readTime":"0s"}],"session":"s"}
-{"result":[{"missing":"~/c/z","readTime":"1us"},{"found":{"createTime":"1us","name":"~/c/a","updateTime":"1us"},"readTime":"1us"}]} => {"result":[{"missing":"~/c/z","readTime":"1us"},{"found":{"createTime":"1us","name":"~/c/a","updateTime":"1us"},"readTime":"1us"}],"session":"s"}
-{"error":{"code":404,"message":"no document at 1us","status":"NOT_FOUND"},"id":"2"} => {"error":{"code":404,"message":"no document at 1us","status":"NOT_FOUND"},"id":"2","session":"s"}"#;
-
 /// A refusal by name, with the id 7.
 pub(crate) const REFUSALS: &str =
     r#"no document => {"error":{"code":404,"message":"no document at 0s","status":"NOT_FOUND"},"id":"7"}

@@ -1,10 +1,8 @@
 //! What is made of messages.
-use crate::made::{a_text, demo, moment, printed};
+use crate::made::{a_text, both, demo, moment, printed};
 use fs_json::Bad;
 use fs_path::parse_document;
-use fs_rpc::{
-    Answers, BatchAnswer, Message, error_json, message_json_on, read_message, write_message,
-};
+use fs_rpc::{Answers, BatchAnswer, Message, error_json, read_message, write_message};
 use fs_status::{Code, Reason, Refusal};
 use fs_time::Micros;
 use std::alloc::Global;
@@ -15,25 +13,24 @@ fn read(rt: &impl Abort, alloc: Global, json: &str) -> Result<Message, Bad> {
     read_message(alloc, &root, json)
 }
 
-// What is written of a message, or what is written on the session `s`.
-fn written(rt: &impl Abort, alloc: Global, is_on: bool, message: Message) -> String {
-    let told = if is_on {
-        printed(rt, alloc, message_json_on(alloc, "s", &message))
-    } else {
-        write_message(alloc, &message)
-            .expect(rt, "memory")
-            .into_string()
-    };
+// What is written of a message and of its copy.
+fn written(rt: &impl Abort, alloc: Global, message: Message) -> String {
+    let copy = message.copy(alloc).expect(rt, "memory");
+    let text = text_of(rt, alloc, &message);
+    let again = text_of(rt, alloc, &copy);
     drop(message);
-    told
+    drop(copy);
+    both(rt, alloc, text.as_str(), again.as_str())
+}
+
+fn text_of(rt: &impl Abort, alloc: Global, message: &Message) -> String {
+    write_message(alloc, message)
+        .expect(rt, "memory")
+        .into_string()
 }
 
 pub(crate) fn message_again(rt: &impl Abort, alloc: Global, json: &str) -> Result<String, Bad> {
-    Ok(written(rt, alloc, false, read(rt, alloc, json)?))
-}
-
-pub(crate) fn message_on(rt: &impl Abort, alloc: Global, json: &str) -> Result<String, Bad> {
-    Ok(written(rt, alloc, true, read(rt, alloc, json)?))
+    Ok(written(rt, alloc, read(rt, alloc, json)?))
 }
 
 fn start(rt: &impl Abort, alloc: Global) -> Micros {
@@ -51,7 +48,7 @@ pub(crate) fn refused(rt: &impl Abort, alloc: Global, name: &str) -> String {
     let refusal = Refusal::of(reason(rt, alloc, name));
     let id = a_text(rt, alloc, "7");
     let message = Message::refused(alloc, Some(id), &refusal).expect(rt, "memory");
-    written(rt, alloc, false, message)
+    written(rt, alloc, message)
 }
 
 pub(crate) fn error(rt: &impl Abort, alloc: Global, message: &str) -> String {
@@ -75,5 +72,5 @@ fn answers(rt: &impl Abort, alloc: Global, names: &str) -> Answers {
 pub(crate) fn missing(rt: &impl Abort, alloc: Global, names: &str) -> String {
     let answers = answers(rt, alloc, names);
     let message = Message::BatchGetDocuments { id: None, answers };
-    written(rt, alloc, false, message)
+    written(rt, alloc, message)
 }

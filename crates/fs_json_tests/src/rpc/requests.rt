@@ -1,5 +1,5 @@
 //! What is made of requests.
-use crate::made::{both, demo, shown};
+use crate::made::{both, demo, json, shown};
 use fs_json::Bad;
 use fs_rpc::{Envelope, SessionRequest, read_request, read_session_request, write_request};
 use serde_json::Value;
@@ -11,15 +11,27 @@ fn read(rt: &impl Abort, alloc: Global, json: &str) -> Result<Envelope, Bad> {
     read_request(alloc, &root, json)
 }
 
-fn written(rt: &impl Abort, alloc: Global, envelope: Envelope) -> String {
-    let text = write_request(alloc, &envelope);
-    drop(envelope);
-    text.expect(rt, "memory").into_string()
+// What is written of a request.
+fn written(rt: &impl Abort, alloc: Global, envelope: &Envelope) -> String {
+    write_request(alloc, envelope)
+        .expect(rt, "memory")
+        .into_string()
+}
+
+// What is written of a request and of its copy.
+fn written_twice(rt: &impl Abort, alloc: Global, envelope: &Envelope) -> String {
+    let copy = envelope.copy(alloc).expect(rt, "memory");
+    let text = written(rt, alloc, envelope);
+    let again = written(rt, alloc, &copy);
+    drop(copy);
+    both(rt, alloc, text.as_str(), again.as_str())
 }
 
 pub(crate) fn request_again(rt: &impl Abort, alloc: Global, json: &str) -> Result<String, Bad> {
     let envelope = read(rt, alloc, json)?;
-    Ok(written(rt, alloc, envelope))
+    let told = written_twice(rt, alloc, &envelope);
+    drop(envelope);
+    Ok(told)
 }
 
 fn session_request(rt: &impl Abort, alloc: Global, line: &Value) -> SessionRequest {
@@ -27,12 +39,16 @@ fn session_request(rt: &impl Abort, alloc: Global, line: &Value) -> SessionReque
     read_session_request(alloc, &root, line).expect(rt, "a session")
 }
 
-// What is written of a request, on a session.
+// The line of a script that has this request on a session.
 fn line_of(rt: &impl Abort, alloc: Global, session: &str, envelope: Envelope) -> Value {
-    let text = written(rt, alloc, envelope);
-    let members = text.as_str().strip_prefix("{").expect(rt, "an object");
-    let line = format!(in alloc; "{{\"session\":\"{session}\",{members}").expect(rt, "memory");
-    Value::from_str(alloc, line.as_str()).expect(rt, "JSON")
+    let text = written(rt, alloc, &envelope);
+    drop(envelope);
+    let mut line = json(rt, alloc, text.as_str());
+    if let Value::Object(members) = &mut line {
+        let session = Value::try_from_str(alloc, session).expect(rt, "memory");
+        serde_json::put(members, alloc, "session", session).expect(rt, "memory");
+    }
+    line
 }
 
 // What is written of the request that a line of a script is read as.

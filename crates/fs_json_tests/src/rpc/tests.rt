@@ -23,11 +23,6 @@ fn the_first_fault_of_the_walk_is_told(rt: HostRuntime) {
 }
 
 #[test]
-fn a_line_of_a_transcript_has_its_session(rt: HostRuntime) {
-    holds(&rt, Make::MessageOn, &SHORT, messages::ON_A_SESSION);
-}
-
-#[test]
 fn a_refusal_is_told_with_its_status(rt: HostRuntime) {
     holds(&rt, Make::Refusal, &SHORT, messages::REFUSALS);
     holds(&rt, Make::Error, &SHORT, messages::ERROR);
