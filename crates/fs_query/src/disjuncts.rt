@@ -41,14 +41,15 @@ fn conjunctions(alloc: Global, filter: &Filter) -> Result<Vec<Filters>, AllocErr
     }
 }
 
+#[tactic(auto, using(crate::proofs::ProductLists::all_more))]
 #[cycle(conjunctions)]
 fn conjunctions_of_all(alloc: Global, filters: &Filters) -> Result<Vec<Filters>, AllocError>
     ensures { IfOk result (λ v. v.items ≡ conjunctions_of_all alternatives (conditions_of filters.now)) }
 {
     let mut all = one(alloc, Filters::new(alloc))?;
-    for i in (0..filters.len()).rev() {
-        let fronts = conjunctions(alloc, filters.at(i))?;
-        all = products(alloc, fronts.as_slice(), all.as_slice())?;
+    for filter in filters.as_slice() {
+        let backs = conjunctions(alloc, filter)?;
+        all = with_backs(alloc, all, backs.as_slice())?;
     }
     Ok(all)
 }
@@ -101,7 +102,45 @@ fn equalities(
     Ok(all)
 }
 
-// Each of the first with each of the second behind it.
+// Each of the first with each of the second behind it. A second that stands alone is put behind the first where they are, so
+// that an AND of simple filters costs no square of its length.
+fn with_backs(
+    alloc: Global,
+    fronts: Vec<Filters>,
+    backs: &[Filters],
+) -> Result<Vec<Filters>, AllocError>
+    ensures { IfOk result (λ v. v.items ≡ products fronts.items backs.now) }
+{
+    match backs {
+        [back] => with_back(alloc, fronts, back),
+        _ => products(alloc, fronts.as_slice(), backs),
+    }
+}
+
+fn with_back(
+    alloc: Global,
+    fronts: Vec<Filters>,
+    back: &Filters,
+) -> Result<Vec<Filters>, AllocError>
+    ensures { IfOk result (λ v. v.items ≡ map (λ front. front ++ back.now) fronts.items) }
+{
+    let mut all = Vec::with_capacity(alloc, fronts.len())?;
+    for front in fronts {
+        all.push(followed(alloc, front, back)?)?;
+    }
+    Ok(all)
+}
+
+fn followed(alloc: Global, front: Filters, back: &Filters) -> Result<Filters, AllocError>
+    ensures { IfOk result (λ fs. fs ≡ front ++ back.now) }
+{
+    let mut all = front;
+    for filter in back.as_slice() {
+        all.push_copy(alloc, filter)?;
+    }
+    Ok(all)
+}
+
 fn products(
     alloc: Global,
     fronts: &[Filters],
@@ -133,9 +172,5 @@ fn push_products(
 fn joined(alloc: Global, front: &Filters, back: &Filters) -> Result<Filters, AllocError>
     ensures { IfOk result (λ fs. fs ≡ front.now ++ back.now) }
 {
-    let mut all = front.copy(alloc)?;
-    for filter in back.as_slice() {
-        all.push_copy(alloc, filter)?;
-    }
-    Ok(all)
+    followed(alloc, front.copy(alloc)?, back)
 }
