@@ -9,5 +9,6 @@ pub mod ChoiceLaws
 pub mod AnswerLaws
 pub mod NameLaws
 pub mod ValidLaws
+pub mod DepthLaws
 pub mod Tokens
 pub mod TokenLaws
