@@ -7,6 +7,7 @@ pub mod Written
 pub mod Results
 pub mod Valid
 pub mod ValidLaws
+pub mod DepthLaws
 pub mod Steps
 pub mod Held
 pub mod FloatLaws
