@@ -11,4 +11,5 @@ pub mod Steps
 pub mod Written
 pub mod Valid
 pub mod ValidLaws
+pub mod DepthLaws
 pub mod Held
