@@ -13,3 +13,5 @@ pub mod RequestAgain
 pub mod RequestFloats
 pub mod RequestValid
 pub mod MessageValid
+pub mod RequestDepth
+pub mod MessageDepth

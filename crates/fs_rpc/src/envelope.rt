@@ -1,12 +1,16 @@
 //! Requests with what stands round them.
-ghost use Rattle.std.specs.Prelude.{◌≡◌, IfOk};
+ghost use Rattle.std.specs.Prelude.{◌≡◌, ◌≤◌, IfOk};
+ghost use Rattle.serde_json.specs.Data.{depth};
+ghost use Rattle.serde_json.specs.Read.{max_depth};
 ghost use Rattle.serde_json.specs.View.{view};
 ghost use Rattle.fs_json.specs.Answer.{Gives};
 ghost use Rattle.fs_rpc.specs.Envelope.{envelope_at, request_of, session_request_at};
+ghost use Rattle.fs_rpc.specs.RequestJson.{envelope_json};
 ghost use Rattle.fs_rpc.specs.Requests.{request_at};
 ghost use Rattle.fs_rpc.specs.ValidRequest.{IsRequestOf};
 
 use crate::id::id_of;
+use crate::message_read::json_of;
 use crate::names::{ENVELOPE_HEAD, METHODS, SESSION, SESSION_HEAD};
 use crate::read::read_method;
 use crate::request::{Envelope, Request};
@@ -86,15 +90,10 @@ pub fn read_envelope(alloc: Global, root: &Root, v: &Value) -> Result<Envelope, 
 pub fn read_request(alloc: Global, root: &Root, line: &str) -> Result<Envelope, Bad>
     ensures gives { Gives (λ e. e) result (request_of root.now line.now) }
     ensures valid { IfOk result (λ e. IsRequestOf root.now e.request) }
+
+    // What is written of it nests no deeper than JSON is read.
+    ensures nests { IfOk result (λ e. depth (envelope_json e) ≤ max_depth) }
 {
-    match Value::from_str(alloc, line) {
-        Ok(v) => read_envelope(alloc, root, &v),
-        Err(e) => {
-            if e.is_memory() {
-                Err(Bad::Memory(AllocError))
-            } else {
-                Err(Bad::at(alloc, Rule::G, &Way::method("")))
-            }
-        }
-    }
+    let v = json_of(alloc, line)?;
+    read_envelope(alloc, root, &v)
 }

@@ -1,12 +1,14 @@
 //! Reads messages.
-ghost use Rattle.std.specs.Prelude.{◌≡◌, ◌↔◌, Some, IfOk, []};
-ghost use Rattle.serde_json.specs.Read.{read};
+ghost use Rattle.std.specs.Prelude.{◌≡◌, ◌↔◌, ◌≤◌, Some, IfOk, []};
+ghost use Rattle.serde_json.specs.Data.{depth};
+ghost use Rattle.serde_json.specs.Read.{max_depth, read};
 ghost use Rattle.serde_json.specs.View.{items_view, view as json};
 ghost use Rattle.fs_path.specs.Way.{place_of};
 ghost use Rattle.fs_path.specs.declared.place.Rule.TheVariants.{G};
 ghost use Rattle.fs_json.specs.Answer.{Gives, or_fault};
 ghost use Rattle.fs_status.specs.Status.{status_text};
 ghost use Rattle.fs_status.specs.declared.code.Code.{Code};
+ghost use Rattle.fs_rpc.specs.MessageJson.{message_json};
 ghost use Rattle.fs_rpc.specs.ReadMessage.{answers_commit, answers_names, code_named, commit_result_at, documents_result_at, error_at, has, if_numbered, list_result_at, message_at, message_of, object_result_at, outcome_at, query_result_at, required_integer_at, required_text_at, result_at};
 ghost use Rattle.fs_rpc.specs.ValidMessage.{IsMessageOf};
 
@@ -36,13 +38,18 @@ pub fn read_message(alloc: Global, root: &Root, text: &str) -> Result<Message, B
 
     // Its documents and names are the root's, and its references are names of documents.
     ensures valid { IfOk result (λ m. IsMessageOf root.now m) }
+
+    // What is written of it nests no deeper than JSON is read.
+    ensures nests { IfOk result (λ m. depth (message_json m) ≤ max_depth) }
 {
     let v = json_of(alloc, text)?;
     read_members(alloc, root, &v)
 }
 
-fn json_of(alloc: Global, text: &str) -> Result<Value, Bad>
-    ensures { Gives json result (or_fault G [] (read text.now)) }
+/// The JSON of a text. One that is none is at fault at the empty place.
+pub(crate) fn json_of(alloc: Global, text: &str) -> Result<Value, Bad>
+    ensures gives { Gives json result (or_fault G [] (read text.now)) }
+    ensures nests { IfOk result (λ v. depth (json v) ≤ max_depth) }
 {
     match Value::from_str(alloc, text) {
         Ok(v) => Ok(v),

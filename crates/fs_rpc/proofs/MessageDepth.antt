@@ -1,0 +1,209 @@
+-- What is written of a message that was read nests no deeper than what was read, or than a few levels.
+use Rattle.std.proofs.Common.{◌≡◌, ℕ, suc, ◌+◌, ◌≤◌, ◌<◌, ℤ, List, [], ◌∷◌, map, filter_map, Option, Some, None, option_map, Result, Ok, Err, IfOk, IfSome, codes, bytes_eq, arith}
+use Rattle.std.proofs.lemmas.Result.{IfOk-weaker}
+use Rattle.std.specs.List.{AllByRecursion}
+use Rattle.serde_json.specs.Data.{Data, null, boolean, number, string, array, object, Items, Members, no_members, depth, items_depth, members_depth}
+use Rattle.serde_json.specs.Find.{as_array}
+use Rattle.serde_json.specs.View.{items_of}
+use Rattle.fs_path.specs.Place.{member_place}
+use Rattle.fs_path.specs.declared.name.Root.{Root}
+use Rattle.fs_path.specs.declared.place.Rule.TheVariants.{G}
+use Rattle.fs_json.specs.Answer.{or_fault, ◌>>=◌}
+use Rattle.fs_json.specs.Members.{member_at, one_of_at, only_at}
+use Rattle.fs_json.specs.Paths.{document_name_at}
+use Rattle.fs_json.specs.Walk.{all_at, each_at}
+use Rattle.fs_value.specs.Data as value
+use Rattle.fs_value.specs.declared.document.Document.{Document}
+use Rattle.fs_valjson.specs.AnswerLaws.{at_last_holds, either, found_or, in_turn_holds}
+use Rattle.fs_valjson.specs.DepthLaws.{document_within, each_inside, inside_or, list_inside, list_within, one_falls}
+use Rattle.fs_valjson.specs.Document.{document_at, document_json}
+use Rattle.fs_valjson.specs.Reading.{list_at}
+use Rattle.fs_valjson.specs.Writing.{list_json}
+use Rattle.fs_write.specs.declared.write_result.WriteResult.{WriteResult}
+use Rattle.fs_writejson.specs.Results.{result_json}
+use Rattle.fs_rpc.specs.Id.{id_at}
+use Rattle.fs_rpc.specs.MessageJson.{batch_answer_json, commit_json, error_json, error_members, message_json, query_answer_json, query_answers_json, result_members}
+use Rattle.fs_rpc.specs.ReadMessage.{answers_commit, answers_names, code_named, commit_result_at, commit_result_members, documents_result_at, error_at, if_numbered, list_result_at, message_at, message_members, object_result_at, outcome_at, outcomes, query_result_at, required_integer_at, required_text_at, result_at}
+use Rattle.fs_rpc.specs.ReadMessage as read
+use Rattle.fs_rpc.specs.ReadResults.{answered, batch_answer_at, batch_answer_members, document_in, found_at, found_or_missing, missing_at, query_answer_at, query_answer_members, results_in, time_of, told_at, transforms_in, write_result_at, write_result_members}
+use Rattle.fs_rpc.specs.Times.{optional_time_at, required_time_at}
+use Rattle.fs_rpc.specs.declared.message.BatchAnswer.{BatchAnswer}
+use Rattle.fs_rpc.specs.declared.message.BatchAnswer.TheVariants.{Found, Missing}
+use Rattle.fs_rpc.specs.declared.message.Message.{Message}
+use Rattle.fs_rpc.specs.declared.message.Message.TheVariants.{Commit, GetDocument, BatchGetDocuments, RunQuery, Error}
+
+-- ---- results of writes
+
+result_fits : (updated : Option ℤ) (ds : List value.Data) (n : ℕ) → depth (list_json ds) ≤ n → depth (result_json (record { updated = updated; transforms = ds })) ≤ n + 1
+unfolding result_json
+result_fits None [] n h = omega (arith, h)
+result_fits (Some time) [] n h = omega (arith, h)
+result_fits None (d ∷ ds) n h = omega (arith, h)
+result_fits (Some time) (d ∷ ds) n h = omega (arith, h)
+
+abbrev ResultWithin : ℕ → WriteResult → Type 0
+ResultWithin n r = depth (result_json r) ≤ n + 1
+
+result_within : (d : Data) (place : List ℕ) (n : ℕ) → depth d ≤ n + 1 → 0 < n → IfOk (write_result_at d place) (ResultWithin n)
+unfolding write_result_at
+result_within d place n h some =
+    let inner = member_place place (codes "transformResults") in
+    let V : List value.Data → Type 0 = λ ds. depth (list_json ds) ≤ n in
+    at_last_holds (ResultWithin n) (only_at write_result_members d place) _
+    (λ u. at_last_holds (ResultWithin n) (optional_time_at (codes "updateTime") d place) _
+    (λ updated. in_turn_holds V (ResultWithin n) (transforms_in d place) _
+    (inside_or V (codes "transformResults") d place (λ x. list_at x inner) (Ok [])
+    (λ x falls. IfOk-weaker (list_at x inner) (λ ds. depth (list_json ds) ≤ depth x) V (λ ds are. omega (arith, are, falls, h)) (list_within x inner)) (omega (arith, some)))
+    (λ ds are. result_fits updated ds n are)))
+
+results_fit : (rs : List WriteResult) (n : ℕ) → AllByRecursion (ResultWithin n) rs → items_depth (items_of (map result_json rs)) ≤ n + 1
+results_fit [] n each = omega arith
+results_fit (r ∷ rs) n each = omega (arith, each.0, results_fit rs n each.1)
+
+commit_fits : (time : ℤ) (rs : List WriteResult) (n : ℕ) → AllByRecursion (ResultWithin n) rs → depth (commit_json time rs) ≤ n + 3
+commit_fits time [] n each = omega arith
+commit_fits time (r ∷ rs) n each = omega (arith, results_fit (r ∷ rs) n each)
+
+-- ---- what stands under "result", and the message
+
+-- of a message that stands so deep under its one member
+abbrev IsWithin : ℕ → Message → Type 0
+IsWithin n m = depth (message_json m) ≤ n + 1
+
+with_result : (id : Option (List ℕ)) (d : Data) (n : ℕ) → depth d ≤ n → members_depth (result_members id d) ≤ n
+with_result None d n h = omega (arith, h)
+with_result (Some id) d n h = omega (arith, h)
+
+with_error : (id : Option (List ℕ)) (d : Data) (n : ℕ) → depth d ≤ n → members_depth (error_members id d) ≤ n
+with_error None d n h = omega (arith, h)
+with_error (Some id) d n h = omega (arith, h)
+
+commit_within : (id : Option (List ℕ)) (d : Data) (place : List ℕ) (n : ℕ) → depth d ≤ n + 3 → 0 < n → IfOk (commit_result_at id d place) (IsWithin (n + 3))
+unfolding commit_result_at
+commit_within id d place n h some =
+    let P = IsWithin (n + 3) in
+    let inner = member_place place (codes "writeResults") in
+    at_last_holds P (only_at commit_result_members d place) _
+    (λ u. at_last_holds P (required_time_at (codes "commitTime") d place) _
+    (λ time. in_turn_holds (AllByRecursion (ResultWithin n)) P (results_in d place) _
+    (inside_or (AllByRecursion (ResultWithin n)) (codes "writeResults") d place (λ x. all_at write_result_at x inner) (Ok [])
+    (λ x falls. list_inside (ResultWithin n) write_result_at x (n + 1) inner (omega (arith, falls, h)) (λ y p low. result_within y p n low some)) tt)
+    (λ rs each. omega (arith, with_result id (commit_json time rs) (n + 3) (commit_fits time rs n each)))))
+
+-- ---- names that were asked for
+
+abbrev AnswerWithin : ℕ → BatchAnswer → Type 0
+AnswerWithin n a = depth (batch_answer_json a) ≤ n
+
+answer_within : (root : Root) (d : Data) (place : List ℕ) (n : ℕ) → depth d ≤ n → 0 < n → IfOk (batch_answer_at root d place) (AnswerWithin n)
+unfolding batch_answer_at
+answer_within root d place n h some =
+    let P = AnswerWithin n in
+    at_last_holds P (only_at batch_answer_members d place) _
+    (λ u. in_turn_holds (λ one. depth one.1 < depth d) P (one_of_at found_or_missing d place) _ (one_falls found_or_missing d place)
+    (λ one falls. either P (bytes_eq one.0 (codes "found")) _ _
+    (in_turn_holds (λ x. depth (document_json x) ≤ depth one.1) P (document_at root one.1 (member_place place (codes "found"))) _ (document_within root one.1 (member_place place (codes "found")))
+    (λ document is. at_last_holds P (required_time_at (codes "readTime") d place) _ (λ time. omega (arith, is, falls, h))))
+    (at_last_holds P (document_name_at root one.1 (member_place place (codes "missing"))) _ (λ name. at_last_holds P (required_time_at (codes "readTime") d place) _ (λ time. omega (arith, some))))))
+
+answers_fit : (xs : List BatchAnswer) (n : ℕ) → AllByRecursion (AnswerWithin n) xs → items_depth (items_of (map batch_answer_json xs)) ≤ n
+answers_fit [] n each = omega arith
+answers_fit (a ∷ xs) n each = omega (arith, each.0, answers_fit xs n each.1)
+
+documents_within : (root : Root) (id : Option (List ℕ)) (items : Items) (place : List ℕ) (n : ℕ) → items_depth items ≤ n → 0 < n → IfOk (documents_result_at root id items place) (IsWithin (n + 1))
+documents_within root id items place n h some =
+    in_turn_holds (AllByRecursion (AnswerWithin n)) (IsWithin (n + 1)) (each_at (batch_answer_at root) items 0 place) _
+    (each_inside (AnswerWithin n) (batch_answer_at root) items n 0 place h (λ d p low. answer_within root d p n low some))
+    (λ xs each. let all : depth (array (items_of (map batch_answer_json xs))) ≤ n + 1 = omega (arith, answers_fit xs n each) in omega (arith, with_result id (array (items_of (map batch_answer_json xs))) (n + 1) all))
+
+-- ---- answers of queries
+
+-- an item's document, if it has one
+abbrev ItemWithin : ℕ → Option Document × ℤ → Type 0
+ItemWithin n a = IfSome a.0 (λ x. depth (document_json x) < n)
+
+item_within : (root : Root) (d : Data) (place : List ℕ) (n : ℕ) → depth d ≤ n → IfOk (query_answer_at root d place) (ItemWithin n)
+unfolding query_answer_at
+item_within root d place n h =
+    let P = ItemWithin n in
+    let D : Option Document → Type 0 = λ o. IfSome o (λ x. depth (document_json x) < n) in
+    let inner = member_place place (codes "document") in
+    at_last_holds P (only_at query_answer_members d place) _
+    (λ u. in_turn_holds D P (document_in root d place) _
+    (inside_or D (codes "document") d place (λ x. document_at root x inner >>= λ document. Ok (Some document)) (Ok None)
+    (λ x falls. in_turn_holds (λ y. depth (document_json y) ≤ depth x) D (document_at root x inner) _ (document_within root x inner) (λ y is. let low : depth (document_json y) < n = omega (arith, is, falls, h) in low)) (record {}))
+    (λ document is. at_last_holds P (required_time_at (codes "readTime") d place) _ (λ time. is)))
+
+kept : (n : ℕ) (items : List (Option Document × ℤ)) → AllByRecursion (ItemWithin n) items → AllByRecursion (λ x. depth (document_json x) < n) (filter_map (λ a. a.0) items)
+kept n [] each = tt
+kept n ((None, time) ∷ items) each = kept n items each.1
+kept n ((Some document, time) ∷ items) each = (each.0, kept n items each.1)
+
+told_fit : (ds : List Document) (time : ℤ) (n : ℕ) → AllByRecursion (λ x. depth (document_json x) < n) ds → items_depth (items_of (map (query_answer_json time) ds)) ≤ n
+told_fit [] time n each = omega arith
+told_fit (d ∷ ds) time n each = omega (arith, each.0, told_fit ds time n each.1)
+
+query_fits : (ds : List Document) (time : ℤ) (n : ℕ) → 0 < n → AllByRecursion (λ x. depth (document_json x) < n) ds → items_depth (query_answers_json ds time) ≤ n
+query_fits [] time n some each = omega (arith, some)
+query_fits (d ∷ ds) time n some each = told_fit (d ∷ ds) time n each
+
+one_answer : (place : List ℕ) (n : ℕ) (items : List (Option Document × ℤ)) → AllByRecursion (ItemWithin n) items
+    → IfOk (or_fault G place (answered items)) (λ one. AllByRecursion (λ x. depth (document_json x) < n) one.0)
+one_answer place n items each = at (time_of items)
+  where
+    at : (time : Option ℤ) → IfOk {T = List Document × ℤ} (or_fault G place (option_map (λ t. (filter_map (λ a. a.0) items, t)) time)) (λ one. AllByRecursion (λ x. depth (document_json x) < n) one.0)
+    at None = record {}
+    at (Some t) = kept n items each
+
+query_within : (root : Root) (id : Option (List ℕ)) (items : Items) (place : List ℕ) (n : ℕ) → items_depth items ≤ n → 0 < n → IfOk (query_result_at root id items place) (IsWithin (n + 1))
+query_within root id items place n h some =
+    in_turn_holds (AllByRecursion (ItemWithin n)) (IsWithin (n + 1)) (each_at (query_answer_at root) items 0 place) _
+    (each_inside (ItemWithin n) (query_answer_at root) items n 0 place h (λ d p low. item_within root d p n low))
+    (λ told each. in_turn_holds (λ one. AllByRecursion (λ x. depth (document_json x) < n) one.0) (IsWithin (n + 1)) (or_fault G place (answered told)) _ (one_answer place n told each)
+    (λ one are. let all : depth (array (query_answers_json one.0 one.1)) ≤ n + 1 = omega (arith, query_fits one.0 one.1 n some are) in omega (arith, with_result id (array (query_answers_json one.0 one.1)) (n + 1) all)))
+
+-- ---- results by their shape
+
+list_result_within : (root : Root) (id : Option (List ℕ)) (items : Items) (place : List ℕ) (n : ℕ) → items_depth items ≤ n → 0 < n → IfOk (list_result_at root id items place) (IsWithin (n + 1))
+list_result_within root id items place n h some =
+    either (IsWithin (n + 1)) (answers_names items) _ _ (documents_within root id items place n h some) (query_within root id items place n h some)
+
+object_within : (root : Root) (id : Option (List ℕ)) (d : Data) (place : List ℕ) (n : ℕ) → depth d ≤ n + 3 → 0 < n → IfOk (object_result_at root id d place) (IsWithin (n + 3))
+object_within root id d place n h some =
+    let P = IsWithin (n + 3) in
+    either P (answers_commit d) _ _ (commit_within id d place n h some)
+    (in_turn_holds (λ x. depth (document_json x) ≤ depth d) P (document_at root d place) _ (document_within root d place)
+    (λ x is. let low : depth (document_json x) ≤ n + 3 = omega (arith, is, h) in omega (arith, with_result id (document_json x) (n + 3) low)))
+
+result_at_within : (root : Root) (id : Option (List ℕ)) (d : Data) (place : List ℕ) (n : ℕ) → depth d ≤ n + 3 → 0 < n → IfOk (result_at root id d place) (IsWithin (n + 3))
+unfolding result_at
+result_at_within root id null place n h some = object_within root id null place n h some
+result_at_within root id (boolean b) place n h some = object_within root id (boolean b) place n h some
+result_at_within root id (number m) place n h some = object_within root id (number m) place n h some
+result_at_within root id (string s) place n h some = object_within root id (string s) place n h some
+result_at_within root id (array ds) place n h some =
+    IfOk-weaker (list_result_at root id ds place) (IsWithin (n + 2 + 1)) (IsWithin (n + 3)) (λ m is. omega (arith, is)) (list_result_within root id ds place (n + 2) (omega (arith, h)) (omega arith))
+result_at_within root id (object ms) place n h some = object_within root id (object ms) place n h some
+
+-- ---- messages
+
+error_within : (root : Root) (id : Option (List ℕ)) (d : Data) (place : List ℕ) (n : ℕ) → IfOk (error_at id d place) (IsWithin (n + 3))
+unfolding error_at
+error_within root id d place n =
+    let P = IsWithin (n + 3) in
+    at_last_holds P (only_at read.error_members d place) _
+    (λ u. at_last_holds P (required_integer_at (codes "code") d place) _
+    (λ number. at_last_holds P (required_text_at (codes "message") d place) _
+    (λ message. at_last_holds P (required_text_at (codes "status") d place) _
+    (λ status. at_last_holds P (or_fault G (member_place place (codes "status")) (code_named status)) _
+    (λ named. at_last_holds P (or_fault G (member_place place (codes "code")) (if_numbered number named)) _
+    (λ code. let low : depth (error_json code message) ≤ n + 3 = omega arith in omega (arith, with_error id (error_json code message) (n + 3) low)))))))
+
+pub message_within : (root : Root) (d : Data) (n : ℕ) → depth d ≤ n + 4 → 0 < n → IfOk (message_at root d) (λ m. depth (message_json m) ≤ n + 4)
+unfolding message_at
+message_within root d n h some =
+    let P : Message → Type 0 = λ m. depth (message_json m) ≤ n + 4 in
+    IfOk-weaker (message_at root d) (IsWithin (n + 3)) P (λ m is. omega (arith, is)) (at_last_holds (IsWithin (n + 3)) (only_at message_members d []) _
+    (λ u. at_last_holds (IsWithin (n + 3)) (id_at d) _
+    (λ id. in_turn_holds (λ one. depth one.1 < depth d) (IsWithin (n + 3)) (one_of_at outcomes d []) _ (one_falls outcomes d [])
+    (λ one falls. either (IsWithin (n + 3)) (bytes_eq one.0 (codes "result")) _ _ (result_at_within root id one.1 one.0 n (omega (arith, falls, h)) some) (error_within root id one.1 one.0 n)))))

@@ -1,0 +1,158 @@
+-- What is written of a request that was read nests no deeper than what was read, or than a few levels.
+use Rattle.std.proofs.Common.{◌≡◌, ℕ, suc, ◌+◌, ◌≤◌, ◌<◌, ℤ, List, [], ◌∷◌, ◌++◌, map, Option, Some, None, Result, Ok, Err, IfOk, codes, bytes_eq, arith}
+use Rattle.std.proofs.lemmas.Result.{IfOk-weaker}
+use Rattle.std.specs.List.{AllByRecursion}
+use Rattle.serde_json.specs.Data.{Data, Members, no_members, member, depth, items_depth, members_depth}
+use Rattle.fs_path.specs.Place.{member_place}
+use Rattle.fs_path.specs.declared.field.FieldPath.{FieldPath}
+use Rattle.fs_path.specs.declared.name.DocName.{DocName}
+use Rattle.fs_path.specs.declared.name.Root.{Root}
+use Rattle.fs_json.specs.Members.{one_of_at, only_at, required_at, unbuilt_at}
+use Rattle.fs_json.specs.Paths.{document_name_at as name_at}
+use Rattle.fs_query.specs.Asked.{Asked}
+use Rattle.fs_queryjson.specs.DepthLaws.{permitted_within, walked_within}
+use Rattle.fs_queryjson.specs.Query.{permitted_at, walked_at}
+use Rattle.fs_queryjson.specs.Written.{query_json}
+use Rattle.fs_valjson.specs.AnswerLaws.{at_last_holds, either, in_turn_holds}
+use Rattle.fs_valjson.specs.DepthLaws.{inside, inside_or, one_falls}
+use Rattle.fs_write.specs.declared.write.Write.{Write}
+use Rattle.fs_writejson.specs.DepthLaws.{drafts_within, judged_within, mask_depth}
+use Rattle.fs_writejson.specs.Draft.{drafts_at}
+use Rattle.fs_writejson.specs.Rules.{judged_at}
+use Rattle.fs_writejson.specs.Written.{write_json}
+use Rattle.fs_writejson.specs.declared.draft.Draft.{Draft}
+use Rattle.fs_rpc.specs.Envelope.{envelope_at}
+use Rattle.fs_rpc.specs.Id.{id_at}
+use Rattle.fs_rpc.specs.Methods.{envelope_head, methods}
+use Rattle.fs_rpc.specs.RequestJson.{envelope_json, name_json, names_json, request_json, with_mask, with_read_time, writes_json, writes_member}
+use Rattle.fs_rpc.specs.Requests.{batch_get_at, batch_get_members, commit_at, commit_members, database_at, drafts_in, get_at, get_members, mask_in, names_at, parent_at, request_at, run_query_at, run_query_members, structured_at, when_at}
+use Rattle.fs_rpc.specs.declared.request.Envelope.{Envelope}
+use Rattle.fs_rpc.specs.declared.request.Request.{Request}
+use Rattle.fs_rpc.specs.declared.request.Request.TheVariants.{Commit, GetDocument, BatchGetDocuments, RunQuery}
+
+-- what is written under the method
+abbrev IsWithin : ℕ → Request → Type 0
+IsWithin n r = depth (request_json r) ≤ n
+
+-- ---- commits
+
+writes_fit : (ws : List Write) (n : ℕ) → AllByRecursion (λ w. depth (write_json w) ≤ n) ws → items_depth (writes_json ws) ≤ n
+writes_fit [] n each = omega arith
+writes_fit (w ∷ ws) n each = omega (arith, each.0, writes_fit ws n each.1)
+
+commit_fits : (root : Root) (ws : List Write) (n : ℕ) → AllByRecursion (λ w. depth (write_json w) ≤ n) ws → IsWithin (n + 2) (Commit root ws)
+commit_fits root [] n each = omega arith
+commit_fits root (w ∷ ws) n each = omega (arith, each.0, writes_fit ws n each.1)
+
+commit_within : (root : Root) (d : Data) (place : List ℕ) (n : ℕ) → depth d ≤ n + 5 → 0 < n → IfOk (commit_at root d place) (IsWithin (n + 5))
+unfolding commit_at
+commit_within root d place n h some =
+    let P = IsWithin (n + 5) in
+    let inner = member_place place (codes "writes") in
+    let D : List Draft → Type 0 = AllByRecursion (λ draft. depth (write_json draft.write) ≤ n + 3) in
+    at_last_holds P (only_at commit_members d place) _
+    (λ u. at_last_holds P (database_at root d place) _
+    (λ v. in_turn_holds D P (drafts_in root d place) _
+    (inside_or D (codes "writes") d place (λ x. drafts_at root x inner) (Ok []) (λ x falls. drafts_within root x inner n (omega (arith, falls, h)) some) tt)
+    (λ drafts are. at_last_holds P (unbuilt_at (codes "transaction" ∷ []) d place) _
+    (λ w. in_turn_holds (AllByRecursion (λ x. depth (write_json x) ≤ n + 3)) P (judged_at drafts inner) _ (judged_within drafts inner (n + 3) are)
+    (λ writes each. omega (arith, commit_fits root writes (n + 3) each))))))
+
+-- ---- reads
+
+mask_fits : (mask : Option (List FieldPath)) (rest : Members) (n : ℕ) → members_depth rest ≤ n + 2 → members_depth (with_mask mask rest) ≤ n + 2
+mask_fits None rest n h = h
+mask_fits (Some paths) rest n h = omega (arith, mask_depth paths, h)
+
+time_fits : (time : Option ℤ) (rest : Members) (n : ℕ) → members_depth rest ≤ n → members_depth (with_read_time time rest) ≤ n
+time_fits None rest n h = h
+time_fits (Some time) rest n h = omega (arith, h)
+
+get_fits : (name : DocName) (mask : Option (List FieldPath)) (time : Option ℤ) (n : ℕ) → IsWithin (n + 3) (GetDocument name mask time)
+get_fits name mask time n =
+    let rest = member (codes "name") (name_json name) (with_read_time time no_members) in
+    let all : members_depth rest ≤ n + 2 = omega (arith, time_fits time no_members (n + 2) (omega arith)) in
+    omega (arith, mask_fits mask rest n all)
+
+names_flat : (ns : List DocName) → items_depth (names_json ns) ≤ 0
+names_flat [] = omega arith
+names_flat (n ∷ ns) = omega (arith, names_flat ns)
+
+batch_get_fits : (root : Root) (names : List DocName) (mask : Option (List FieldPath)) (time : Option ℤ) (n : ℕ) → IsWithin (n + 3) (BatchGetDocuments root names mask time)
+batch_get_fits root names mask time n =
+    omega (arith, names_flat names, mask_fits mask (with_read_time time no_members) n (time_fits time no_members (n + 2) (omega arith)))
+
+get_within : (root : Root) (d : Data) (place : List ℕ) (n : ℕ) → IfOk (get_at root d place) (IsWithin (n + 5))
+unfolding get_at
+get_within root d place n =
+    let P = IsWithin (n + 5) in
+    at_last_holds P (only_at get_members d place) _
+    (λ u. at_last_holds P (required_at (codes "name") d place) _
+    (λ text. at_last_holds P (name_at root text (member_place place (codes "name"))) _
+    (λ name. at_last_holds P (mask_in d place) _ (λ mask. at_last_holds P (when_at d place) _ (λ time. omega (arith, get_fits name mask time n))))))
+
+batch_get_within : (root : Root) (d : Data) (place : List ℕ) (n : ℕ) → IfOk (batch_get_at root d place) (IsWithin (n + 5))
+unfolding batch_get_at
+batch_get_within root d place n =
+    let P = IsWithin (n + 5) in
+    at_last_holds P (only_at batch_get_members d place) _
+    (λ u. at_last_holds P (database_at root d place) _
+    (λ v. at_last_holds P (required_at (codes "documents") d place) _
+    (λ list. at_last_holds P (names_at root list (member_place place (codes "documents"))) _
+    (λ names. at_last_holds P (mask_in d place) _ (λ mask. at_last_holds P (when_at d place) _ (λ time. omega (arith, batch_get_fits root names mask time n)))))))
+
+-- ---- queries
+
+query_fits : (root : Root) (q : Asked) (time : Option ℤ) (n : ℕ) → depth (query_json q) ≤ n → IsWithin (n + 1) (RunQuery root q time)
+query_fits root q time n h =
+    let rest = member (codes "structuredQuery") (query_json q) no_members in
+    let all : members_depth rest ≤ n = omega (arith, h) in
+    omega (arith, time_fits time rest n all)
+
+structured_within : (parent : List (List ℕ)) (d : Data) (place : List ℕ) (n : ℕ) → depth d ≤ n + 5 → IfOk (structured_at parent d place) (λ asked. depth (query_json asked.0) ≤ n + 4)
+unfolding structured_at
+structured_within parent d place n h =
+    let inner = member_place place (codes "structuredQuery") in
+    let P : Asked × Option ℤ → Type 0 = λ asked. depth (query_json asked.0) ≤ n + 4 in
+    let Q : Asked → Type 0 = λ q. depth (query_json q) ≤ n + 4 in
+    inside P (codes "structuredQuery") d place _
+    (λ s falls. in_turn_holds Q P (walked_at parent s inner) _ (walked_within parent s inner n (omega (arith, falls, h)))
+    (λ walked is. at_last_holds P (when_at d place) _
+    (λ time. in_turn_holds Q P (permitted_at walked inner) _ (permitted_within walked inner (n + 4) is) (λ q fits. fits))))
+
+run_query_within : (root : Root) (d : Data) (place : List ℕ) (n : ℕ) → depth d ≤ n + 5 → IfOk (run_query_at root d place) (IsWithin (n + 5))
+unfolding run_query_at
+run_query_within root d place n h =
+    let P = IsWithin (n + 5) in
+    at_last_holds P (only_at run_query_members d place) _
+    (λ u. at_last_holds P (required_at (codes "parent") d place) _
+    (λ name. at_last_holds P (parent_at root name (member_place place (codes "parent"))) _
+    (λ parent. in_turn_holds (λ asked. depth (query_json asked.0) ≤ n + 4) P (structured_at parent d place) _ (structured_within parent d place n h)
+    (λ asked fits. omega (arith, query_fits root asked.0 asked.1 (n + 4) fits)))))
+
+-- ---- requests with their ids
+
+request_within : (root : Root) (method : List ℕ) (d : Data) (n : ℕ) → depth d ≤ n + 5 → 0 < n → IfOk (request_at root method d) (IsWithin (n + 5))
+request_within root method d n h some =
+    let P = IsWithin (n + 5) in
+    either P (bytes_eq method (codes "commit")) _ _ (commit_within root d method n h some)
+    (either P (bytes_eq method (codes "getDocument")) _ _ (get_within root d method n)
+    (either P (bytes_eq method (codes "batchGetDocuments")) _ _ (batch_get_within root d method n)
+    (either P (bytes_eq method (codes "runQuery")) _ _ (run_query_within root d method n h) (record {}))))
+
+envelope_fits : (id : Option (List ℕ)) (r : Request) (n : ℕ) → IsWithin n r → depth (envelope_json (record { id = id; request = r })) ≤ n + 1
+envelope_fits None r n h = omega (arith, h)
+envelope_fits (Some id) (Commit root writes) n h = omega (arith, h)
+envelope_fits (Some id) (GetDocument name mask time) n h = omega (arith, h)
+envelope_fits (Some id) (BatchGetDocuments root names mask time) n h = omega (arith, h)
+envelope_fits (Some id) (RunQuery root q time) n h = omega (arith, h)
+
+pub envelope_within : (root : Root) (d : Data) (n : ℕ) → depth d ≤ n + 6 → 0 < n → IfOk (envelope_at root d) (λ e. depth (envelope_json e) ≤ n + 6)
+unfolding envelope_at
+envelope_within root d n h some =
+    let P : Envelope → Type 0 = λ e. depth (envelope_json e) ≤ n + 6 in
+    at_last_holds P (only_at (envelope_head ++ methods) d []) _
+    (λ u. at_last_holds P (id_at d) _
+    (λ id. in_turn_holds (λ one. depth one.1 < depth d) P (one_of_at methods d []) _ (one_falls methods d [])
+    (λ one falls. in_turn_holds (IsWithin (n + 5)) P (request_at root one.0 one.1) _ (request_within root one.0 one.1 n (omega (arith, falls, h)) some)
+    (λ r is. omega (arith, envelope_fits id r (n + 5) is)))))
