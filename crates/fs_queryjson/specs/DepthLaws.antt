@@ -244,14 +244,14 @@ unfolding query_json
 query_fits q n filter start end =
     let from : depth (from_json q.scope) < n + 4 = omega (arith, from_depth q.scope) in
     let all : members_depth (those_there (query_parts q)) < n + 4 =
-        member_fits (codes "endAt") (option_map cursor_json q.end) _ (n + 4) end
-        (member_fits (codes "from") (Some (from_json q.scope)) _ (n + 4) from
-        (member_fits (codes "limit") (option_map small_json q.limit) _ (n + 4) (limit_below q.limit n)
-        (member_fits (codes "offset") (offset_json q.offset) _ (n + 4) (offset_below q.offset n)
-        (member_fits (codes "orderBy") (order_by_json q.orders) _ (n + 4) (orders_below q.orders n)
-        (member_fits (codes "select") (option_map select_json q.select) _ (n + 4) (select_below q.select n)
-        (member_fits (codes "startAt") (option_map cursor_json q.start) _ (n + 4) start
-        (member_fits (codes "where") (where_json q.filter) json.no_members (n + 4) filter (omega arith)))))))) in
+    member_fits (codes "endAt") (option_map cursor_json q.end) _ (n + 4) end
+    (member_fits (codes "from") (Some (from_json q.scope)) _ (n + 4) from
+    (member_fits (codes "limit") (option_map small_json q.limit) _ (n + 4) (limit_below q.limit n)
+    (member_fits (codes "offset") (offset_json q.offset) _ (n + 4) (offset_below q.offset n)
+    (member_fits (codes "orderBy") (order_by_json q.orders) _ (n + 4) (orders_below q.orders n)
+    (member_fits (codes "select") (option_map select_json q.select) _ (n + 4) (select_below q.select n)
+    (member_fits (codes "startAt") (option_map cursor_json q.start) _ (n + 4) start
+    (member_fits (codes "where") (where_json q.filter) json.no_members (n + 4) filter (omega arith)))))))) in
     omega (arith, all)
 
 -- as it is walked
