@@ -1,6 +1,6 @@
 -- Laws that other crates cite: what is written of a query that was read nests no deeper than what was read, or than a few
 -- levels.
-use Rattle.std.proofs.Common.{◌≡◌, ℕ, zero, suc, ◌+◌, ◌≤◌, ◌<◌, ℤ, pos, negsuc, List, [], ◌∷◌, map, Bool, true, false, Option, Some, None, Result, Ok, Err, IfOk, IfSome, option_map, codes, cond, bytes_eq, refl, arith}
+use Rattle.std.proofs.Common.{ℕ, zero, suc, ◌+◌, ◌≤◌, ◌<◌, ℤ, pos, negsuc, List, [], ◌∷◌, map, Bool, true, false, Option, Some, None, Result, Ok, Err, IfOk, IfSome, option_map, codes, bytes_eq, arith}
 use Rattle.std.proofs.lemmas.Result.{IfOk-weaker}
 use Rattle.std.specs.List.{AllByRecursion}
 use Rattle.fs_path.specs.Place.{member_place, item_place}
@@ -27,8 +27,8 @@ use Rattle.fs_valjson.specs.AnswerLaws.{at_last_holds, each_chosen, either, in_t
 use Rattle.fs_valjson.specs.DepthLaws.{inside, inside_or, list_within, value_within}
 use Rattle.fs_valjson.specs.Reading.{list_at, the_one, value_at}
 use Rattle.fs_valjson.specs.Writing.{list_json, value_json}
-use Rattle.fs_queryjson.specs.Cursor.{cursor_at, cursor_in, cursor_json, cursor_members, with_before, with_values}
-use Rattle.fs_queryjson.specs.Field.{field_at, field_in, field_json, field_members}
+use Rattle.fs_queryjson.specs.Cursor.{cursor_at, cursor_in, cursor_json, cursor_members, with_values}
+use Rattle.fs_queryjson.specs.Field.{field_at, field_in, field_members}
 use Rattle.fs_queryjson.specs.Filter.{compare_at, compare_members, composite_of, each_filter_at, filter_at, filter_kinds, filters_at, inner_in, inner_members, join_at, joined, kind_at, kinds_in, nullness, required_as, simple_at, unary_at, unary_members, where_in}
 use Rattle.fs_queryjson.specs.From.{from_json, scopes_in, the_scope}
 use Rattle.fs_queryjson.specs.Member.{member_or, truth_at}

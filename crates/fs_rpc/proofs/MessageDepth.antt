@@ -1,20 +1,19 @@
 -- What is written of a message that was read nests no deeper than what was read, or than a few levels.
-use Rattle.std.proofs.Common.{◌≡◌, ℕ, suc, ◌+◌, ◌≤◌, ◌<◌, ℤ, List, [], ◌∷◌, map, filter_map, Option, Some, None, option_map, Result, Ok, Err, IfOk, IfSome, codes, bytes_eq, arith}
+use Rattle.std.proofs.Common.{ℕ, ◌+◌, ◌≤◌, ◌<◌, ℤ, List, [], ◌∷◌, map, filter_map, Option, Some, None, option_map, Ok, IfOk, IfSome, codes, bytes_eq, arith}
 use Rattle.std.proofs.lemmas.Result.{IfOk-weaker}
 use Rattle.std.specs.List.{AllByRecursion}
-use Rattle.serde_json.specs.Data.{Data, null, boolean, number, string, array, object, Items, Members, no_members, depth, items_depth, members_depth}
-use Rattle.serde_json.specs.Find.{as_array}
+use Rattle.serde_json.specs.Data.{Data, null, boolean, number, string, array, object, Items, depth, items_depth, members_depth}
 use Rattle.serde_json.specs.View.{items_of}
 use Rattle.fs_path.specs.Place.{member_place}
 use Rattle.fs_path.specs.declared.name.Root.{Root}
 use Rattle.fs_path.specs.declared.place.Rule.TheVariants.{G}
 use Rattle.fs_json.specs.Answer.{or_fault, ◌>>=◌}
-use Rattle.fs_json.specs.Members.{member_at, one_of_at, only_at}
+use Rattle.fs_json.specs.Members.{one_of_at, only_at}
 use Rattle.fs_json.specs.Paths.{document_name_at}
 use Rattle.fs_json.specs.Walk.{all_at, each_at}
 use Rattle.fs_value.specs.Data as value
 use Rattle.fs_value.specs.declared.document.Document.{Document}
-use Rattle.fs_valjson.specs.AnswerLaws.{at_last_holds, either, found_or, in_turn_holds}
+use Rattle.fs_valjson.specs.AnswerLaws.{at_last_holds, either, in_turn_holds}
 use Rattle.fs_valjson.specs.DepthLaws.{document_within, each_inside, inside_or, list_inside, list_within, one_falls}
 use Rattle.fs_valjson.specs.Document.{document_at, document_json}
 use Rattle.fs_valjson.specs.Reading.{list_at}
@@ -25,12 +24,10 @@ use Rattle.fs_rpc.specs.Id.{id_at}
 use Rattle.fs_rpc.specs.MessageJson.{batch_answer_json, commit_json, error_json, error_members, message_json, query_answer_json, query_answers_json, result_members}
 use Rattle.fs_rpc.specs.ReadMessage.{answers_commit, answers_names, code_named, commit_result_at, commit_result_members, documents_result_at, error_at, if_numbered, list_result_at, message_at, message_members, object_result_at, outcome_at, outcomes, query_result_at, required_integer_at, required_text_at, result_at}
 use Rattle.fs_rpc.specs.ReadMessage as read
-use Rattle.fs_rpc.specs.ReadResults.{answered, batch_answer_at, batch_answer_members, document_in, found_at, found_or_missing, missing_at, query_answer_at, query_answer_members, results_in, time_of, told_at, transforms_in, write_result_at, write_result_members}
+use Rattle.fs_rpc.specs.ReadResults.{answered, batch_answer_at, batch_answer_members, document_in, found_or_missing, query_answer_at, query_answer_members, results_in, time_of, transforms_in, write_result_at, write_result_members}
 use Rattle.fs_rpc.specs.Times.{optional_time_at, required_time_at}
 use Rattle.fs_rpc.specs.declared.message.BatchAnswer.{BatchAnswer}
-use Rattle.fs_rpc.specs.declared.message.BatchAnswer.TheVariants.{Found, Missing}
 use Rattle.fs_rpc.specs.declared.message.Message.{Message}
-use Rattle.fs_rpc.specs.declared.message.Message.TheVariants.{Commit, GetDocument, BatchGetDocuments, RunQuery, Error}
 
 -- ---- results of writes
 

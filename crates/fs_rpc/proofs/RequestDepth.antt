@@ -1,6 +1,5 @@
 -- What is written of a request that was read nests no deeper than what was read, or than a few levels.
-use Rattle.std.proofs.Common.{◌≡◌, ℕ, suc, ◌+◌, ◌≤◌, ◌<◌, ℤ, List, [], ◌∷◌, ◌++◌, map, Option, Some, None, Result, Ok, Err, IfOk, codes, bytes_eq, arith}
-use Rattle.std.proofs.lemmas.Result.{IfOk-weaker}
+use Rattle.std.proofs.Common.{ℕ, ◌+◌, ◌≤◌, ◌<◌, ℤ, List, [], ◌∷◌, ◌++◌, Option, Some, None, Ok, IfOk, codes, bytes_eq, arith}
 use Rattle.std.specs.List.{AllByRecursion}
 use Rattle.serde_json.specs.Data.{Data, Members, no_members, member, depth, items_depth, members_depth}
 use Rattle.fs_path.specs.Place.{member_place}
@@ -24,7 +23,7 @@ use Rattle.fs_writejson.specs.declared.draft.Draft.{Draft}
 use Rattle.fs_rpc.specs.Envelope.{envelope_at}
 use Rattle.fs_rpc.specs.Id.{id_at}
 use Rattle.fs_rpc.specs.Methods.{envelope_head, methods}
-use Rattle.fs_rpc.specs.RequestJson.{envelope_json, name_json, names_json, request_json, with_mask, with_read_time, writes_json, writes_member}
+use Rattle.fs_rpc.specs.RequestJson.{envelope_json, name_json, names_json, request_json, with_mask, with_read_time, writes_json}
 use Rattle.fs_rpc.specs.Requests.{batch_get_at, batch_get_members, commit_at, commit_members, database_at, drafts_in, get_at, get_members, mask_in, names_at, parent_at, request_at, run_query_at, run_query_members, structured_at, when_at}
 use Rattle.fs_rpc.specs.declared.request.Envelope.{Envelope}
 use Rattle.fs_rpc.specs.declared.request.Request.{Request}

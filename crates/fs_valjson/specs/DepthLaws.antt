@@ -1,5 +1,5 @@
 -- Laws that other crates cite: what is written of what was read nests no deeper than what was read.
-use Rattle.std.proofs.Common.{◌≡◌, ℕ, suc, ◌+◌, ◌≤◌, ◌<◌, List, [], ◌∷◌, Bool, true, false, Option, Some, None, Result, Ok, Err, IfOk, IfSome, Ordering, Less, Equal, Greater, codes, cond, bytes_eq, option_and_then, refl, arith}
+use Rattle.std.proofs.Common.{◌≡◌, ℕ, suc, ◌+◌, ◌≤◌, ◌<◌, List, [], Bool, true, false, Option, Some, None, Result, Ok, Err, IfOk, IfSome, Ordering, Less, Equal, Greater, codes, cond, bytes_eq, option_and_then, refl, arith}
 use Rattle.std.proofs.lemmas.Result.{IfOk-weaker}
 use Rattle.std.specs.Cmp.Lexicographic.{slice_cmp}
 use Rattle.std.specs.List.{AllByRecursion}
@@ -7,7 +7,6 @@ use Rattle.std.specs.Option.{option_map_or}
 use Rattle.std.specs.Ordering.{nat_cmp, match_ordering}
 use Rattle.fs_path.specs.Place.{member_place, item_place}
 use Rattle.fs_path.specs.declared.name.Root.{Root}
-use Rattle.fs_path.specs.declared.place.Rule.{Rule}
 use Rattle.fs_path.specs.declared.place.Rule.TheVariants.{G}
 use Rattle.serde_json.specs.Data as json
 use Rattle.serde_json.specs.Data.{depth, items_depth, members_depth}

@@ -1,7 +1,6 @@
 -- Laws that other crates cite: what is written of a write that was read nests no deeper than what was read, or than a few
 -- levels.
-use Rattle.std.proofs.Common.{◌≡◌, ℕ, suc, ◌+◌, ◌≤◌, ◌<◌, ℤ, List, [], ◌∷◌, map, Bool, true, false, Option, Some, None, Result, Ok, Err, IfOk, IfSome, codes, cond, bytes_eq, arith}
-use Rattle.std.proofs.lemmas.Result.{IfOk-weaker}
+use Rattle.std.proofs.Common.{ℕ, ◌+◌, ◌≤◌, ◌<◌, ℤ, List, [], ◌∷◌, map, Bool, true, false, Option, Some, None, Ok, IfOk, IfSome, codes, cond, bytes_eq, arith}
 use Rattle.std.specs.List.{AllByRecursion}
 use Rattle.fs_path.specs.Place.{member_place}
 use Rattle.fs_path.specs.declared.field.FieldPath.{FieldPath}
@@ -14,7 +13,6 @@ use Rattle.fs_json.specs.Answer.{or_fault}
 use Rattle.fs_json.specs.Members.{member_at, one_of_at, only_at, required_at, unbuilt_at}
 use Rattle.fs_json.specs.Paths.{document_name_at, field_path_at}
 use Rattle.fs_json.specs.Walk.{all_at}
-use Rattle.fs_json.specs.declared.bad.Bad.{Bad}
 use Rattle.fs_valjson.specs.AnswerLaws.{at_last_holds, either, in_turn_holds, of_made}
 use Rattle.fs_valjson.specs.DepthLaws.{array_within, document_fields_within, inside_or, list_inside, member_falls, one_falls, update_fits, FieldsBelow}
 use Rattle.fs_valjson.specs.Document.{document_at, update_json}
@@ -27,7 +25,6 @@ use Rattle.fs_write.specs.declared.write.Act.{Act}
 use Rattle.fs_write.specs.declared.write.Act.TheVariants.{Set, Merge, Delete}
 use Rattle.fs_write.specs.declared.write.Precondition.{Precondition}
 use Rattle.fs_write.specs.declared.write.Precondition.TheVariants as condition
-use Rattle.fs_write.specs.declared.write.Write.{Write}
 use Rattle.fs_writejson.specs.Condition.{condition_in}
 use Rattle.fs_writejson.specs.Draft.{act_at, beside_at, draft_at, drafts_at, mask_in, set_of, unbuilt_members, with_mask, write_members}
 use Rattle.fs_writejson.specs.Mask.{mask_json, paths_json}
