@@ -27,7 +27,7 @@ use Rattle.fs_queryjson.specs.From.{from_members, parent_of, scope_at, scope_of,
 use Rattle.fs_queryjson.specs.Member.{member_or, text_at, truth_at}
 use Rattle.fs_queryjson.specs.Op.{is_null_at, op_at}
 use Rattle.fs_queryjson.specs.Order.{orders_in}
-use Rattle.fs_queryjson.specs.Query.{limit_in, offset_in, permitted_at, query_at, query_members, unless_broken, walked_at}
+use Rattle.fs_queryjson.specs.Query.{limit_in, offset_in, permitted_at, query_members, unless_broken, walked_at}
 use Rattle.fs_queryjson.specs.Select.{fields_in, select_at, select_in, select_members, selection_of}
 use Rattle.fs_queryjson.specs.Valid.{AreFilters, CursorHasNames, IsFilter, IsValid, IsWhere, SelectsSome}
 
@@ -224,7 +224,3 @@ permitted_valid parent q place is = at (rule_of_query q) refl
     at : (rule : Option QueryRule) → rule_of_query q ≡ rule → IfOk (unless_broken rule q place) (IsReadBelow parent)
     at None none = record { below = is.below; valid = record { filter = is.filter; start = is.start; end = is.end; select = is.select; allowed = none } }
     at (Some rule) broken = record {}
-
-pub query_valid : (parent : List (List ℕ)) (d : json.Data) (place : List ℕ) → IfOk (query_at parent d place) (IsReadBelow parent)
-query_valid parent d place =
-    in_turn_holds (IsWalked parent) (IsReadBelow parent) (walked_at parent d place) _ (walked_valid parent d place) (λ q is. permitted_valid parent q place is)

@@ -1,9 +1,8 @@
 -- Laws that other crates cite: what holds of whatever is read, reading by reading.
-use Rattle.std.proofs.Common.{◌≡◌, ℕ, ◌+◌, List, [], ◌∷◌, ◌++◌, Bool, true, false, Option, Some, None, Result, Ok, Err, IfOk, cond, option_map, refl, subst}
+use Rattle.std.proofs.Common.{ℕ, ◌+◌, List, [], ◌∷◌, ◌++◌, Bool, true, false, Option, Some, None, Result, Ok, Err, IfOk, cond, option_map, subst}
 use Rattle.std.specs.List.{AllByRecursion}
 use Rattle.std.specs.Option.{option_map_or, option_to_list}
 use Rattle.fs_path.specs.Place.{item_place}
-use Rattle.fs_path.specs.declared.place.Rule.{Rule}
 use Rattle.fs_path.specs.declared.place.Rule.TheVariants.{G}
 use Rattle.serde_json.specs.Data as json
 use Rattle.serde_json.specs.Find.{as_array}
@@ -29,11 +28,6 @@ in_turn_holds P Q (Err bad) next holds more = record {}
 pub at_last_holds : {A B : Type 0} (Q : B → Type 0) (first : Result A Bad) (next : A → Result B Bad) → ((x : A) → IfOk (next x) Q) → IfOk (first >>= next) Q
 at_last_holds Q (Ok x) next more = more x
 at_last_holds Q (Err bad) next more = record {}
-
--- a value that has to be there
-pub given : {A : Type 0} (P : A → Type 0) (rule : Rule) (place : List ℕ) (found : Option A) → ((x : A) → found ≡ Some x → P x) → IfOk (or_fault rule place found) P
-given P rule place None is = record {}
-given P rule place (Some x) is = is x refl
 
 -- a member that may be absent
 pub found_or : {A X : Type 0} (P : A → Type 0) (read : X → Result A Bad) (found : Option X) (absent : Result A Bad) → ((x : X) → IfOk (read x) P) → IfOk absent P

@@ -31,7 +31,7 @@ use Rattle.fs_write.specs.declared.write.Act.{Act}
 use Rattle.fs_write.specs.declared.write.Act.TheVariants.{Set, Merge, Delete}
 use Rattle.fs_writejson.specs.Condition.{condition_in}
 use Rattle.fs_writejson.specs.Draft.{act_at, beside_at, draft_at, drafts_at, mask_in, unbuilt_members, with_mask, write_members}
-use Rattle.fs_writejson.specs.Rules.{judged_at, mask_of, permitted_at, rule_of_draft, rules_at, unless_broken, write_at}
+use Rattle.fs_writejson.specs.Rules.{judged_at, mask_of, permitted_at, rule_of_draft, rules_at, unless_broken}
 use Rattle.fs_writejson.specs.Transform.{number_of, operation_at, operation_in, operations, server_value, together, transform_at, transform_members, transforms_at, transforms_in}
 use Rattle.fs_writejson.specs.Valid.{HasNames, IsDraftOf, IsWriteOf}
 use Rattle.fs_writejson.specs.declared.draft.Draft.{Draft}
@@ -174,10 +174,6 @@ write_of root draft is none = record { named = is.named; fields = is.fields; ele
 
 pub permitted_valid : (root : Root) (draft : Draft) (place : List ℕ) → IsDraftOf root draft → IfOk (permitted_at draft place) (IsWriteOf root)
 permitted_valid root draft place is = unless_none (IsWriteOf root) (rule_of_draft draft) place (Ok draft.write) (λ none. write_of root draft is none)
-
--- one write
-pub write_valid : (root : Root) (d : json.Data) (place : List ℕ) → IfOk (write_at root d place) (IsWriteOf root)
-write_valid root d place = in_turn_holds (IsDraftOf root) (IsWriteOf root) (draft_at root d place) _ (draft_valid root d place) (λ draft is. permitted_valid root draft place is)
 
 none_broken : (drafts : List Draft) (i : ℕ) (place : List ℕ) → IfOk (rules_at drafts i place) (λ u. AllByRecursion (λ draft. rule_of_draft draft ≡ None) drafts)
 none_broken [] i place = tt
