@@ -213,6 +213,11 @@ def ordered(rand):
     return run_query(orderBy=[{"field": {"fieldPath": "name"}, "direction": "DESCENDING"}], limit=50)
 
 
+def ordered_whole(rand):
+    """The same order without a limit, of which the last documents are answered."""
+    return run_query(orderBy=[{"field": {"fieldPath": "name"}, "direction": "DESCENDING"}], offset=MANY - 50)
+
+
 def hundred(rand):
     """A read of a hundred documents by their names."""
     names = ["%s/c/d%05d" % (DOCUMENTS, rand.randrange(MANY)) for _ in range(100)]
@@ -234,7 +239,8 @@ def plain_answer(documents, request):
         path = order["field"]["fieldPath"]
         found = [d for d in found if path in d["fields"]]
         found.sort(key=lambda d: d["fields"][path]["stringValue"], reverse=order.get("direction") == "DESCENDING")
-    return [{"document": d} for d in found[:query.get("limit")]]
+    offset = query.get("offset", 0)
+    return [{"document": d} for d in found[offset:][:query.get("limit")]]
 
 
 def plain_seconds(documents, lines):
@@ -250,7 +256,8 @@ def measure_requests(seed):
     before = best_of(script_of(made), RUNS)[0]
     # (So many of each that they take about a second: the making of the documents takes a quarter of one, and varies.)
     for name, request, times in (
-            ("a filter that ten meet", rare, 200), ("an order with limit 50", ordered, 100), ("a read of 100 names", hundred, 1000)):
+            ("a filter that ten meet", rare, 200), ("an order with limit 50", ordered, 100),
+            ("an order with offset 9,950", ordered_whole, 100), ("a read of 100 names", hundred, 1000)):
         rand = random.Random(seed)
         asked = [request(rand) for _ in range(times)]
         taken = (best_of(script_of(made + asked), RUNS)[0] - before) / times
