@@ -12,6 +12,7 @@ use std::io::{Read, Write};
 
 /// A source over one of std's readers. It counts each error as a fault. What is left is told by the reader, where it
 /// tells what remains in it, and not by the source.
+/// (docs/DECISIONS.md, "A real source or sink says what its reader or writer tells, as clauses of its own".)
 #[derive(Drop)]
 pub struct RealSource<R> {
     reader: R,

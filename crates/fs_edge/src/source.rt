@@ -15,6 +15,7 @@ pub enum Took {
 }
 
 /// Where bytes come from.
+/// (docs/DECISIONS.md, "A source counts the ends that it told".)
 pub trait Source {
     /// The bytes that are left, where the source tells them. Memory does; a file or a terminal does not.
     ghost left: { Self → Option (List ℕ) };

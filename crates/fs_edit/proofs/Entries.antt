@@ -3,17 +3,17 @@
 use Rattle.std.specs.Prelude.{◌≡◌, ℕ, IsTrue, T, Bool, true, false, cond, not, List, [], ◌∷◌, ◌++◌, map, Option, Some, None, option_map, refl}
 use Rattle.std.proofs.Common.{sym, ap, ◌∙◌, subst, append_assoc, append-nil, length, arith}
 use Rattle.std.specs.Ordering.{eq_by_cmp, is_eq, is_lt, ordering_reverse}
-use Rattle.std.specs.declared.cmp.Ordering.{Ordering}
-use Rattle.std.specs.declared.cmp.Ordering.TheVariants.{Less, Equal, Greater}
-use Rattle.std.specs.Cmp.{alike_right, first_so, second_so, Equal-is}
+use Rattle.std.specs.declared.cmp.Ordering.TheVariants.{Less, Greater}
+use Rattle.std.specs.Cmp.{alike_right, first_so, second_so}
 use Rattle.std.specs.Cmp.Derive.{both_true}
 use Rattle.std.specs.BTreeMap.{is_at}
 use Rattle.std.specs.List.{AllByRecursion}
 use Rattle.std.specs.List.Sorted.{IsStrictlySortedBy}
 use Rattle.std.specs.Map.{lookup, keys_of}
 use Rattle.std.specs.FinMap.{find, put, is_sorted}
-use Rattle.std.specs.FinMap.Entries.{below_all, by_order, same_entries, is_sorted-put, is_sorted-where_key, find-put, find-where_key, find_tied}
+use Rattle.std.specs.FinMap.Entries.{below_all, by_order, same_entries, is_sorted-put, is_sorted-where_key, find-put, find-where_key}
 use Rattle.std.proofs.lemmas.Cmp.{eq_by_cmp_equiv}
+use Rattle.fs_path.proofs.Orders.{less_is}
 use Rattle.fs_path.specs.TextOrder.{text_cmp, text_cmp_total, text_same}
 use Rattle.fs_value.specs.Data.{Data}
 use Rattle.fs_value.specs.FieldPaths.{without}
@@ -89,23 +89,7 @@ removed es fs k rise rise' is =
     ∙ turned (is_at (text_cmp k) q) (find text_cmp q (map entry_view es))
     ∙ sym (find-where_key text_cmp (λ x. not (eq_by_cmp text_cmp k x)) q (λ x t. ap (λ r. not (is_eq r)) (sym (alike_right text_cmp_total q x k t))) (map entry_view es)))
 
--- a value put where it stands already
-tied_same : (b : Bool) (q k : List ℕ) (d : Data) (fs : List (List ℕ × Data)) → eq_by_cmp text_cmp q k ≡ b → find text_cmp k fs ≡ Some d → cond b (Some d) (find text_cmp q fs) ≡ find text_cmp q fs
-tied_same true q k d fs t is = sym is ∙ find_tied text_cmp text_cmp_total q k ((Equal-is _).0 t) fs
-tied_same false q k d fs t is = refl
-
-pub put_same : (k : List ℕ) (d : Data) (fs : List (List ℕ × Data)) → IsTrue (is_sorted text_cmp fs) → find text_cmp k fs ≡ Some d → put text_cmp k d fs ≡ fs
-put_same k d fs rise is =
-    let h : T (is_sorted text_cmp fs) = subst T (sym rise) tt in
-    same_entries text_cmp text_cmp_total text_same (put text_cmp k d fs) fs (is_sorted-put text_cmp text_cmp_total k d fs h) h
-    (λ q. find-put text_cmp text_cmp_total q k d fs ∙ tied_same (eq_by_cmp text_cmp q k) q k d fs refl is)
-
 -- ---- one more, behind those that are there
-
-less_is : (o : Ordering) → IsTrue (is_lt o) → o ≡ Less
-less_is Less h = refl
-less_is Equal h = absurd (cc)
-less_is Greater h = absurd (cc)
 
 below_middle : (l k : List ℕ) (d : Data) (xs more : List (List ℕ × Data)) → IsTrue (below_all text_cmp l (xs ++ (k, d) ∷ more)) → text_cmp l k ≡ Less
 below_middle l k d [] more h = less_is _ (first_so _ (below_all text_cmp l more) h)

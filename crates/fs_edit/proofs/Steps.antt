@@ -1,18 +1,17 @@
 -- A path of two names or more, from its first name on.
-use Rattle.std.proofs.Common.{◌≡◌, ◌≢◌, ℕ, ◌<◌, List, [], ◌∷◌, Result, Ok, Err, length, get_or, take, drop, ◌-◌, refl, sym, ap, ◌∙◌, arith}
-use Rattle.std.specs.Prelude.{IsTrue, cond, map, Option, Some, None, IfOk, OnOk, option_map, option_and_then, unwrap_or}
+use Rattle.std.proofs.Common.{◌≡◌, ◌≢◌, ℕ, ◌<◌, List, [], ◌∷◌, length, get_or, refl, sym, ap, ◌∙◌, arith}
+use Rattle.std.specs.Prelude.{IsTrue, cond, map, Option, Some, None, option_map, option_and_then, unwrap_or}
 use Rattle.std.specs.Option.{option_map_or}
 use Rattle.std.specs.BTreeMap.{is_at}
 use Rattle.std.specs.Map.{lookup}
 use Rattle.std.specs.FinMap.{find, put, is_sorted}
-use Rattle.std.proofs.Math.Seq.{take-length}
 use Rattle.fs_path.specs.TextOrder.{text_cmp}
 use Rattle.fs_value.specs.Data.{Data, null, array, object, items_of, members_of}
 use Rattle.fs_value.specs.DataLaws.{fields_of-members_of}
-use Rattle.fs_value.specs.FieldPaths.{map_of, map_fields, fields_under, fields_below, get_fields, set_fields, unset_fields, unset_below}
+use Rattle.fs_value.specs.FieldPaths.{map_of, map_fields, fields_below, get_fields, set_fields, unset_fields, unset_below}
 use Rattle.fs_value.specs.View.{view}
 use Rattle.fs_value.specs.declared.value.Value.{Value}
-use Rattle.fs_value.specs.declared.value.Value.TheVariants.{Null, Boolean, Integer, Timestamp, String, Bytes, Reference, Array, Map}
+use Rattle.fs_value.specs.declared.value.Value.TheVariants.{Map}
 use Rattle.fs_edit.specs.Below.{value_below}
 use Rattle.fs_edit.specs.FieldChange.{value_made, value_changed}
 use Rattle.fs_edit.specs.Numbers.{integer_in}
@@ -20,36 +19,11 @@ use Rattle.fs_edit.specs.OpenView.{open_view, entry_view}
 use Rattle.fs_edit.specs.declared.field_change.FieldChange.{FieldChange}
 use Rattle.fs_edit.specs.declared.field_change.FieldChange.TheVariants.{Set, Elements}
 use Rattle.fs_edit.specs.declared.open_fields.Open.{Open}
-use Rattle.fs_edit.proofs.Entries.{Rise, found, changed, put_same, rising}
-
-pub OnOk-map : {A E : Type 0} {P Q : Type 0} (r : Result A E) → (P → Q) → OnOk r P → OnOk r Q
-OnOk-map (Ok a) f h = f h
-OnOk-map (Err e) f h = h
-
-pub IfOk-map : {A E : Type 0} {P Q : A → Type 0} (r : Result A E) → ((a : A) → P a → Q a) → IfOk r P → IfOk r Q
-IfOk-map (Ok a) f h = f a h
-IfOk-map (Err e) f h = h
-
--- the names after the first, as a pattern leaves them
-abbrev pub rest : List (List ℕ) → List (List ℕ)
-rest names = take (length names - 1) (drop 1 names)
-
-pub first_name : (names : List (List ℕ)) (k n : List ℕ) → 0 < length names → k ≡ n → n ≡ get_or names 0 n → k ≡ get_or names 0 k
-first_name [] k n more same is = absurd (omega arith)
-first_name (x ∷ ks) k n more same is = same ∙ is
-
-take_all : (xs : List (List ℕ)) (n : ℕ) → n ≡ length xs → take n xs ≡ xs
-take_all xs n is = ap (λ (m : ℕ). take m xs) is ∙ take-length xs
-
-rest_is : (n : List ℕ) (ks : List (List ℕ)) → rest (n ∷ ks) ≡ ks
-rest_is n ks = take_all ks _ (omega arith)
+use Rattle.fs_value.proofs.FieldPlaces.{put_same}
+use Rattle.fs_value.proofs.PathSteps.{get_nothing, no_map, rest, rest_is, unset_more}
+use Rattle.fs_edit.proofs.Entries.{Rise, found, changed, rising}
 
 -- ---- what is found
-
-pub get_nothing : (names : List (List ℕ)) → get_fields names [] ≡ None
-get_nothing [] = refl
-get_nothing (n ∷ []) = refl
-get_nothing (n ∷ l ∷ ks) = get_nothing (l ∷ ks)
 
 itself : (o : Option Data) → o ≡ option_and_then (value_below []) o
 itself None = refl
@@ -88,21 +62,10 @@ within_map (n ∷ ks) k d fs o more first is at =
     ∙ get_more (n ∷ ks) k fs more first
     ∙ ap (option_and_then (value_below (rest (n ∷ ks)))) at
 
-other : (v : Value) → ((fs : List (List ℕ × Data)) → v ≢ Map fs) → map_fields (view v) ≡ None
-other Null h = refl
-other (Boolean b) h = refl
-other (Integer n) h = refl
-other (Timestamp t) h = refl
-other (String s) h = refl
-other (Bytes s) h = refl
-other (Reference n) h = refl
-other (Array vs) h = refl
-other (Map fs) h = absurd (h fs refl)
-
 -- below a value that is no map
 pub within_other : (names : List (List ℕ)) (v : Value) → 0 < length names → ((fs : List (List ℕ × Data)) → v ≢ Map fs) → value_below names (view v) ≡ None
 within_other [] v more h = absurd (omega arith)
-within_other (n ∷ ks) v more h = ap (λ o. get_fields (n ∷ ks) (unwrap_or o [])) (other v h) ∙ get_nothing (n ∷ ks)
+within_other (n ∷ ks) v more h = ap (λ o. get_fields (n ∷ ks) (unwrap_or o [])) (no_map v h) ∙ get_nothing (n ∷ ks)
 
 -- ---- what is set and taken out
 
@@ -112,12 +75,6 @@ change_more : (names : List (List ℕ)) (k : List ℕ) (c : FieldChange) (fs : L
 change_more [] k c fs more is = absurd (omega arith)
 change_more (n ∷ []) k c fs more is = λ i. put text_cmp (sym is i) (value_made c (find text_cmp (sym is i) fs)) fs
 change_more (n ∷ l ∷ ks) k c fs more is = λ i. put text_cmp (sym is i) (value_changed (sym (rest_is n (l ∷ ks)) i) c (find text_cmp (sym is i) fs)) fs
-
-pub unset_more : (names : List (List ℕ)) (k : List ℕ) (fs : List (List ℕ × Data)) → 1 < length names → k ≡ get_or names 0 k
-    → unset_fields names fs ≡ option_map_or (λ ms. put text_cmp k (map_of (unset_fields (rest names) ms)) fs) (fields_under k fs) fs
-unset_more [] k fs more is = absurd (omega arith)
-unset_more (n ∷ []) k fs more is = absurd (omega arith)
-unset_more (n ∷ l ∷ ks) k fs more is = λ i. option_map_or (λ ms. put text_cmp (sym is i) (map_of (unset_fields (sym (rest_is n (l ∷ ks)) i) ms)) fs) (fields_under (sym is i) fs) fs
 
 -- ---- at a key that is there
 
@@ -165,7 +122,3 @@ change_missing names key c fs same new more first missing are is =
     is
     ∙ (λ i. put text_cmp key (value_changed (rest names) c (sym missing i)) (are i))
     ∙ sym (change_more names key c fs more first)
-
-pub unset_missing : (names : List (List ℕ)) (key : List ℕ) (fs : List (List ℕ × Data)) → 1 < length names → key ≡ get_or names 0 key → find text_cmp key fs ≡ None → fs ≡ unset_fields names fs
-unset_missing names key fs more first missing =
-    ap (λ o. option_map_or (λ ms. put text_cmp key (map_of (unset_fields (rest names) ms)) fs) (option_and_then map_fields o) fs) (sym missing) ∙ sym (unset_more names key fs more first)

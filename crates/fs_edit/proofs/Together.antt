@@ -1,7 +1,6 @@
 -- The changes of an array, carried out together: what a change makes of them that comes before.
 use Rattle.std.proofs.Common.{◌≡◌, Bool, true, false, cond, not, List, [], ◌∷◌, ◌++◌, map, reverse, filter, refl, sym, ap, ◌∙◌}
 use Rattle.std.specs.Prelude.{◌||◌, ◌&&◌}
-use Rattle.std.specs.Ordering.{eq_by_cmp}
 use Rattle.std.specs.BTreeSet.{BTreeSet}
 use Rattle.std.proofs.lemmas.Cmp.{eq_by_cmp_equiv}
 use Rattle.std.proofs.lemmas.List.{append-nil, reverse-append, reverse-reverse, map-append}
@@ -9,25 +8,22 @@ use Rattle.std.proofs.lemmas.List.Elements.{filter-append}
 use Rattle.std.proofs.lemmas.List.Folds.{list_any-append}
 use Rattle.std.proofs.lemmas.Map.Steps.{list_any_congr}
 use Rattle.fs_value.specs.Data.{Data}
-use Rattle.fs_value.specs.ValueOrder.{value_cmp}
 use Rattle.fs_value.specs.ValueOrderLaws.{value_cmp_total}
 use Rattle.fs_value.specs.View.{view}
 use Rattle.fs_value.specs.declared.value.Value.{Value}
-use Rattle.fs_edit.specs.Arrays.{has_value, append_missing, remove_all}
+use Rattle.fs_value.specs.Elements.{array_contains, same}
+use Rattle.fs_edit.specs.Arrays.{append_missing, remove_all}
 use Rattle.fs_edit.specs.ArrayChanges.{elements_after, after_all}
 use Rattle.fs_edit.specs.Closing.{HasExactly, Gains, stacked, together, TakesIn, AreTogether}
 use Rattle.fs_edit.specs.declared.array_change.ArrayChange.{ArrayChange}
 use Rattle.fs_edit.specs.declared.array_change.ArrayChange.TheVariants.{Append, Remove}
 use Rattle.fs_edit.proofs.ValueSets.{exactly_more}
 
-abbrev same : Data → Data → Bool
-same = eq_by_cmp value_cmp
-
 -- ---- appending twice, and taking out twice
 
 append_missing-append : (there ds es : List Data) → append_missing there (ds ++ es) ≡ append_missing (append_missing there ds) es
 append_missing-append there [] es = refl
-append_missing-append there (d ∷ ds) es = append_missing-append (cond (has_value there d) there (there ++ d ∷ [])) ds es
+append_missing-append there (d ∷ ds) es = append_missing-append (cond (array_contains there d) there (there ++ d ∷ [])) ds es
 
 kept_twice : (a b : Bool) (d : Data) (rest : List Data) (p : Data → Bool) → p d ≡ not b → filter p (cond (not a) (d ∷ rest) rest) ≡ cond (not (b || a)) (d ∷ filter p rest) (filter p rest)
 kept_twice true true d rest p is = refl
@@ -38,13 +34,13 @@ kept_twice false false d rest p is = ap (λ c. cond c (d ∷ filter p rest) (fil
 remove_all-remove_all : (there ds gone : List Data) → remove_all (remove_all there ds) gone ≡ remove_all there (gone ++ ds)
 remove_all-remove_all [] ds gone = refl
 remove_all-remove_all (d ∷ there) ds gone =
-    kept_twice (has_value ds d) (has_value gone d) d (remove_all there ds) (λ x. not (has_value gone x)) refl
+    kept_twice (array_contains ds d) (array_contains gone d) d (remove_all there ds) (λ x. not (array_contains gone x)) refl
     ∙ ap (λ b. cond (not b) (d ∷ remove_all (remove_all there ds) gone) (remove_all (remove_all there ds) gone)) (sym (list_any-append (same d) gone ds))
-    ∙ ap (λ rest. cond (not (has_value (gone ++ ds) d)) (d ∷ rest) rest) (remove_all-remove_all there ds gone)
+    ∙ ap (λ rest. cond (not (array_contains (gone ++ ds) d)) (d ∷ rest) rest) (remove_all-remove_all there ds gone)
 
 -- ---- taking out after appending
 
-has_cond : (b : Bool) (d x : Data) (rest : List Data) → has_value (cond b (d ∷ rest) rest) x ≡ cond b (same x d || has_value rest x) (has_value rest x)
+has_cond : (b : Bool) (d x : Data) (rest : List Data) → array_contains (cond b (d ∷ rest) rest) x ≡ cond b (same x d || array_contains rest x) (array_contains rest x)
 has_cond true d x rest = refl
 has_cond false d x rest = refl
 
@@ -59,35 +55,35 @@ left_by false true h false r f is = refl
 left_by false false h k r f is = is
 
 -- a value is left where it was there and isn't taken out
-has_value-remove_all : (there gone : List Data) (x : Data) → has_value (remove_all there gone) x ≡ (has_value there x && not (has_value gone x))
-has_value-remove_all [] gone x = refl
-has_value-remove_all (d ∷ there) gone x =
-    has_cond (not (has_value gone d)) d x (remove_all there gone)
-    ∙ left_by (has_value gone d) (same x d) (has_value there x) (has_value gone x) (has_value (remove_all there gone) x)
-    (λ e. sym (list_any_congr (eq_by_cmp_equiv value_cmp_total) x d gone e)) (has_value-remove_all there gone x)
+array_contains-remove_all : (there gone : List Data) (x : Data) → array_contains (remove_all there gone) x ≡ (array_contains there x && not (array_contains gone x))
+array_contains-remove_all [] gone x = refl
+array_contains-remove_all (d ∷ there) gone x =
+    has_cond (not (array_contains gone d)) d x (remove_all there gone)
+    ∙ left_by (array_contains gone d) (same x d) (array_contains there x) (array_contains gone x) (array_contains (remove_all there gone) x)
+    (λ e. sym (list_any_congr (eq_by_cmp_equiv value_cmp_total) x d gone e)) (array_contains-remove_all there gone x)
 
 -- one value, which is there or not (`a`) and is taken out or not (`g`)
 module _ (there gone ds : List Data) (d : Data) where
-  left_one : (g : Bool) → has_value gone d ≡ g → remove_all (there ++ d ∷ []) gone ≡ remove_all there gone ++ cond (not g) (d ∷ []) []
-  left_one g goes = filter-append (λ x. not (has_value gone x)) there (d ∷ []) ∙ ap (λ b. remove_all there gone ++ cond (not b) (d ∷ []) []) goes
+  left_one : (g : Bool) → array_contains gone d ≡ g → remove_all (there ++ d ∷ []) gone ≡ remove_all there gone ++ cond (not g) (d ∷ []) []
+  left_one g goes = filter-append (λ x. not (array_contains gone x)) there (d ∷ []) ∙ ap (λ b. remove_all there gone ++ cond (not b) (d ∷ []) []) goes
 
-  appended_by : (b : Bool) → has_value (remove_all there gone) d ≡ b
+  appended_by : (b : Bool) → array_contains (remove_all there gone) d ≡ b
       → append_missing (remove_all there gone) (d ∷ ds) ≡ append_missing (cond b (remove_all there gone) (remove_all there gone ++ d ∷ [])) ds
   appended_by b is = ap (λ c. append_missing (cond c (remove_all there gone) (remove_all there gone ++ d ∷ [])) ds) is
 
-  one_after : (a g : Bool) → has_value there d ≡ a → has_value gone d ≡ g
+  one_after : (a g : Bool) → array_contains there d ≡ a → array_contains gone d ≡ g
       → append_missing (remove_all (cond a there (there ++ d ∷ [])) gone) ds ≡ append_missing (remove_all there gone) (cond (not g) (d ∷ ds) ds)
   one_after true true was goes = refl
-  one_after true false was goes = sym (appended_by true (has_value-remove_all there gone d ∙ (λ i. was i && not (goes i))))
+  one_after true false was goes = sym (appended_by true (array_contains-remove_all there gone d ∙ (λ i. was i && not (goes i))))
   one_after false true was goes = ap (λ xs. append_missing xs ds) (left_one true goes ∙ append-nil (remove_all there gone))
   one_after false false was goes =
-      ap (λ xs. append_missing xs ds) (left_one false goes) ∙ sym (appended_by false (has_value-remove_all there gone d ∙ (λ i. was i && not (goes i))))
+      ap (λ xs. append_missing xs ds) (left_one false goes) ∙ sym (appended_by false (array_contains-remove_all there gone d ∙ (λ i. was i && not (goes i))))
 
 remove_all-append_missing : (there ds gone : List Data) → remove_all (append_missing there ds) gone ≡ append_missing (remove_all there gone) (remove_all ds gone)
 remove_all-append_missing there [] gone = refl
 remove_all-append_missing there (d ∷ ds) gone =
-    remove_all-append_missing (cond (has_value there d) there (there ++ d ∷ [])) ds gone
-    ∙ one_after there gone (remove_all ds gone) d (has_value there d) (has_value gone d) refl refl
+    remove_all-append_missing (cond (array_contains there d) there (there ++ d ∷ [])) ds gone
+    ∙ one_after there gone (remove_all ds gone) d (array_contains there d) (array_contains gone d) refl refl
 
 -- ---- one change more is taken in
 

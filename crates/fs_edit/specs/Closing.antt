@@ -7,7 +7,8 @@ use Rattle.fs_value.specs.Data.{Data}
 use Rattle.fs_value.specs.ValueOrder.{value_cmp}
 use Rattle.fs_value.specs.View.{view}
 use Rattle.fs_value.specs.declared.value.Value.{Value}
-use Rattle.fs_edit.specs.Arrays.{has_value, append_missing, remove_all}
+use Rattle.fs_value.specs.Elements.{array_contains}
+use Rattle.fs_edit.specs.Arrays.{append_missing, remove_all}
 use Rattle.fs_edit.specs.ArrayChanges.{elements_after, after_all}
 use Rattle.fs_edit.specs.declared.array_change.ArrayChange.{ArrayChange}
 
@@ -17,20 +18,20 @@ held_cmp = on view value_cmp
 
 -- the set has exactly these values
 abbrev pub HasExactly : BTreeSet Value → List Data → Type 0
-HasExactly set ds = (v : Value) → contains held_cmp set v ≡ has_value ds (view v)
+HasExactly set ds = (v : Value) → contains held_cmp set v ≡ array_contains ds (view v)
 
 -- the set has exactly those of these values that aren't there
 abbrev pub HasMissing : BTreeSet Value → List Data → List Data → Type 0
-HasMissing set there ds = (v : Value) → contains held_cmp set v ≡ (has_value ds (view v) && not (has_value there (view v)))
+HasMissing set there ds = (v : Value) → contains held_cmp set v ≡ (array_contains ds (view v) && not (array_contains there (view v)))
 
 -- the second set has these values too, and none else
 abbrev pub Gains : BTreeSet Value → BTreeSet Value → List Data → Type 0
-Gains old new ds = (v : Value) → contains held_cmp new v ≡ (contains held_cmp old v || has_value ds (view v))
+Gains old new ds = (v : Value) → contains held_cmp new v ≡ (contains held_cmp old v || array_contains ds (view v))
 
 -- a value that is given is appended, unless it is there
 abbrev pub AppendsOne : Data → BTreeSet Value → List Data → BTreeSet Value → List Data → Type 0
 AppendsOne d set there set' there' =
-    (ds : List Data) → HasMissing set there ds → has_value ds d ≡ true → HasMissing set' there' ds × (there' ≡ append_missing there (d ∷ []))
+    (ds : List Data) → HasMissing set there ds → array_contains ds d ≡ true → HasMissing set' there' ds × (there' ≡ append_missing there (d ∷ []))
 
 -- the values that stand in a stack from the last to the first
 abbrev pub stacked : List Value → List Data

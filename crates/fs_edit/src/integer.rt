@@ -11,6 +11,7 @@ use fs_value::Value;
 
 impl OpenFields {
     /// The integer at a path, or none where there is none or another value. It takes no memory.
+    /// (docs/DECISIONS.md, "A look-up in opened fields finds integers only".)
     pub fn integer_at(&self, path: &FieldPath) -> Option<i64>
         ensures { result ≡ integer_in (get_fields path.now.parts self.now) }
     {

@@ -23,6 +23,7 @@ pub(crate) enum Open {
 ///     a.b is set to 5           {a: {b: 5, c: 2}, d: [3]}         `a` is opened too
 ///     3, 4 appended to d        {a: {b: 5, c: 2}, d: [3, 4]}      `d` is opened, with a change that waits
 ///     closed                    {a: {b: 5, c: 2}, d: [3, 4]}
+/// (docs/DECISIONS.md, "A write's fields are opened for its changes".)
 #[cycle(open)]
 #[derive(Drop)]
 pub struct OpenFields {

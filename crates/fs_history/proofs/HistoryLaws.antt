@@ -1,7 +1,8 @@
 -- The documents of a history at each time.
 use Rattle.std.proofs.Common.{◌≡◌, ℤ, ◌≤ℤ◌, ◌<ℤ◌, true, false, cond, List, [], ◌∷◌, ◌++◌, refl, sym, ap, ◌∙◌, subst, arith}
-use Rattle.std.specs.Prelude.{int_le, int_lt}
+use Rattle.std.specs.Prelude.{int_lt}
 use Rattle.std.proofs.lemmas.Int.{ints}
+use Rattle.fs_time.proofs.Tests.{not_after, after}
 use Rattle.fs_write.specs.After.{after_batch}
 use Rattle.fs_write.specs.Batch.{Docs, AreChanges, IsOutcome}
 use Rattle.fs_write.specs.declared.change.Change.{Change}
@@ -11,12 +12,6 @@ use Rattle.fs_history.specs.History.{at, before, whole, EndsBefore, EndsBy, IsRi
 use Rattle.fs_history.specs.declared.batch.Batch.{Batch}
 
 -- ---- tests of times
-
-pub not_after : (a b : ℤ) → a ≤ℤ b → int_le a b ≡ true
-not_after a b h = grind (arith, ints)
-
-pub after : (a b : ℤ) → b <ℤ a → int_le a b ≡ false
-after a b h = grind (arith, ints)
 
 earlier : (a b : ℤ) → a <ℤ b → int_lt a b ≡ true
 earlier a b h = grind (arith, ints)

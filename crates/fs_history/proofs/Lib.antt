@@ -1,4 +1,6 @@
 pub mod HistoryLaws
+pub mod KeptVersions
+pub mod Names
 pub mod NamesListed
 pub mod Sums
 pub mod VersionLaws

@@ -1,15 +1,13 @@
 -- Documents that stand at their own names, as a list.
 use Rattle.std.proofs.Common.{◌≡◌, ℤ, Bool, true, false, cond, List, [], ◌∷◌, map, Option, Some, None, refl, sym, ap, ◌∙◌, subst}
-use Rattle.std.specs.Prelude.{IsTrue, T, ◌&&◌, int_le}
-use Rattle.std.specs.Ordering.{eq_by_cmp, is_eq, is_lt}
-use Rattle.std.specs.declared.cmp.Ordering.{Ordering}
-use Rattle.std.specs.declared.cmp.Ordering.TheVariants.{Less, Equal, Greater}
-use Rattle.std.specs.Cmp.{Equal-is, first_so, second_so}
-use Rattle.std.proofs.lemmas.Cmp.{tied_itself}
+use Rattle.std.specs.Prelude.{IsTrue, int_le}
+use Rattle.std.specs.Ordering.{eq_by_cmp}
+use Rattle.std.specs.Cmp.{first_so, second_so}
 use Rattle.std.specs.FinMap.{get, get-empty, get-entries, entries, entries_sorted, entries-from_sorted, from_sorted, same_entries_map, values, find, is_sorted}
 use Rattle.std.specs.FinMap.Entries.{below_all}
-use Rattle.fs_path.specs.NameOrder.{name_cmp, name_cmp_total, name_same}
+use Rattle.fs_path.specs.NameOrder.{name_cmp, name_is, name_itself}
 use Rattle.fs_path.specs.declared.name.DocName.{DocName}
+use Rattle.fs_path.proofs.Bools.{to_true}
 use Rattle.fs_value.specs.Named.{by_name}
 use Rattle.fs_value.specs.declared.document.Document.{Document}
 use Rattle.fs_write.specs.After.{after_batch}
@@ -17,19 +15,9 @@ use Rattle.fs_write.specs.Batch.{Docs, docs_of, Bears, AreNamed}
 use Rattle.fs_write.specs.declared.write.Write.{Write}
 use Rattle.fs_history.specs.History.{at}
 use Rattle.fs_history.specs.declared.batch.Batch.{Batch}
+use Rattle.fs_history.proofs.Names.{none_below}
 
 -- ---- entries in order
-
-below_less : (r : Ordering) (rest : Bool) → IsTrue (is_lt r && rest) → (is_eq r ≡ false) × IsTrue rest
-below_less Less rest h = (refl, h)
-below_less Equal rest h = absurd (cc)
-below_less Greater rest h = absurd (cc)
-
-found_none : (q : DocName) (es : List (DocName × Document)) → IsTrue (below_all name_cmp q es) → find name_cmp q es ≡ None
-found_none q [] below = refl
-found_none q (e ∷ es) below =
-    let both = below_less (name_cmp q e.0) (below_all name_cmp q es) below in
-    ap (λ b. cond b (Some e.1) (find name_cmp q es)) both.0 ∙ found_none q es both.1
 
 abbrev FindsNamed : List (DocName × Document) → Type 0
 FindsNamed es = (q : DocName) → Bears (find name_cmp q es) q
@@ -37,14 +25,13 @@ FindsNamed es = (q : DocName) → Bears (find name_cmp q es) q
 rest_named : (e : DocName × Document) (es : List (DocName × Document)) (q : DocName) (b : Bool) → eq_by_cmp name_cmp q e.0 ≡ b → IsTrue (below_all name_cmp e.0 es)
     → Bears (cond b (Some e.1) (find name_cmp q es)) q → Bears (find name_cmp q es) q
 rest_named e es q true ties below named =
-    let none : find name_cmp q es ≡ None = ap (λ n. find name_cmp n es) (name_same q e.0 ((Equal-is _).0 ties)) ∙ found_none e.0 es below in
+    let none : find name_cmp q es ≡ None = ap (λ n. find name_cmp n es) (name_is q e.0 ties) ∙ none_below e.0 es below in
     subst (λ o. Bears o q) (sym none) tt
 rest_named e es q false ties below named = named
 
 first_named : (e : DocName × Document) (es : List (DocName × Document)) → FindsNamed (e ∷ es) → e.1.name ≡ e.0
 first_named e es named =
-    let itself : eq_by_cmp name_cmp e.0 e.0 ≡ true = (Equal-is _).1 (tied_itself name_cmp_total e.0) in
-    subst (λ b. Bears (cond b (Some e.1) (find name_cmp e.0 es)) e.0) itself (named e.0)
+    subst (λ b. Bears (cond b (Some e.1) (find name_cmp e.0 es)) e.0) (name_itself e.0) (named e.0)
 
 -- the documents of entries, each at its own name again
 by_own_names : (es : List (DocName × Document)) → IsTrue (is_sorted name_cmp es) → FindsNamed es → by_name (map (λ e. e.1) es) ≡ es
@@ -55,19 +42,15 @@ by_own_names (e ∷ es) rise named =
     let first = first_named e es named in
     λ i. (first i, e.1) ∷ more i
 
-from_T : (b : Bool) → T b → IsTrue b
-from_T true h = refl
-from_T false h = absurd h
-
 -- ---- the documents of a moment
 
 module _ (docs : Docs) (named : AreNamed docs) where
   listed_entries : by_name (values docs) ≡ entries docs
-  listed_entries = by_own_names (entries docs) (from_T _ (entries_sorted docs)) (λ q. subst (λ o. Bears o q) (get-entries docs q) (named q))
+  listed_entries = by_own_names (entries docs) (to_true _ (entries_sorted docs)) (λ q. subst (λ o. Bears o q) (get-entries docs q) (named q))
 
   listed : IsTrue (is_sorted name_cmp (by_name (values docs))) × (docs_of (values docs) ≡ docs)
   listed = (
-    subst (λ es. IsTrue (is_sorted name_cmp es)) (sym listed_entries) (from_T _ (entries_sorted docs)),
+    subst (λ es. IsTrue (is_sorted name_cmp es)) (sym listed_entries) (to_true _ (entries_sorted docs)),
     ap (from_sorted {R = name_cmp}) listed_entries ∙ same_entries_map _ docs (entries-from_sorted name_cmp (entries docs) (entries_sorted docs)),
   )
 

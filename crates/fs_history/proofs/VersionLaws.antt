@@ -12,7 +12,7 @@ use Rattle.fs_write.specs.declared.write.Write.{Write}
 use Rattle.fs_history.specs.History.{at, whole, IsRising}
 use Rattle.fs_history.specs.Versions.{with_change, versions, newest, shown, kept, chain}
 use Rattle.fs_history.specs.declared.batch.Batch.{Batch}
-use Rattle.fs_history.specs.KeptLaws.{shown_kept, newest_kept}
+use Rattle.fs_history.proofs.KeptVersions.{shown_kept, newest_kept}
 use Rattle.fs_history.proofs.HistoryLaws.{ends_by, at_whole}
 
 -- ---- what the versions show

@@ -2,7 +2,6 @@ pub mod Bytes
 pub mod History
 pub mod Journal
 pub mod Kept
-pub mod KeptLaws
 pub mod Laws
 pub mod Serial
 pub mod Touches

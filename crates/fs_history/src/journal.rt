@@ -10,6 +10,7 @@ use std::marker::Model;
 ///
 ///     after pushes at 5, 7 and 9     the batches 0, 1 and 2 are those of 5, 7 and 9
 ///                                    the history is 9, 7, 5
+/// (docs/DECISIONS.md, "A history has its newest batch in front".)
 #[derive(Drop)]
 pub struct Journal {
     // by rising time

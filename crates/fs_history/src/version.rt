@@ -5,6 +5,7 @@ use fs_write::copy_document;
 use std::alloc::{AllocError, Global};
 
 /// What a batch left of a document that it changed: the document, or none where it was deleted.
+/// (docs/DECISIONS.md, "A version holds its whole document".)
 #[derive(Drop, Debug)]
 pub struct Version {
     /// The time of the batch.

@@ -1,6 +1,6 @@
 -- What `parse` gives for an optional `-` and digits.
-use Rattle.std.proofs.Common.{◌≡◌, ℕ, zero, suc, ◌<◌, ◌≤◌, ◌^◌, ℤ, pos, neg_ℤ, List, drop, length, leb-true, Bool, true, false, get_or, ◌&&◌, Result, Ok, Err, refl, arith}
-use Rattle.std.proofs.lemmas.Bool.{eqb-true}
+use Rattle.std.proofs.Common.{◌≡◌, ℕ, zero, suc, ◌<◌, ◌≤◌, ◌^◌, ℤ, pos, neg_ℤ, List, drop, length, leb-true, Bool, true, false, get_or, Result, Ok, Err, refl, arith}
+use Rattle.std.proofs.lemmas.Bool.{and_parts, eqb-true}
 use Rattle.std.proofs.lemmas.Bool.Decides.{nat_tests}
 use Rattle.std.proofs.lemmas.Str.Parse.{IsNumeralModel, numerals_by_value, tells_all_ascii_digits, parse_signed_minus, parse_signed_digits}
 use Rattle.std.specs.Int.{w64}
@@ -35,12 +35,8 @@ by_sign false text r minus h digits some =
     let one : 0 < length text = rw minus at some in
     rw minus (fits_above r _ _ (parse_signed_digits own w64 text r h all) one)
 
-both : (a b : Bool) → a && b ≡ true → (a ≡ true) × (b ≡ true)
-both true b h = (refl, h)
-both false b h = absurd (cc)
-
 pub parsed : {E : Type 0} (text : List ℕ) (r : Result ℤ E) → ParsesSigned w64 10 text r → is_numeral text ≡ true → result_ok r ≡ integer_in_text text
 parsed text r h is =
-    let least = both _ _ is in
-    let most = both _ _ least.1 in
+    let least = and_parts _ _ is in
+    let most = and_parts _ _ least.1 in
     rw is (by_sign _ text r refl h most.1 (leb-true _ _ least.0))

@@ -1,4 +1,11 @@
 pub mod Base64Forms
+pub mod Choices
+pub mod Depths
+pub mod FieldPaths
 pub mod Integers
+pub mod Named
+pub mod Readings
 pub mod Spellings
+pub mod Walks
+pub mod Writings
 pub mod Written

@@ -1,6 +1,7 @@
 -- A key without a `_` is no name's second spelling.
 use Rattle.std.proofs.Common.{◌≡◌, ◌||◌, ◌&&◌, ℕ, List, [], ◌∷◌, Bool, true, false, cond, refl, sym, ◌∙◌, ap, true≢false}
 use Rattle.std.specs.Prelude.{◌==◌, not, is_some}
+use Rattle.std.proofs.lemmas.Bool.{or_parts}
 use Rattle.std.specs.Char.{is_ascii_uppercase, to_ascii_lowercase}
 use Rattle.std.specs.List.{list_any}
 use Rattle.std.specs.Str.{bytes_eq}
@@ -13,10 +14,6 @@ use Rattle.fs_json.specs.Members.{given_at, is_second}
 abbrev pub has_low_line : List ℕ → Bool
 has_low_line = list_any (λ c. c == 95)
 
-neither : (a b : Bool) → (a || b) ≡ false → (a ≡ false) × (b ≡ false)
-neither true b h = absurd (true≢false h)
-neither false b h = (refl, h)
-
 -- of a name whose second spelling has no `_`, that is the name
 plain : (name : List ℕ) → has_low_line (snake_of name) ≡ false → snake_of name ≡ name
 plain [] h = refl
@@ -25,7 +22,7 @@ plain (c ∷ cs) h =
     → cond upper (95 ∷ to_ascii_lowercase c ∷ snake_of cs) (c ∷ snake_of cs) ≡ c ∷ cs in
     let cases : (upper : Bool) → P upper = λ upper. elim upper as P [
       | true ↦ λ lower. absurd (true≢false lower)
-      | false ↦ λ lower. ap (λ rest. c ∷ rest) (plain cs (neither (c == 95) _ lower).1)
+      | false ↦ λ lower. ap (λ rest. c ∷ rest) (plain cs (or_parts (c == 95) _ lower).1)
     ] in cases (is_ascii_uppercase c) h
 
 -- no name has it as its second spelling

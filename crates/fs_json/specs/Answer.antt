@@ -15,6 +15,10 @@ abbrev pub ◌>>=◌ : {A B : Type 0} → Result A Bad → (A → Result B Bad) 
 (Ok x) >>= f = f x
 (Err bad) >>= f = Err bad
 
+-- what is made of what was read
+abbrev pub made : {A B : Type 0} → (A → B) → Result A Bad → Result B Bad
+made make read = read >>= λ x. Ok (make x)
+
 -- The answer, seen by view, is this reading. Want of memory may always come in its place.
 abbrev pub Gives : {X Y : Type 0} → (X → Y) → Result X Bad → Result Y Bad → Type 0
 Gives view (Ok x) reading = reading ≡ Ok (view x)

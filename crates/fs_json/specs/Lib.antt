@@ -5,8 +5,4 @@ pub mod Integer
 pub mod Base64
 pub mod Paths
 pub mod Time
-pub mod FieldPathLaws
 pub mod Walk
-pub mod WalkLaws
-pub mod WrittenLaws
-pub mod DepthLaws

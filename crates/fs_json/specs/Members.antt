@@ -46,6 +46,14 @@ member_at name d place = option_map_or (λ ms. member_in name ms place) (as_obje
 abbrev pub required_at : List ℕ → Data → List ℕ → Result Data Bad
 required_at name d place = member_at name d place >>= or_fault G (member_place place name)
 
+-- the member of this name as it is read at its own place, or this where it is absent
+abbrev pub member_or : {A : Type 0} → A → (Data → List ℕ → Result A Bad) → List ℕ → Data → List ℕ → Result A Bad
+member_or absent read name d place = member_at name d place >>= λ found. option_map_or (λ x. read x (member_place place name)) found (Ok absent)
+
+-- and one that has to be there
+abbrev pub required_as : {A : Type 0} → (Data → List ℕ → Result A Bad) → List ℕ → Data → List ℕ → Result A Bad
+required_as read name d place = required_at name d place >>= λ x. read x (member_place place name)
+
 -- ---- members that aren't built
 
 -- none of these is there; the first that is, is told
@@ -108,3 +116,15 @@ at_most_one_at names d place = or_fault G place (option_and_then (λ ms. none_or
 -- just one of these members is there
 abbrev pub one_of_at : List (List ℕ) → Data → List ℕ → Result (List ℕ × Data) Bad
 one_of_at names d place = at_most_one_at names d place >>= or_fault G place
+
+-- of the readings of members of which one may be there: that one, or this where there is none
+abbrev pub the_one : {A : Type 0} → List ℕ → Result A Bad → List (Result A Bad) → Result A Bad
+the_one place absent [] = absent
+the_one place absent (reading ∷ []) = reading
+the_one place absent (first ∷ second ∷ rest) = Err (At G place)
+
+-- ---- writing
+
+-- an object of one member
+abbrev pub with_one : List ℕ → Data → Data
+with_one name content = object (member name content no_members)

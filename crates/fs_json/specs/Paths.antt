@@ -1,8 +1,8 @@
 -- Names of documents and field paths in JSON: strings, each read by its grammar.
-use Rattle.std.specs.Prelude.{ℕ, List, [], ◌∷◌, length, Option, Some, None, Result, Ok, Err, alloc_error}
+use Rattle.std.specs.Prelude.{◌≡◌, ℕ, List, [], ◌∷◌, length, Option, Some, None, Result, Ok, Err, alloc_error}
 use Rattle.std.proofs.Math.Nat.{zero-lt-suc}
 use Rattle.fs_path.specs.Document.{document_of, reference_of}
-use Rattle.fs_path.specs.Field.{field_of}
+use Rattle.fs_path.specs.Field.{field_of, field_text}
 use Rattle.fs_path.specs.Refusal.{rule_of}
 use Rattle.fs_path.specs.declared.error.PathError.{PathError}
 use Rattle.fs_path.specs.declared.error.PathError.TheVariants.{BadQuote}
@@ -11,7 +11,7 @@ use Rattle.fs_path.specs.declared.name.DocName.{DocName}
 use Rattle.fs_path.specs.declared.name.Root.{Root}
 use Rattle.fs_path.specs.declared.place.Rule.{Rule}
 use Rattle.fs_path.specs.declared.place.Rule.TheVariants.{G}
-use Rattle.serde_json.specs.Data.{Data}
+use Rattle.serde_json.specs.Data.{Data, string}
 use Rattle.serde_json.specs.Find.{as_str}
 use Rattle.fs_json.specs.Answer.{or_fault, ◌>>=◌}
 use Rattle.fs_json.specs.declared.bad.Bad.{Bad}
@@ -51,3 +51,11 @@ field_path_of text = named (field_of text)
 -- a field path
 abbrev pub field_path_at : Data → List ℕ → Result FieldPath Bad
 field_path_at d place = or_fault G place (as_str d) >>= λ text. path_at place (field_path_of text)
+
+-- a field path as it is written
+abbrev pub path_json : FieldPath → Data
+path_json p = string (field_text p.parts)
+
+-- the text of a field path is read back
+abbrev pub IsPathHeld : FieldPath → Type 0
+IsPathHeld p = field_of (field_text p.parts) ≡ Ok p.parts

@@ -17,11 +17,11 @@ pub enum Bad {
 
 impl Bad {
     /// The refusal that tells that this rule is broken where the way leads to. Only here a place is made of a way.
-    pub fn at(alloc: Global, rule: Rule, place: &Way<'_>) -> Bad
-        ensures { IsBadAt rule (place_of place.now) result }
+    pub fn at(alloc: Global, rule: Rule, way: &Way<'_>) -> Bad
+        ensures { IsBadAt rule (place_of way.now) result }
     {
-        match place.place(alloc) {
-            Ok(place) => Bad::At(rule, place),
+        match way.place(alloc) {
+            Ok(way) => Bad::At(rule, way),
             Err(e) => Bad::Memory(e),
         }
     }

@@ -4,7 +4,7 @@ ghost use Rattle.base64.specs.Engines.{standard, standard_no_pad, url_safe, url_
 ghost use Rattle.base64.specs.GeneralPurpose.{decoded_of, IsBytes};
 ghost use Rattle.fs_path.specs.declared.place.Rule.TheVariants.{G};
 ghost use Rattle.fs_path.specs.Way.{place_of};
-ghost use Rattle.serde_json.specs.View.{view};
+ghost use Rattle.serde_json.specs.View.{view as json};
 ghost use Rattle.fs_json.specs.Answer.{Gives, or_fault};
 ghost use Rattle.fs_json.specs.Base64.{bytes_of, decoded, IsBase64};
 
@@ -18,15 +18,16 @@ use serde_json::Value;
 use std::alloc::{AllocError, Global};
 
 /// Bytes: a string of base64 in the standard or the URL alphabet, with all of its padding or none.
-pub fn bytes(alloc: Global, v: &Value, place: &Way<'_>) -> Result<Bytes, Bad>
-    ensures { Gives (λ b. b) result (or_fault G (place_of place.now) (bytes_of (view v.now))) }
+/// (docs/DECISIONS.md, "Partial padding of base64 is refused".)
+pub fn read_bytes(alloc: Global, v: &Value, way: &Way<'_>) -> Result<Bytes, Bad>
+    ensures { Gives (λ b. b) result (or_fault G (place_of way.now) (bytes_of (json v.now))) }
 {
     if let Some(text) = v.as_str()
         && let Some(bytes) = decoded(alloc, text.as_bytes())?
     {
         return Ok(bytes);
     }
-    Err(Bad::at(alloc, Rule::G, place))
+    Err(Bad::at(alloc, Rule::G, way))
 }
 
 /// Shows that just the texts of the four forms of base64 are read, and each as the bytes that it is of.

@@ -3,6 +3,7 @@
 
 mod bad;
 mod binary;
+mod lists;
 mod members;
 mod names;
 mod paths;
@@ -11,9 +12,12 @@ mod times;
 mod write;
 
 pub use bad::Bad;
-pub use binary::{base64_forms, bytes};
+pub use binary::{base64_forms, read_bytes};
+pub use lists::{ReadsItem, read_each};
 pub use members::{at_most_one_of, member, one_of, only, only_of_two, refuse_unbuilt, required};
-pub use paths::{document_name, field_path, reference, unless_refused};
-pub use scalars::{integer, list, small, text, truth};
-pub use times::{time, write_time};
-pub use write::{write_bytes, write_integer, write_small, write_text};
+pub use paths::{
+    read_document_name, read_field_path, read_reference, unless_refused, write_field_path,
+};
+pub use scalars::{read_integer, read_json_list, read_small, read_text, read_truth};
+pub use times::{read_optional_time, read_required_time, read_time, write_time};
+pub use write::{with_one, write_bytes, write_integer, write_small, write_text};

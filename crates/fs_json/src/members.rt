@@ -5,7 +5,7 @@ ghost use Rattle.std.specs.List.{list_any};
 ghost use Rattle.fs_path.specs.Way.{place_of};
 ghost use Rattle.fs_json.specs.Names.{snake_of, spells};
 ghost use Rattle.serde_json.specs.Data.{Data, Members};
-ghost use Rattle.serde_json.specs.View.{view, members_view};
+ghost use Rattle.serde_json.specs.View.{view as json, members_view};
 ghost use Rattle.serde_json.specs.Find.{get_member};
 ghost use Rattle.fs_json.specs.Answer.{Gives};
 ghost use Rattle.fs_json.specs.Members.{at_most_one_at, chosen, first_twice, first_unknown, given_at, is_given, is_second, member_at, first_spelled, none_or_one, one_of_at, only_at, required_at, unbuilt_at};
@@ -22,14 +22,15 @@ use std::alloc::Global;
 ///
 /// At the way `x` the member `aB` of `{"aB":2}` and of `{"a_b":2}` is 2, of `{"aB":null,"a_b":2}` too, and that of
 /// `{"aB":null}` and of `{"ab":2}` is none. `{"a_b":1,"aB":2}` is refused at `x.a_b`.
+/// (docs/DECISIONS.md, "A null member counts as absent".)
 pub fn member<'a>(
     alloc: Global,
     v: &'a Value,
     name: &str,
-    place: &Way<'_>,
+    way: &Way<'_>,
 ) -> Result<Option<&'a Value>, Bad>
-    ensures { Gives (λ found. option_map (λ x. view x.now) found) result
-        (member_at name.now (view v.now) (place_of place.now)) }
+    ensures { Gives (λ found. option_map (λ x. json x.now) found) result
+        (member_at name.now (json v.now) (place_of way.now)) }
 {
     let Value::Object(members) = v else {
         return Ok(None);
@@ -39,7 +40,7 @@ pub fn member<'a>(
         return Ok(first);
     }
     match (first, given_in_snake_case(members, name)) {
-        (Some(_), Some((key, _))) => Err(Bad::at(alloc, Rule::G, &place.member(key))),
+        (Some(_), Some((key, _))) => Err(Bad::at(alloc, Rule::G, &way.member(key))),
         (Some(found), None) => Ok(Some(found)),
         (None, Some((_, found))) => Ok(Some(found)),
         (None, None) => Ok(None),
@@ -51,14 +52,14 @@ pub fn required<'a>(
     alloc: Global,
     v: &'a Value,
     name: &str,
-    place: &Way<'_>,
+    way: &Way<'_>,
 ) -> Result<&'a Value, Bad>
-    ensures { Gives (λ found. view found.now) result
-        (required_at name.now (view v.now) (place_of place.now)) }
+    ensures { Gives (λ found. json found.now) result
+        (required_at name.now (json v.now) (place_of way.now)) }
 {
-    match member(alloc, v, name, place)? {
+    match member(alloc, v, name, way)? {
         Some(found) => Ok(found),
-        None => Err(Bad::at(alloc, Rule::G, &place.member(name))),
+        None => Err(Bad::at(alloc, Rule::G, &way.member(name))),
     }
 }
 
@@ -68,14 +69,14 @@ pub fn one_of<'a, 'n>(
     alloc: Global,
     v: &'a Value,
     names: &[&'n str],
-    place: &Way<'_>,
+    way: &Way<'_>,
 ) -> Result<(&'n str, &'a Value), Bad>
-    ensures { Gives {Y = List ℕ × Data} (λ one. (one.0.now, view one.1.now)) result
-        (one_of_at (map (λ n. n.now) names.now) (view v.now) (place_of place.now)) }
+    ensures { Gives {Y = List ℕ × Data} (λ one. (one.0.now, json one.1.now)) result
+        (one_of_at (map (λ n. n.now) names.now) (json v.now) (place_of way.now)) }
 {
-    match at_most_one_of(alloc, v, names, place)? {
+    match at_most_one_of(alloc, v, names, way)? {
         Some(one) => Ok(one),
-        None => Err(Bad::at(alloc, Rule::G, place)),
+        None => Err(Bad::at(alloc, Rule::G, way)),
     }
 }
 
@@ -85,18 +86,18 @@ pub fn at_most_one_of<'a, 'n>(
     alloc: Global,
     v: &'a Value,
     names: &[&'n str],
-    place: &Way<'_>,
+    way: &Way<'_>,
 ) -> Result<Option<(&'n str, &'a Value)>, Bad>
     ensures { Gives {Y = Option (List ℕ × Data)}
-        (λ found. option_map (λ one. (one.0.now, view one.1.now)) found) result
-        (at_most_one_at (map (λ n. n.now) names.now) (view v.now) (place_of place.now)) }
+        (λ found. option_map (λ one. (one.0.now, json one.1.now)) found) result
+        (at_most_one_at (map (λ n. n.now) names.now) (json v.now) (place_of way.now)) }
 {
     if let Value::Object(members) = v
         && let Some(found) = chosen(members, names)
     {
         return Ok(found);
     }
-    Err(Bad::at(alloc, Rule::G, place))
+    Err(Bad::at(alloc, Rule::G, way))
 }
 
 /// Refuses a value that isn't an object, a member of none of these names, and a member that is given in both spellings,
@@ -104,10 +105,11 @@ pub fn at_most_one_of<'a, 'n>(
 ///
 /// With the one name `aB` at the way `x`, `{"a_b":null}` passes, `{"a_b":1,"aB":2}` is refused at `x.a_b`, and
 /// `{"a_b":1,"aB":2,"c":null}` at `x.c`.
-pub fn only(alloc: Global, v: &Value, names: &[&str], place: &Way<'_>) -> Result<(), Bad>
-    ensures { Gives (λ u. u) result (only_at (map (λ n. n.now) names.now) (view v.now) (place_of place.now)) }
+/// (docs/DECISIONS.md, "An unknown member, then a member in two spellings, is refused first".)
+pub fn only(alloc: Global, v: &Value, names: &[&str], way: &Way<'_>) -> Result<(), Bad>
+    ensures { Gives (λ u. u) result (only_at (map (λ n. n.now) names.now) (json v.now) (place_of way.now)) }
 {
-    only_of_two(alloc, v, names, &[], place)
+    only_of_two(alloc, v, names, &[], way)
 }
 
 /// The same where the names stand in two lists.
@@ -116,36 +118,36 @@ pub fn only_of_two(
     v: &Value,
     these: &[&str],
     those: &[&str],
-    place: &Way<'_>,
+    way: &Way<'_>,
 ) -> Result<(), Bad>
     ensures { Gives (λ u. u) result (only_at (map (λ n. n.now) these.now ++ map (λ n. n.now) those.now)
-        (view v.now) (place_of place.now)) }
+        (json v.now) (place_of way.now)) }
 {
     let Value::Object(members) = v else {
-        return Err(Bad::at(alloc, Rule::G, place));
+        return Err(Bad::at(alloc, Rule::G, way));
     };
     match first_unknown(members, these, those).or(first_twice(members, these, those)) {
-        Some(key) => Err(Bad::at(alloc, Rule::G, &place.member(key))),
+        Some(key) => Err(Bad::at(alloc, Rule::G, &way.member(key))),
         None => Ok(()),
     }
 }
 
 /// Refuses the first of these members that is there, whatever its value: each is one of Firestore's that isn't built.
-pub fn refuse_unbuilt(alloc: Global, v: &Value, names: &[&str], place: &Way<'_>) -> Result<(), Bad>
-    ensures { Gives (λ u. u) result (unbuilt_at (map (λ n. n.now) names.now) (view v.now) (place_of place.now)) }
+pub fn refuse_unbuilt(alloc: Global, v: &Value, names: &[&str], way: &Way<'_>) -> Result<(), Bad>
+    ensures { Gives (λ u. u) result (unbuilt_at (map (λ n. n.now) names.now) (json v.now) (place_of way.now)) }
 {
     match names {
         [] => Ok(()),
-        [name, rest @ ..] => match member(alloc, v, name, place)? {
+        [name, rest @ ..] => match member(alloc, v, name, way)? {
             Some(_) => Err(Bad::Method(Text::from_str(alloc, name)?)),
-            None => refuse_unbuilt(alloc, v, rest, place),
+            None => refuse_unbuilt(alloc, v, rest, way),
         },
     }
 }
 
 /// Whether a member counts as there.
 fn is_given(key: &str, v: &Value) -> bool
-    ensures { result ≡ is_given key.now (view v.now) }
+    ensures { result ≡ is_given key.now (json v.now) }
 {
     match v {
         Value::Null => spells("nullValue", key),
@@ -155,7 +157,7 @@ fn is_given(key: &str, v: &Value) -> bool
 
 /// The member under this very key, if it counts as there.
 fn given_at<'a>(members: &'a Map<String, Value>, key: &str) -> Option<&'a Value>
-    ensures { option_map (λ x. view x.now) result
+    ensures { option_map (λ x. json x.now) result
         ≡ given_at key.now (members_view members.now.entries) }
 {
     match found_at(members, key) {
@@ -165,7 +167,7 @@ fn given_at<'a>(members: &'a Map<String, Value>, key: &str) -> Option<&'a Value>
 }
 
 fn found_at<'a>(members: &'a Map<String, Value>, key: &str) -> Option<&'a Value>
-    ensures { option_map (λ x. view x.now) result
+    ensures { option_map (λ x. json x.now) result
         ≡ get_member key.now (members_view members.now.entries) }
 {
     members.get(key)
@@ -176,7 +178,7 @@ fn given_in_snake_case<'a>(
     members: &'a Map<String, Value>,
     name: &str,
 ) -> Option<(&'a str, &'a Value)>
-    ensures value { option_map (λ x. view x.1.now) result
+    ensures value { option_map (λ x. json x.1.now) result
         ≡ given_at (snake_of name.now) (members_view members.now.entries) }
     ensures key { IfSome result (λ x. x.0.now ≡ snake_of name.now) }
 {
@@ -194,7 +196,7 @@ fn found_in_snake_case<'a>(
     members: &'a Map<String, Value>,
     name: &str,
 ) -> Option<(&'a str, &'a Value)>
-    ensures value { option_map (λ x. view x.1.now) result
+    ensures value { option_map (λ x. json x.1.now) result
         ≡ get_member (snake_of name.now) (members_view members.now.entries) }
     ensures key { IfSome result (λ x. x.0.now ≡ snake_of name.now) }
 {
@@ -288,7 +290,7 @@ fn chosen<'a, 'n>(
     names: &[&'n str],
 ) -> Option<Option<(&'n str, &'a Value)>>
     ensures { option_map {U = Option (List ℕ × Data)}
-        (λ found. option_map (λ one. (one.0.now, view one.1.now)) found) result
+        (λ found. option_map (λ one. (one.0.now, json one.1.now)) found) result
         ≡ none_or_one (chosen (map (λ n. n.now) names.now) (members_view members.now.entries)) }
 {
     let mut found = None;
@@ -306,7 +308,7 @@ fn chosen<'a, 'n>(
 /// The name that the key spells, if the member counts as there.
 fn chosen_by<'n>(names: &[&'n str], key: &str, v: &Value) -> Option<&'n str>
     ensures { option_map (λ name. name.now) result
-        ≡ (if is_given key.now (view v.now) then first_spelled (map (λ n. n.now) names.now) key.now else None) }
+        ≡ (if is_given key.now (json v.now) then first_spelled (map (λ n. n.now) names.now) key.now else None) }
 {
     if is_given(key, v) {
         first_spelled(names, key)

@@ -30,6 +30,7 @@ fn begins_alike(name: &[u8], key: &[u8]) -> bool
 }
 
 /// Whether the key is the snake_case spelling of the name.
+/// (docs/DECISIONS.md, "A key without a `_` is never looked at as a second spelling".)
 pub(crate) fn is_snake(name: &[u8], key: &[u8]) -> bool
     ensures { result ≡ bytes_eq (snake_of name.now) key.now }
 {

@@ -3,7 +3,7 @@ ghost use Rattle.std.specs.Prelude.{◌≡◌};
 ghost use Rattle.fs_path.specs.declared.place.Rule.TheVariants.{G};
 ghost use Rattle.fs_path.specs.Way.{place_of};
 ghost use Rattle.serde_json.specs.Find.{as_array, as_bool, as_str};
-ghost use Rattle.serde_json.specs.View.{items_view, view};
+ghost use Rattle.serde_json.specs.View.{items_view, view as json};
 ghost use Rattle.fs_json.specs.Answer.{Gives, or_fault};
 ghost use Rattle.std.specs.Str.{all_ascii_digits};
 ghost use Rattle.fs_json.specs.Integer.{integer_in_text, integer_of, is_numeral, small_of};
@@ -14,58 +14,59 @@ use serde_json::Value;
 use std::alloc::Global;
 
 /// A string.
-pub fn text(alloc: Global, v: &Value, place: &Way<'_>) -> Result<Text, Bad>
-    ensures { Gives (λ t. t) result (or_fault G (place_of place.now) (as_str (view v.now))) }
+pub fn read_text(alloc: Global, v: &Value, way: &Way<'_>) -> Result<Text, Bad>
+    ensures { Gives (λ t. t) result (or_fault G (place_of way.now) (as_str (json v.now))) }
 {
     match v.as_str() {
         Some(text) => Ok(Text::from_str(alloc, text)?),
-        None => Err(Bad::at(alloc, Rule::G, place)),
+        None => Err(Bad::at(alloc, Rule::G, way)),
     }
 }
 
 /// A truth value.
-pub fn truth(alloc: Global, v: &Value, place: &Way<'_>) -> Result<bool, Bad>
-    ensures { Gives (λ b. b) result (or_fault G (place_of place.now) (as_bool (view v.now))) }
+pub fn read_truth(alloc: Global, v: &Value, way: &Way<'_>) -> Result<bool, Bad>
+    ensures { Gives (λ b. b) result (or_fault G (place_of way.now) (as_bool (json v.now))) }
 {
     match v.as_bool() {
         Some(b) => Ok(b),
-        None => Err(Bad::at(alloc, Rule::G, place)),
+        None => Err(Bad::at(alloc, Rule::G, way)),
     }
 }
 
 /// A list.
-pub fn list<'a>(alloc: Global, v: &'a Value, place: &Way<'_>) -> Result<&'a Vec<Value>, Bad>
+pub fn read_json_list<'a>(alloc: Global, v: &'a Value, way: &Way<'_>) -> Result<&'a Vec<Value>, Bad>
     ensures { Gives (λ l. items_view l.now.items) result
-        (or_fault G (place_of place.now) (as_array (view v.now))) }
+        (or_fault G (place_of way.now) (as_array (json v.now))) }
 {
     match v.as_array() {
         Some(items) => Ok(items),
-        None => Err(Bad::at(alloc, Rule::G, place)),
+        None => Err(Bad::at(alloc, Rule::G, way)),
     }
 }
 
 /// A 64-bit integer: a string of an optional `-` and 1 to 19 digits, or a JSON number.
-pub fn integer(alloc: Global, v: &Value, place: &Way<'_>) -> Result<i64, Bad>
-    ensures { Gives (λ n. n) result (or_fault G (place_of place.now) (integer_of (view v.now))) }
+/// (docs/DECISIONS.md, "`-0` as a JSON number is a float and so no integer".)
+pub fn read_integer(alloc: Global, v: &Value, way: &Way<'_>) -> Result<i64, Bad>
+    ensures { Gives (λ n. n) result (or_fault G (place_of way.now) (integer_of (json v.now))) }
 {
     match integer_in(v) {
         Some(n) => Ok(n),
-        None => Err(Bad::at(alloc, Rule::G, place)),
+        None => Err(Bad::at(alloc, Rule::G, way)),
     }
 }
 
 /// A 32-bit integer, which is read as a 64-bit one is.
-pub fn small(alloc: Global, v: &Value, place: &Way<'_>) -> Result<i32, Bad>
-    ensures { Gives (λ n. n) result (or_fault G (place_of place.now) (small_of (view v.now))) }
+pub fn read_small(alloc: Global, v: &Value, way: &Way<'_>) -> Result<i32, Bad>
+    ensures { Gives (λ n. n) result (or_fault G (place_of way.now) (small_of (json v.now))) }
 {
     match integer_in(v).and_then(|n| i32::try_from(n).ok()) {
         Some(n) => Ok(n),
-        None => Err(Bad::at(alloc, Rule::G, place)),
+        None => Err(Bad::at(alloc, Rule::G, way)),
     }
 }
 
 fn integer_in(v: &Value) -> Option<i64>
-    ensures { result ≡ integer_of (view v.now) }
+    ensures { result ≡ integer_of (json v.now) }
 {
     match v {
         Value::Number(n) => n.as_i64(),

@@ -2,9 +2,10 @@
 use crate::made::{Make, demo, json};
 use crate::table::holds;
 use fs_json::{
-    Bad, at_most_one_of, base64_forms, bytes, document_name, field_path, integer, list, member,
-    one_of, only, reference, refuse_unbuilt, required, small, text, time, truth, write_bytes,
-    write_integer, write_text, write_time,
+    Bad, at_most_one_of, base64_forms, member, one_of, only, read_bytes, read_document_name,
+    read_field_path, read_integer, read_json_list, read_reference, read_small, read_text,
+    read_time, read_truth, refuse_unbuilt, required, write_bytes, write_integer, write_text,
+    write_time,
 };
 use fs_path::{Bytes, DocName, FieldPath, Text, Way, print_document, print_field};
 use fs_time::Micros;
@@ -25,15 +26,15 @@ pub(crate) fn read(rt: &impl Abort, alloc: Global, text: &str) -> Result<String,
 
 fn scalar(alloc: Global, reader: &str, v: &Value, here: &Way<'_>) -> Result<String, Bad> {
     match reader {
-        "integer" => shown(alloc, integer(alloc, v, here)),
-        "small" => shown(alloc, small(alloc, v, here)),
-        "truth" => shown(alloc, truth(alloc, v, here)),
-        "time" => time_shown(alloc, time(alloc, v, here)),
-        "list" => list_shown(alloc, list(alloc, v, here)),
-        "text" => text_shown(text(alloc, v, here)),
-        "bytes" => bytes_shown(alloc, bytes(alloc, v, here)),
-        "field_path" => path_shown(alloc, field_path(alloc, v, here)),
-        "reference" => name_shown(alloc, reference(alloc, v, here)),
+        "integer" => shown(alloc, read_integer(alloc, v, here)),
+        "small" => shown(alloc, read_small(alloc, v, here)),
+        "truth" => shown(alloc, read_truth(alloc, v, here)),
+        "time" => time_shown(alloc, read_time(alloc, v, here)),
+        "list" => list_shown(alloc, read_json_list(alloc, v, here)),
+        "text" => text_shown(read_text(alloc, v, here)),
+        "bytes" => bytes_shown(alloc, read_bytes(alloc, v, here)),
+        "field_path" => path_shown(alloc, read_field_path(alloc, v, here)),
+        "reference" => name_shown(alloc, read_reference(alloc, v, here)),
         _ => members(alloc, reader, v, here),
     }
 }
@@ -72,7 +73,7 @@ fn name_shown(alloc: Global, read: Result<DocName, Bad>) -> Result<String, Bad> 
 
 fn name(rt: &impl Abort, alloc: Global, v: &Value) -> Result<DocName, Bad> {
     let root = demo(rt, alloc);
-    document_name(alloc, &root, v, &Way::method("x"))
+    read_document_name(alloc, &root, v, &Way::method("x"))
 }
 
 fn word(alloc: Global, word: &str) -> Result<String, Bad> {

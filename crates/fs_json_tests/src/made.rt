@@ -6,7 +6,7 @@ use crate::rpc::messages::{error, message_again, missing, refused};
 use crate::rpc::requests::{request_again, request_on};
 use crate::valjson::{array_len, document_again, value_again};
 use crate::writejson::tests::{draft_told, list_again, mask_again, result_written, write_again};
-use fs_json::{Bad, time};
+use fs_json::{Bad, read_time};
 use fs_path::{Root, Text, Way};
 use fs_time::Micros;
 use serde_json::Value;
@@ -147,5 +147,5 @@ pub(crate) fn demo(rt: &impl Abort, alloc: Global) -> Root {
 
 pub(crate) fn moment(rt: &impl Abort, alloc: Global, text: &str) -> Micros {
     let v = Value::try_from_str(alloc, text).expect(rt, "memory");
-    time(alloc, &v, &Way::method("x")).expect(rt, "a moment")
+    read_time(alloc, &v, &Way::method("x")).expect(rt, "a moment")
 }

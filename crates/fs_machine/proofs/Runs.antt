@@ -1,8 +1,7 @@
 -- What each event keeps, and so each run.
-use Rattle.std.proofs.Common.{◌≡◌, ℕ, ◌+◌, ℤ, ◌<ℤ◌, ◌≤ℤ◌, Bool, true, false, cond, List, [], ◌∷◌, Option, Some, None, Result, Ok, Err, refl, sym, ap, arith}
-use Rattle.std.specs.Prelude.{pos, ◌+ℤ◌, int_lt}
+use Rattle.std.proofs.Common.{ℕ, ◌+◌, ℤ, ◌<ℤ◌, Bool, true, false, cond, List, [], ◌∷◌, Option, Some, None, Result, Ok, Err, refl, arith}
+use Rattle.std.specs.Prelude.{pos, ◌+ℤ◌}
 use Rattle.std.proofs.lemmas.Int.{ints}
-use Rattle.fs_rpc.specs.declared.request.Envelope.{Envelope}
 use Rattle.fs_rpc.specs.declared.request.Request.{Request}
 use Rattle.fs_rpc.specs.declared.request.Request.TheVariants.{Commit, GetDocument, BatchGetDocuments, RunQuery}
 use Rattle.fs_status.specs.declared.refusal.Refusal.{Refusal}
@@ -11,21 +10,22 @@ use Rattle.fs_write.specs.declared.write_result.WriteResult.{WriteResult}
 use Rattle.fs_write.specs.declared.write.Write.{Write}
 use Rattle.fs_machine.specs.declared.config.Config.{Config}
 use Rattle.fs_machine.specs.declared.limits.Limits.{Limits}
-use Rattle.fs_machine.specs.Commit.{after_commit, commit_refusal, next_commit, past_prepared, prepared_unless}
+use Rattle.fs_machine.specs.Commit.{commit_refusal, next_commit, prepared_unless}
 use Rattle.fs_machine.specs.Event.{Event, after, step}
 use Rattle.fs_machine.specs.Facts.{Facts, PastFacts}
-use Rattle.fs_machine.specs.FloorIsReleased.{floor_compacted, floor_released}
-use Rattle.fs_machine.specs.HistoryRises.{history_released}
-use Rattle.fs_machine.specs.IdsAreDrawn.{IdsAreDrawn, ids_decided, ids_prepared, ids_released}
+use Rattle.fs_machine.proofs.FloorIsReleased.{floor_compacted, floor_released}
+use Rattle.fs_machine.proofs.HistoryRises.{history_released}
+use Rattle.fs_machine.proofs.IdsAreDrawn.{ids_decided, ids_prepared, ids_released}
 use Rattle.fs_machine.specs.Open.{is_full, with_session}
 use Rattle.fs_machine.specs.Past.{Past, past_from}
 use Rattle.fs_machine.specs.declared.unreleased.Unreleased.{Unreleased}
-use Rattle.fs_machine.specs.Release.{past_released, released}
+use Rattle.fs_machine.specs.Release.{past_released}
 use Rattle.fs_machine.specs.Request.{after_request}
 use Rattle.fs_machine.specs.Settle.{decided_if, decided_with, outcome_of, past_decided, pending_of}
 use Rattle.fs_machine.specs.State.{Machine, started}
-use Rattle.fs_machine.specs.Stays.{Stays, stays_on, stays_released, stays_same}
-use Rattle.fs_machine.specs.UnreleasedRise.{unreleased_advanced, unreleased_decided, unreleased_prepared, unreleased_released}
+use Rattle.fs_machine.specs.Stays.{Stays}
+use Rattle.fs_machine.proofs.Stays.{stays_on, stays_released, stays_same}
+use Rattle.fs_machine.proofs.UnreleasedRise.{unreleased_advanced, unreleased_decided, unreleased_prepared, unreleased_released}
 
 -- ---- the start
 
@@ -51,7 +51,7 @@ past_kept_at_deciding p u (Err refusal) facts = record { history = facts.history
 after_last : (t : ℤ) → t <ℤ (t +ℤ pos 1)
 after_last t = omega (arith, ints)
 
-kept_prepared : (m : Machine) (session : ℕ) (id : Option (List ℕ)) (writes : List Write) (refusal : Option Refusal) → Facts m → Facts (prepared_unless refusal m (next_commit m session id writes))
+pub kept_prepared : (m : Machine) (session : ℕ) (id : Option (List ℕ)) (writes : List Write) (refusal : Option Refusal) → Facts m → Facts (prepared_unless refusal m (next_commit m session id writes))
 kept_prepared m session id writes (Some refusal) facts = facts
 kept_prepared m session id writes None facts =
     let u = next_commit m session id writes in

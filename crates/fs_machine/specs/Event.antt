@@ -2,7 +2,7 @@
 use Rattle.std.specs.Prelude.{ℕ, ℤ, List, [], ◌∷◌}
 use Rattle.fs_rpc.specs.declared.request.Envelope.{Envelope}
 use Rattle.fs_machine.specs.Compact.{compacted}
-use Rattle.fs_machine.specs.Leave.{left}
+use Rattle.fs_machine.specs.Leave.{departed}
 use Rattle.fs_machine.specs.Open.{opened}
 use Rattle.fs_machine.specs.Outbox.{taken}
 use Rattle.fs_machine.specs.Release.{released}
@@ -25,7 +25,7 @@ pub data Event : Type 0 where
 
 abbrev pub step : Machine → Event → Machine
 step m opening = opened m
-step m (leaving session) = left m session
+step m (leaving session) = departed m session
 step m (asking session e) = asked m session e
 step m (deciding id) = decided m id
 step m (advancing now) = advanced m now

@@ -3,5 +3,5 @@ use Rattle.std.specs.Prelude.{ℕ}
 use Rattle.fs_machine.specs.Sessions.{without}
 use Rattle.fs_machine.specs.State.{Machine}
 
-abbrev pub left : Machine → ℕ → Machine
-left m session = record m { sessions = record m.sessions { list = without session m.sessions.list } }
+abbrev pub departed : Machine → ℕ → Machine
+departed m session = record m { sessions = record m.sessions { list = without session m.sessions.list } }

@@ -23,8 +23,8 @@ use Rattle.fs_machine.specs.Past.{Past}
 -- ---- times
 
 -- the time of a read: the one that is asked for, or the released one
-abbrev pub time_of : Past → Option ℤ → ℤ
-time_of p asked = unwrap_or asked p.released
+abbrev pub read_time : Past → Option ℤ → ℤ
+read_time p asked = unwrap_or asked p.released
 
 -- why it can't be read
 abbrev pub time_refusal : Past → ℤ → Option Refusal
@@ -36,26 +36,26 @@ unless_refused None answer = answer
 
 -- ---- documents
 
--- a document as it is shown: with the fields that a mask names, or with all of them
-abbrev pub shown : Option (List FieldPath) → Document → Document
-shown None d = d
-shown (Some paths) d = projected d paths
+-- a document with the fields that a mask names, or with all of them
+abbrev pub masked : Option (List FieldPath) → Document → Document
+masked None d = d
+masked (Some paths) d = projected d paths
 
 abbrev pub document_answer : Option (List ℕ) → ℤ → Option (List FieldPath) → Option Document → Answer
 document_answer id t mask None = Refused (refusal_of (NoDocument t))
-document_answer id t mask (Some document) = Reply (message.GetDocument id (shown mask document))
+document_answer id t mask (Some document) = Reply (message.GetDocument id (masked mask document))
 
 -- one of several documents
 abbrev pub told_of : ℤ → Option (List FieldPath) → DocName → Option Document → BatchAnswer
 told_of t mask name None = Missing name t
-told_of t mask name (Some document) = Found (shown mask document) t
+told_of t mask name (Some document) = Found (masked mask document) t
 
 abbrev pub batch_answers : Docs → ℤ → Option (List FieldPath) → List DocName → List BatchAnswer
 batch_answers docs t mask names = map (λ name. told_of t mask name (get docs name)) names
 
 -- a query's answer, of which it selects the fields
 abbrev pub query_answer : Docs → Asked → List Document
-query_answer docs q = map (shown q.select) (answer_to q (values docs))
+query_answer docs q = map (masked q.select) (answer_to q (values docs))
 
 -- ---- requests
 

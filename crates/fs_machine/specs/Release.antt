@@ -7,7 +7,7 @@ use Rattle.fs_rpc.specs.declared.message.Message.{Message}
 use Rattle.fs_rpc.specs.declared.message.Message.TheVariants as message
 use Rattle.fs_machine.specs.Past.{Past, is_pending}
 use Rattle.fs_machine.specs.declared.unreleased.Unreleased.{Unreleased}
-use Rattle.fs_machine.specs.Sessions.{told}
+use Rattle.fs_machine.specs.Sessions.{delivered}
 use Rattle.fs_machine.specs.declared.session.Session.{Session}
 use Rattle.fs_machine.specs.State.{Machine}
 
@@ -41,13 +41,13 @@ past_released p = released_to (free_to p.last p.unreleased) p
 abbrev pub reply_to : Unreleased → Message
 reply_to u = message.Commit u.request u.batch.time (unwrap_or u.results [])
 
-abbrev pub all_told : List Unreleased → List Session → List Session
-all_told [] ss = ss
-all_told (u ∷ us) ss = all_told us (told u.session (reply_to u) ss)
+abbrev pub all_delivered : List Unreleased → List Session → List Session
+all_delivered [] ss = ss
+all_delivered (u ∷ us) ss = all_delivered us (delivered u.session (reply_to u) ss)
 
 -- what a release lets out
 abbrev pub let_out : Past → List Unreleased
 let_out p = freed (free_to p.last p.unreleased) p.unreleased
 
 abbrev pub released : Machine → Machine
-released m = record m { past = past_released m.past; sessions = record m.sessions { list = all_told (let_out m.past) m.sessions.list } }
+released m = record m { past = past_released m.past; sessions = record m.sessions { list = all_delivered (let_out m.past) m.sessions.list } }

@@ -29,8 +29,8 @@ with_outbox number change [] = []
 with_outbox number change (s ∷ ss) = if s.number == number then record s { outbox = change s.outbox } ∷ ss else s ∷ with_outbox number change ss
 
 -- with one message more for it
-abbrev pub told : ℕ → Message → List Session → List Session
-told number message ss = with_outbox number (λ ms. ms ++ message ∷ []) ss
+abbrev pub delivered : ℕ → Message → List Session → List Session
+delivered number message ss = with_outbox number (λ ms. ms ++ message ∷ []) ss
 
 -- with no message left for it
 abbrev pub emptied : ℕ → List Session → List Session

@@ -6,6 +6,7 @@ use Rattle.fs_rpc.specs.MessageJson.{refused}
 use Rattle.fs_status.specs.declared.refusal.Refusal.{Refusal}
 use Rattle.fs_write.specs.Batch.{Docs, batch, IsNamed, IsOutcome}
 use Rattle.fs_write.specs.declared.write_result.WriteResult.{WriteResult}
+use Rattle.fs_write.specs.declared.write.Write.{Write}
 use Rattle.fs_history.specs.History.{whole}
 use Rattle.fs_machine.specs.declared.answer.Outcome.{Outcome}
 use Rattle.fs_machine.specs.declared.answer.Outcome.TheVariants as outcome
@@ -14,7 +15,7 @@ use Rattle.fs_machine.specs.declared.answer.Settled.TheVariants.{Released, Waiti
 use Rattle.fs_machine.specs.Past.{Past, is_pending}
 use Rattle.fs_machine.specs.declared.unreleased.Unreleased.{Unreleased}
 use Rattle.fs_machine.specs.Release.{joined, released}
-use Rattle.fs_machine.specs.Sessions.{told}
+use Rattle.fs_machine.specs.Sessions.{delivered}
 use Rattle.fs_machine.specs.State.{Machine}
 
 -- the pending commit of a number
@@ -38,10 +39,14 @@ docs_for p u = whole (joined p.history (filter (is_before u.batch.time) p.unrele
 abbrev pub outcome_of : Past → Unreleased → Result (Docs × List WriteResult) Refusal
 outcome_of p u = batch (docs_for p u) u.batch.writes u.batch.time
 
--- that an outcome is this, with the changes that it comes to
+-- that writes come to this on these documents
+abbrev pub IsOutcomeOn : Docs → List Write → ℤ → Outcome → Type 0
+IsOutcomeOn docs writes time (outcome.Effects changes results) = IsOutcome docs writes time changes results × AllByRecursion IsNamed changes
+IsOutcomeOn docs writes time (outcome.Refused refusal) = batch docs writes time ≡ Err refusal
+
+-- that those of a commit do
 abbrev pub IsOutcomeOf : Past → Unreleased → Outcome → Type 0
-IsOutcomeOf p u (outcome.Effects changes results) = IsOutcome (docs_for p u) u.batch.writes u.batch.time changes results × AllByRecursion IsNamed changes
-IsOutcomeOf p u (outcome.Refused refusal) = outcome_of p u ≡ Err refusal
+IsOutcomeOf p u o = IsOutcomeOn (docs_for p u) u.batch.writes u.batch.time o
 
 -- of the pending commit of a number
 abbrev pub IsOutcomeOfPending : Past → Option Unreleased → Outcome → Type 0
@@ -70,7 +75,7 @@ past_decided p u (Err refusal) = record p { unreleased = dropped_from u.batch.id
 abbrev pub decided_with : Machine → Unreleased → Result (Docs × List WriteResult) Refusal → Machine
 decided_with m u (Ok done) = record m { past = past_decided m.past u (Ok done) }
 decided_with m u (Err refusal) =
-    record m { past = past_decided m.past u (Err refusal); sessions = record m.sessions { list = told u.session (refused u.request refusal) m.sessions.list } }
+    record m { past = past_decided m.past u (Err refusal); sessions = record m.sessions { list = delivered u.session (refused u.request refusal) m.sessions.list } }
 
 abbrev pub decided_if : Machine → Option Unreleased → Machine
 decided_if m None = m

@@ -1,6 +1,7 @@
 //! Commits that are under way.
 use fs_history::Batch;
 use fs_path::Text;
+use fs_time::Micros;
 use fs_write::WriteResults;
 
 /// A commit that isn't in the history yet.
@@ -14,4 +15,15 @@ pub struct Unreleased {
     pub request: Option<Text>,
     /// Those of its writes, once it is accepted. It is pending before that.
     pub results: Option<WriteResults>,
+}
+
+impl Unreleased {
+    ghost use Rattle.std.specs.Prelude.{◌≡◌};
+
+    /// Its commit time.
+    pub fn time(&self) -> Micros
+        ensures { result ≡ self.now.batch.time }
+    {
+        self.batch.time
+    }
 }

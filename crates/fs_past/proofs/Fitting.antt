@@ -9,7 +9,7 @@ use Rattle.std.specs.List.{AllByRecursion}
 use Rattle.std.specs.declared.cmp.Ordering.TheVariants.{Equal}
 use Rattle.fs_path.specs.NameOrder.{name_cmp, name_cmp_total}
 use Rattle.fs_path.specs.declared.name.DocName.{DocName}
-use Rattle.fs_value.specs.Search.{find-tied}
+use Rattle.fs_value.proofs.Search.{find-tied}
 use Rattle.fs_value.specs.declared.document.Document.{Document}
 use Rattle.fs_write.specs.Batch.{AreChanges, changes_by_name, is_unchanged, IsNamed}
 use Rattle.fs_write.specs.declared.change.Change.{Change}

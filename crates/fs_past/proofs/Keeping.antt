@@ -1,9 +1,9 @@
 -- What is kept of a past after each of its calls.
-use Rattle.std.proofs.Common.{◌≡◌, ℤ, ◌≤ℤ◌, List, [], ◌∷◌, ◌++◌, Option, Some, None, Result, Ok, Err, refl, sym, ap, ◌∙◌, subst, arith}
-use Rattle.std.specs.Prelude.{IfOk, IfSome, IsNone, unwrap_or}
+use Rattle.std.proofs.Common.{◌≡◌, ℤ, ◌≤ℤ◌, List, [], ◌∷◌, ◌++◌, Option, Some, None, Ok, refl, sym, ap, ◌∙◌, subst}
+use Rattle.std.specs.Prelude.{IfSome, IsNone, unwrap_or}
 use Rattle.std.specs.Borrow.{Bor}
 use Rattle.std.specs.Option.{option_copied, option_to_list}
-use Rattle.std.proofs.lemmas.Int.{ints}
+use Rattle.std.specs.Int.Signed.{≤ℤ_refl}
 use Rattle.fs_write.specs.Batch.{Docs, AreChanges, IsOutcome}
 use Rattle.fs_write.specs.declared.change.Change.{Change}
 use Rattle.fs_write.specs.declared.timed_change.TimedChange.{TimedChange}
@@ -16,21 +16,20 @@ use Rattle.fs_store.specs.Fits.{Fits}
 use Rattle.fs_store.specs.Shows.{Shows}
 use Rattle.fs_store.specs.Stored.{Stored, absorbed, started}
 use Rattle.fs_machine.specs.declared.unreleased.Unreleased.{Unreleased}
-use Rattle.fs_machine.specs.Alone.{accepted_alone}
+use Rattle.fs_machine.proofs.Alone.{accepted_alone}
 use Rattle.fs_machine.specs.Commit.{next_time, past_prepared}
 use Rattle.fs_machine.specs.Facts.{PastFacts}
 use Rattle.fs_machine.specs.Past.{Past, past_from}
 use Rattle.fs_machine.specs.Release.{free_to, let_out, past_released}
 use Rattle.fs_machine.specs.Settle.{past_decided}
-use Rattle.fs_machine.specs.UnreleasedRise.{RiseFrom, free_above}
+use Rattle.fs_machine.specs.UnreleasedRise.{RiseFrom}
+use Rattle.fs_machine.proofs.Runs.{past_kept_at_release, past_kept_at_deciding}
+use Rattle.fs_machine.proofs.UnreleasedRise.{free_above}
 use Rattle.fs_past.specs.Kept.{past_of, IsKept}
 use Rattle.fs_past.specs.Next.{next_release}
-use Rattle.fs_past.specs.UnderWay.{ComesToEffects, IsUnderWay}
+use Rattle.fs_past.specs.UnderWay.{AreChangesUnderWay, IsUnderWay}
 use Rattle.fs_past.proofs.Fitting.{fits_none, fits_one}
-use Rattle.fs_past.proofs.Moving.{facts_released, facts_decided, facts_prepared, free_pending, released_none, released_pending, lets_none}
-
-same_time : (t : ℤ) → t ≤ℤ t
-same_time t = omega (arith, ints)
+use Rattle.fs_past.proofs.Moving.{facts_prepared, free_pending, released_none, released_pending, lets_none}
 
 -- ---- the commit that is under way
 
@@ -44,11 +43,6 @@ some_same v u is = ap (λ o. unwrap_or o v) is
 pub none_is : {A : Type 0} (o : Option A) → IsNone o → o ≡ None
 none_is None none = refl
 none_is (Some x) none = absurd (cc)
-
--- what an answer that was given says, said otherwise
-pub at_ok : {A E : Type 0} {P Q : A → Type 0} (r : Result A E) → ((x : A) → P x → Q x) → IfOk r P → IfOk r Q
-at_ok (Ok x) so p = so x p
-at_ok (Err e) so p = tt
 
 pub is_under_way : (p : Past) (o : Option Unreleased) (r : Option (Bor Unreleased)) → option_copied r ≡ o → option_to_list o ≡ p.unreleased → IfSome o (λ u. u.results ≡ None)
     → IfSome r (λ u. IsUnderWay p u.now)
@@ -65,7 +59,7 @@ started_from h s start none is = ap (λ g. past_of g None s start start) none �
 
 pub kept_from : (h : List Batch) (s : Stored) (start : ℤ) → h ≡ [] → s ≡ started start → Shows [] s → IsKept h None s start start
 kept_from h s start none is shows =
-    let facts : PastFacts (past_from start) = record { history = record { rising = tt; ends = tt }; unreleased = same_time start; floor = same_time start } in
+    let facts : PastFacts (past_from start) = record { history = record { rising = tt; ends = tt }; unreleased = ≤ℤ_refl start; floor = ≤ℤ_refl start } in
     record {
       facts = subst PastFacts (sym (started_from h s start none is)) facts;
       shows = subst (λ g. Shows g s) (sym none) shows;
@@ -111,7 +105,7 @@ module _ (h : List Batch) (o : Option Unreleased) (s t : Stored) (last moment to
 
   pub kept_released : to ≡ free_to last (option_to_list o) → ((f k : List Batch) → Shows f s → Brings f cs k → Shows k t) → IsKept h o t last moment
   kept_released is shows = record {
-    facts = subst PastFacts (sym (after_release is)) (facts_released (past_of h o s last moment) kept.facts);
+    facts = subst PastFacts (sym (after_release is)) (past_kept_at_release (past_of h o s last moment) kept.facts);
     shows = shown_still h o s last moment kept t cs none shows;
     pending = kept.pending;
   }
@@ -138,7 +132,7 @@ module _ (h : List Batch) (o : Option Unreleased) (s : Stored) (last moment : �
         ∙ sym (accepted_alone (past_of h o s last moment) u done kept.facts.unreleased (ap option_to_list it_is))
         ∙ ap (λ q. past_released (past_decided q u (Ok done))) view
 
-    module _ (law : ChangesOfTheLast) (comes : ComesToEffects p u changes) where
+    module _ (law : ChangesOfTheLast) (comes : AreChangesUnderWay p u changes) where
       are : AreChanges (whole h) (whole (u.batch ∷ h)) changes
       are = law u.batch h changes comes.0.0 (subst (λ (q : Past). IsOutcome (whole q.history) u.batch.writes u.batch.time changes comes.0.0) (sym view) comes.0.1)
 
@@ -156,7 +150,7 @@ module _ (h : List Batch) (o : Option Unreleased) (s : Stored) (last moment : �
         facts =
             let done : Docs × List WriteResult = (whole h, []) in
             subst PastFacts (sym (after_accept j t done with_it brought))
-            (facts_released (past_decided p u (Ok done)) (facts_decided p u (Ok done) (subst PastFacts view kept.facts)));
+            (past_kept_at_release (past_decided p u (Ok done)) (past_kept_at_deciding p u (Ok done) (subst PastFacts view kept.facts)));
         shows = subst (λ x. Shows x t) (sym with_it) (shows h (u.batch ∷ h) kept.shows brings_alone);
         pending = tt;
       }

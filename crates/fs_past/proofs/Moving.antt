@@ -1,32 +1,13 @@
 -- What becomes of a past with at most one commit that isn't in the history.
-use Rattle.std.proofs.Common.{◌≡◌, ◌<ℤ◌, true, cond, List, [], ◌∷◌, ◌++◌, None, Result, Ok, Err, sym, ap, ◌∙◌, subst, arith}
+use Rattle.std.proofs.Common.{◌≡◌, ◌<ℤ◌, true, cond, List, [], ◌∷◌, ◌++◌, None, sym, ap, ◌∙◌, subst, arith}
 use Rattle.std.specs.Prelude.{pos, ◌-ℤ◌}
 use Rattle.std.proofs.lemmas.Int.{ints}
-use Rattle.fs_status.specs.declared.refusal.Refusal.{Refusal}
-use Rattle.fs_write.specs.Batch.{Docs}
-use Rattle.fs_write.specs.declared.write_result.WriteResult.{WriteResult}
 use Rattle.fs_machine.specs.declared.unreleased.Unreleased.{Unreleased}
 use Rattle.fs_machine.specs.Commit.{next_time, past_prepared}
 use Rattle.fs_machine.specs.Facts.{PastFacts}
-use Rattle.fs_machine.specs.FloorIsReleased.{floor_released}
-use Rattle.fs_machine.specs.HistoryRises.{history_released}
 use Rattle.fs_machine.specs.Past.{Past, is_pending}
 use Rattle.fs_machine.specs.Release.{free_to, let_out, past_released}
-use Rattle.fs_machine.specs.Settle.{past_decided}
-use Rattle.fs_machine.specs.UnreleasedRise.{unreleased_decided, unreleased_prepared, unreleased_released}
-
--- ---- what stands still stands
-
-pub facts_released : (p : Past) → PastFacts p → PastFacts (past_released p)
-facts_released p facts = record {
-  history = history_released p facts.history facts.unreleased;
-  unreleased = unreleased_released p facts.unreleased;
-  floor = floor_released p facts.unreleased facts.floor;
-}
-
-pub facts_decided : (p : Past) (u : Unreleased) (r : Result (Docs × List WriteResult) Refusal) → PastFacts p → PastFacts (past_decided p u r)
-facts_decided p u (Ok done) facts = record { history = facts.history; unreleased = unreleased_decided p u (Ok done) facts.unreleased; floor = facts.floor }
-facts_decided p u (Err refusal) facts = record { history = facts.history; unreleased = unreleased_decided p u (Err refusal) facts.unreleased; floor = facts.floor }
+use Rattle.fs_machine.proofs.UnreleasedRise.{unreleased_prepared}
 
 pub facts_prepared : (p : Past) (u : Unreleased) → p.unreleased ≡ [] → u.batch.time ≡ next_time p → PastFacts p → PastFacts (record p { unreleased = u ∷ []; last = u.batch.time })
 facts_prepared p u none is facts =

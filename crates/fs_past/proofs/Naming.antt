@@ -1,13 +1,14 @@
 -- The documents of the names that writes name.
 use Rattle.std.proofs.Common.{◌≡◌, ℕ, ◌+◌, ◌<◌, Bool, true, false, cond, List, [], ◌∷◌, ◌++◌, length, get_or, take, Option, Some, None, refl, sym, ap, ◌∙◌, zero, suc, arith}
 use Rattle.std.specs.Prelude.{◌||◌}
-use Rattle.std.proofs.lemmas.Cmp.{eq_by_cmp_equiv, tied_itself}
+use Rattle.std.proofs.lemmas.Cmp.{eq_by_cmp_equiv}
 use Rattle.std.proofs.lemmas.List.{take_more}
 use Rattle.std.specs.Cmp.{Equal-is}
 use Rattle.std.specs.FinMap.{get, insert, get-insert, get_tied}
 use Rattle.std.specs.List.{Contains}
 use Rattle.std.specs.Ordering.{eq_by_cmp}
-use Rattle.fs_path.specs.NameOrder.{name_cmp, name_cmp_total}
+use Rattle.std.proofs.Math.Bool.{or-false, or_assoc}
+use Rattle.fs_path.specs.NameOrder.{name_cmp, name_cmp_total, name_itself}
 use Rattle.fs_path.specs.declared.name.DocName.{DocName}
 use Rattle.fs_value.specs.declared.document.Document.{Document}
 use Rattle.fs_write.specs.Batch.{Docs}
@@ -19,17 +20,9 @@ turned a b = (eq_by_cmp_equiv name_cmp_total).symm a b
 
 -- ---- the names that are written
 
-or_last : (a : Bool) → (a || false) ≡ a
-or_last true = refl
-or_last false = refl
-
-or_assoc : (a b c : Bool) → (a || (b || c)) ≡ ((a || b) || c)
-or_assoc true b c = refl
-or_assoc false b c = refl
-
 written-push : (q : DocName) (ws : List Write) (w : Write) → is_written q (ws ++ w ∷ []) ≡ (is_written q ws || eq_by_cmp name_cmp (written_name w) q)
-written-push q [] w = or_last (eq_by_cmp name_cmp (written_name w) q)
-written-push q (x ∷ ws) w = ap (λ b. eq_by_cmp name_cmp (written_name x) q || b) (written-push q ws w) ∙ or_assoc (eq_by_cmp name_cmp (written_name x) q) (is_written q ws) (eq_by_cmp name_cmp (written_name w) q)
+written-push q [] w = or-false (eq_by_cmp name_cmp (written_name w) q)
+written-push q (x ∷ ws) w = ap (λ b. eq_by_cmp name_cmp (written_name x) q || b) (written-push q ws w) ∙ sym (or_assoc (eq_by_cmp name_cmp (written_name x) q) (is_written q ws) (eq_by_cmp name_cmp (written_name w) q))
 
 written_or : (c a : Bool) → (a ≡ true) → (c || a) ≡ true
 written_or true a h = refl
@@ -42,7 +35,7 @@ tied_written (x ∷ ws) q (suc k) w within is ties = written_or (eq_by_cmp name_
 
 -- a write's own name is written
 pub contained_written : (ws : List Write) (w : Write) → Contains ws w → is_written (written_name w) ws ≡ true
-contained_written ws w (k, within, is) = tied_written ws (written_name w) k w within (sym is) ((Equal-is _).1 (tied_itself name_cmp_total (written_name w)))
+contained_written ws w (k, within, is) = tied_written ws (written_name w) k w within (sym is) (name_itself (written_name w))
 
 -- ---- the documents of those names
 

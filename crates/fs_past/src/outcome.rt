@@ -5,7 +5,7 @@ ghost use Rattle.fs_history.specs.declared.batch.Batch.{Batch};
 ghost use Rattle.fs_status.specs.Refusal.{refusal_of};
 ghost use Rattle.fs_status.specs.declared.reason.Reason.TheVariants.{Memory};
 ghost use Rattle.fs_store.specs.Shows.{Shows};
-ghost use Rattle.fs_past.specs.UnderWay.{Gives};
+ghost use Rattle.fs_machine.specs.Settle.{IsOutcomeOn};
 
 use crate::named::named_by;
 use fs_machine::Outcome;
@@ -34,7 +34,7 @@ pub(crate) fn outcome_among(
     writes: &Writes,
     time: Micros,
 ) -> Result<Outcome, AllocError>
-    ensures { IfOk result (λ o. (h : List Batch) → Shows h store.now → Gives (whole h) writes.now time o) }
+    ensures { IfOk result (λ o. (h : List Batch) → Shows h store.now → IsOutcomeOn (whole h) writes.now time o) }
 {
     if writes.len() > u32::MAX as usize {
         return Err(AllocError);

@@ -48,13 +48,6 @@ impl Model for Past {
     ghost invariant = { λ p. IsKept p.journal.history p.under_way p.store p.last p.moment };
 }
 
-// Read by reference, since a commit is moved next.
-fn time_of(commit: &Unreleased) -> Micros
-    ensures { result ≡ commit.now.batch.time }
-{
-    commit.batch.time
-}
-
 impl Past {
     ghost use Rattle.std.specs.Prelude.{◌≡◌, ◌↔◌, ℤ, ◌≤ℤ◌, ◌-◌, ◌^◌, min, List, [], ◌∷◌, Option, Some, Ok, Err, IsTrue, IsNone, IfOk, IfSome, OnOk, OnErr};
     ghost use Rattle.std.specs.FinMap.{get, values};
@@ -74,7 +67,7 @@ impl Past {
     ghost use Rattle.fs_machine.specs.Settle.{past_decided};
     ghost use Rattle.fs_machine.specs.Tick.{past_advanced};
     ghost use Rattle.fs_machine.specs.declared.unreleased.Unreleased.{Unreleased as Commit};
-    ghost use Rattle.fs_past.specs.UnderWay.{IsUnderWay, ComesToEffects, ComesTo};
+    ghost use Rattle.fs_past.specs.UnderWay.{IsUnderWay, AreChangesUnderWay, IsOutcomeUnderWay};
 
     /// No commits, at a moment, which can be read. The allocator serves those that come.
     pub fn new(alloc: Global, start: Micros) -> Past
@@ -159,7 +152,7 @@ impl Past {
         requires time { commit.batch.time ≡ time_after self.old }
         ensures { self.new ≡ past_prepared self.old commit }
     {
-        self.last = time_of(&commit);
+        self.last = commit.time();
         self.under_way = Some(commit);
     }
 
@@ -187,7 +180,7 @@ impl Past {
     /// What the writes of the commit that is under way come to.
     pub fn outcome(&self, alloc: Global) -> Result<Outcome, AllocError>
         requires { (u : Commit) × IsUnderWay self.now u }
-        ensures { IfOk result (λ o. (u : Commit) → IsUnderWay self.now u → ComesTo self.now u o) }
+        ensures { IfOk result (λ o. (u : Commit) → IsUnderWay self.now u → IsOutcomeUnderWay self.now u o) }
     {
         match &self.under_way {
             Some(commit) => outcome_among(
@@ -202,7 +195,7 @@ impl Past {
 
     /// The commit that is under way is accepted, with these changes, and released.
     pub fn accept(&mut self, alloc: Global, changes: Changes) -> Result<(), AllocError>
-        requires { (u : Commit) × IsUnderWay self.old u × ComesToEffects self.old u changes }
+        requires { (u : Commit) × IsUnderWay self.old u × AreChangesUnderWay self.old u changes }
         ensures ok { OnOk result ((u : Commit) (done : Docs × List WriteResult) → IsUnderWay self.old u
             → self.new ≡ past_released (past_decided self.old u (Ok done))) }
         ensures err { OnErr result (self.new ≡ self.old) }

@@ -8,7 +8,7 @@ use Rattle.fs_path.specs.Spelling.{database_text, nothing, is_of, IsLabel}
 use Rattle.fs_path.specs.Document.{under}
 use Rattle.fs_path.specs.Database.{database_of, IsDatabase}
 use Rattle.fs_path.proofs.Spellings.{Reads, of_database, text_of, judged_found, judged_only, judged_prefix}
-use Rattle.fs_path.specs.DocumentLaws.{is_root}
+use Rattle.fs_path.proofs.Accepted.{is_root}
 use Rattle.fs_path.proofs.Documents.{of_root}
 
 abbrev root_of : DocName → Root

@@ -1,19 +1,20 @@
 -- What holds of the names of documents and of what has collections.
 use Rattle.std.proofs.Common.{Err, ◌≡◌, ◌↔◌, ℕ, ◌<◌, ◌≤◌, ◌%◌, Bool, false, not, ◌||◌, eqb, Ok, List, [], ◌∷◌, length, refl, ap, sym, ◌∙◌, subst, arith}
-use Rattle.std.proofs.lemmas.Bool.{or_parts, and_parts, eqb-true, ltb-false}
+use Rattle.std.proofs.lemmas.Bool.{or_parts, and_parts, eqb-true, ltb-false, not-false}
 use Rattle.std.proofs.lemmas.Bool.Decides.{nat_tests}
 use Rattle.std.specs.List.{AllByRecursion, list_any}
 use Rattle.fs_path.specs.declared.name.Root.{Root}
 use Rattle.fs_path.specs.declared.name.DocName.{DocName}
 use Rattle.fs_path.specs.declared.error.PathError.{PathError}
 use Rattle.fs_path.specs.declared.error.PathError.TheVariants.{BadPrefix, WrongDatabase}
+use Rattle.fs_path.specs.TextOrder.{text_is}
 use Rattle.fs_path.specs.Limits.{max_id, max_name, max_segments}
 use Rattle.fs_path.specs.Segment.{has_slash, is_empty, is_reserved, is_dots, is_long, IsId}
 use Rattle.fs_path.specs.Findings.{findings, id_refusals, document_refusals, parent_refusals, is_even}
 use Rattle.fs_path.specs.Spelling.{document_text, is_of, IsLabel, IsSpelled}
 use Rattle.fs_path.specs.Document.{IsDocument, IsDocumentOf, IsParentOf, under, document_of, reference_of, parent_of}
-use Rattle.fs_path.specs.DocumentLaws.{IsGood, some_long, none_refused, whole_ids, is_root}
-use Rattle.fs_path.proofs.Spellings.{Reads, of_documents, judged_found, judged_only, judged_prefix, text_is_one, not_false}
+use Rattle.fs_path.proofs.Accepted.{IsGood, some_long, none_refused, none_from, whole_ids, is_root}
+use Rattle.fs_path.proofs.Spellings.{Reads, of_documents, judged_found, judged_only, judged_prefix}
 
 -- ---- ids that no test refuses
 
@@ -32,7 +33,7 @@ ids_from (id ∷ ids) whole e r d l =
 even_some : (n : ℕ) → (not (is_even n) || eqb n 0) ≡ false → (n % 2 ≡ 0) × (0 < n)
 even_some n h =
     let parts = or_parts (not (is_even n)) (eqb n 0) h in
-    (eqb-true (n % 2) 0 (not_false (is_even n) parts.0), grind (arith, nat_tests, parts.1))
+    (eqb-true (n % 2) 0 (not-false (is_even n) parts.0), grind (arith, nat_tests, parts.1))
 
 good_from : (ids : List (List ℕ)) (bytes : ℕ) → AllByRecursion (λ id. has_slash id ≡ false) ids → AllByRecursion (λ t. t.0 ≡ false) (id_refusals (findings ids) bytes) → IsGood ids bytes
 good_from ids bytes whole none =
@@ -66,6 +67,13 @@ reference_found text n h =
     let f = judged_found of_documents (λ n. document_refusals (findings n.ids) (length text)) (λ n. n) text n h in
     subst (λ k. IsDocument k × (text ≡ document_text k)) f.taken (document_from text f.name f.reads f.none, f.reads.text_is)
 
+spelled_from : (n : DocName) → IsDocument n → IsSpelled n
+spelled_from n d = record { project = d.project; database = d.database; ids = whole_ids n.ids d.ids }
+
+pub reference_only : (text : List ℕ) (n : DocName) → IsDocument n → text ≡ document_text n → reference_of text ≡ Ok n
+reference_only text n d e =
+    judged_only of_documents (λ m. document_refusals (findings m.ids) (length text)) (λ m. m) text n (reads_of text n (spelled_from n d) e) (none_from text n d e)
+
 -- what is asked of a name in the root's database
 abbrev document_tests : Root → List ℕ → DocName → List (Bool × PathError)
 document_tests root text n = (not (is_of root n), WrongDatabase) ∷ document_refusals (findings n.ids) (length text)
@@ -74,7 +82,7 @@ abbrev parent_tests : Root → List ℕ → DocName → List (Bool × PathError)
 parent_tests root text n = (not (is_of root n), WrongDatabase) ∷ parent_refusals (findings n.ids) (length text)
 
 pub of_root : (root : Root) (n : DocName) → not (is_of root n) ≡ false → (n.project ≡ root.project) × (n.database ≡ root.database)
-of_root root n h = let same = and_parts _ _ (not_false (is_of root n) h) in (text_is_one _ _ same.0, text_is_one _ _ same.1)
+of_root root n h = let same = and_parts _ _ (not-false (is_of root n) h) in (text_is _ _ same.0, text_is _ _ same.1)
 
 pub document_found : (root : Root) (text : List ℕ) (n : DocName) → document_of root text ≡ Ok n → IsDocumentOf root n × (text ≡ document_text n)
 document_found root text n h =
@@ -82,6 +90,10 @@ document_found root text n h =
     let own = of_root root f.name f.none.0 in
     subst (λ k. IsDocumentOf root k × (text ≡ document_text k)) f.taken
     (record { document = document_from text f.name f.reads f.none.1; project = own.0; database = own.1 }, f.reads.text_is)
+
+pub document_only : (root : Root) (text : List ℕ) (n : DocName) → IsDocumentOf root n → text ≡ document_text n → document_of root text ≡ Ok n
+document_only root text n d e =
+    judged_only of_documents (document_tests root text) (λ m. m) text n (reads_of text n (spelled_from n d.document) e) (is_root root n d.project d.database, none_from text n d.document e)
 
 parent_from : (root : Root) (text : List ℕ) (n : DocName) → Reads of_documents text n → AllByRecursion (λ t. t.0 ≡ false) (parent_tests root text n) → IsParentOf root n.ids × (text ≡ document_text (under root n.ids))
 parent_from root text n r none =
@@ -92,7 +104,7 @@ parent_from root text n r none =
         project = subst IsLabel own.0 r.project;
         database = subst IsLabel own.1 r.database;
         ids = good.each;
-        even = eqb-true (length n.ids % 2) 0 (not_false (is_even (length n.ids)) none.1.0);
+        even = eqb-true (length n.ids % 2) 0 (not-false (is_even (length n.ids)) none.1.0);
         deep = good.deep;
         long = subst (λ t. length t ≤ max_name) text_is good.long;
       },

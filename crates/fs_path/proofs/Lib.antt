@@ -1,9 +1,12 @@
+pub mod Bools
+pub mod Orders
 pub mod Segments
 pub mod Reserved
 pub mod PathOrder
 pub mod NameTexts
 pub mod Refusals
 pub mod Spellings
+pub mod Accepted
 pub mod Documents
 pub mod Databases
 pub mod Surveyed
@@ -13,3 +16,5 @@ pub mod Fields
 pub mod FieldReads
 pub mod Readings
 pub mod Escapes
+pub mod Related
+pub mod FieldOrder

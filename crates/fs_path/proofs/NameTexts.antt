@@ -5,8 +5,7 @@ use Rattle.std.proofs.lemmas.List.Sums.{sum_by-cons}
 use Rattle.std.proofs.lemmas.List.Splits.{join_with_byte-slice_split}
 use Rattle.std.specs.List.{AllByRecursion, join_with_byte, flat_map}
 use Rattle.fs_path.specs.Segment.{segments, has_slash}
-use Rattle.fs_path.specs.DocumentLaws.{segments_at, segments_all}
-use Rattle.fs_path.proofs.Segments.{whole_parts, join_slashed}
+use Rattle.fs_path.proofs.Segments.{segments_at, segments_all, whole_parts, join_slashed}
 use Rattle.fs_path.specs.Spelling.{slashed}
 use Rattle.fs_path.specs.Cursor.{rest_segments, after_slash}
 use Rattle.fs_path.specs.Name.{named, name_in, path_of, IsPath}

@@ -12,12 +12,8 @@ use Rattle.fs_path.specs.TextOrder.{text_cmp, text_eq, ids_cmp}
 use Rattle.fs_path.specs.Segment.{segments}
 use Rattle.fs_path.specs.Name.{named, name_in, IsPath}
 use Rattle.fs_path.specs.NameOrder.{name_cmp, name_cmp_total, name_eq}
+use Rattle.fs_path.proofs.Orders.{then_assoc}
 use Rattle.fs_path.specs.PathOrder.{rank, byte_cmp, path_cmp}
-
-then_assoc : (p c l : Ordering) → ordering_then p (ordering_then c l) ≡ ordering_then (ordering_then p c) l
-then_assoc Less c l = refl
-then_assoc Equal c l = refl
-then_assoc Greater c l = refl
 
 -- there is a first segment
 pub record Parts (xs : List ℕ) : Type 0 where

@@ -3,7 +3,11 @@ use Rattle.std.proofs.Common.{◌≡◌, Bool, true, false, cond, Ok, Err, List,
 use Rattle.std.specs.List.{AllByRecursion}
 use Rattle.fs_path.specs.declared.error.PathError.{PathError}
 use Rattle.fs_path.specs.Refusal.{unless_refused}
-use Rattle.fs_path.specs.DocumentLaws.{accepts}
+
+-- where no test holds, a value is accepted
+pub accepts : {A : Type 0} (a : A) (tests : List (Bool × PathError)) → AllByRecursion (λ t. t.0 ≡ false) tests → unless_refused a tests ≡ Ok a
+accepts a [] all = refl
+accepts a (test ∷ tests) all = let here : test.0 ≡ false = all.0 in let rest = accepts a tests all.1 in rw here rest
 
 accepted_at : {A : Type 0} (a x : A) (holds : Bool) (e : PathError) (tests : List (Bool × PathError)) → (unless_refused a tests ≡ Ok x → (a ≡ x) × AllByRecursion (λ t. t.0 ≡ false) tests) → cond holds (Err e) (unless_refused a tests) ≡ Ok x → (a ≡ x) × AllByRecursion (λ t. t.0 ≡ false) ((holds, e) ∷ tests)
 accepted_at a x true e tests more h = cc

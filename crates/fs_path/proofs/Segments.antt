@@ -1,5 +1,6 @@
 -- Texts and their parts between slashes.
 use Rattle.std.proofs.Common.{◌≡◌, ℕ, ◌+◌, ◌<◌, zero, suc, Bool, true, false, cond, eqb, Some, List, [], ◌∷◌, ◌++◌, length, drop, slice_get, refl, ap, sym, ◌∙◌, subst, arith}
+use Rattle.std.proofs.lemmas.Bool.{or_parts}
 use Rattle.std.proofs.lemmas.List.{append-nil}
 use Rattle.std.proofs.lemmas.List.Splits.{slice_split_first}
 use Rattle.std.specs.List.{AllByRecursion, onto_first, join_with_byte, flat_map, slice_split, position_or_len, before_first, after_first}
@@ -7,6 +8,25 @@ use Rattle.fs_path.specs.Segment.{segments, has_slash}
 use Rattle.fs_path.specs.Spelling.{slashed}
 
 -- ---- the parts of a text that was joined from parts
+
+-- a part with no slash in it ends at the slash after it
+pub segments_at : (xs ys : List ℕ) → has_slash xs ≡ false → segments (xs ++ 47 ∷ ys) ≡ xs ∷ segments ys
+segments_at [] ys h = refl
+segments_at (x ∷ xs) ys h =
+    let parts = or_parts (eqb x 47) (has_slash xs) h in
+    let rest = segments_at xs ys parts.1 in
+    rw (parts.0, rest) refl
+
+pub segments_whole : (xs : List ℕ) → has_slash xs ≡ false → segments xs ≡ xs ∷ []
+segments_whole [] h = refl
+segments_whole (x ∷ xs) h =
+    let parts = or_parts (eqb x 47) (has_slash xs) h in
+    let rest = segments_whole xs parts.1 in
+    rw (parts.0, rest) refl
+
+pub segments_all : (x : List ℕ) (ids : List (List ℕ)) → has_slash x ≡ false → AllByRecursion (λ id. has_slash id ≡ false) ids → segments (x ++ flat_map slashed ids) ≡ x ∷ ids
+segments_all x [] h all = ap segments (append-nil x) ∙ segments_whole x h
+segments_all x (id ∷ ids) h all = segments_at x (id ++ flat_map slashed ids) h ∙ ap (λ r. x ∷ r) (segments_all id ids all.0 all.1)
 
 -- ---- the text that was cut into parts
 

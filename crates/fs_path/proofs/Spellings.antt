@@ -1,31 +1,18 @@
 -- What a text spells, and what is judged of it, whatever stands behind its database.
-use Rattle.std.proofs.Common.{Err, ◌≡◌, ◌↔◌, ℕ, Bool, true, false, not, cond, Option, Some, None, Ok, List, [], ◌∷◌, ◌++◌, codes, refl, ap, sym, ◌∙◌, subst}
-use Rattle.std.proofs.lemmas.Bool.{and_parts}
+use Rattle.std.proofs.Common.{Err, ◌≡◌, ◌↔◌, ℕ, Bool, true, false, cond, Option, Some, None, Ok, List, [], ◌∷◌, ◌++◌, codes, refl, ap, sym, ◌∙◌, subst}
+use Rattle.std.proofs.lemmas.Bool.{and_parts, not-true}
 use Rattle.std.proofs.lemmas.Option.{cond_some}
-use Rattle.std.proofs.lemmas.Slice.Eq.{bytes_eq-Decides}
 use Rattle.std.proofs.lemmas.List.Splits.{join_with_byte-slice_split}
 use Rattle.std.specs.List.{AllByRecursion, join_with_byte, flat_map}
 use Rattle.std.specs.Option.{option_map}
 use Rattle.fs_path.specs.declared.name.DocName.{DocName}
 use Rattle.fs_path.specs.declared.error.PathError.{PathError}
 use Rattle.fs_path.specs.declared.error.PathError.TheVariants.{BadPrefix}
-use Rattle.fs_path.specs.TextOrder.{text_eq}
+use Rattle.fs_path.specs.TextOrder.{text_eq, text_is}
 use Rattle.fs_path.specs.Segment.{segments, has_slash, is_empty}
 use Rattle.fs_path.specs.Spelling.{slashed, spelled, if_spelled, judged, documents, nothing, IsLabel}
-use Rattle.fs_path.specs.DocumentLaws.{accepts, segments_all}
-use Rattle.fs_path.proofs.Refusals.{accepted, never_refused}
-use Rattle.fs_path.proofs.Segments.{whole_parts, join_slashed}
-
-pub text_is_one : (xs ys : List ℕ) → text_eq xs ys ≡ true → xs ≡ ys
-text_is_one xs ys = (bytes_eq-Decides xs ys).0
-
-pub not_true : (b : Bool) → not b ≡ true → b ≡ false
-not_true true h = sym h
-not_true false h = refl
-
-pub not_false : (b : Bool) → not b ≡ false → b ≡ true
-not_false true h = refl
-not_false false h = sym h
+use Rattle.fs_path.proofs.Refusals.{accepts, accepted, never_refused}
+use Rattle.fs_path.proofs.Segments.{segments_all, whole_parts, join_slashed}
 
 -- ---- a form of names: what is read below the database, and how it is written
 
@@ -38,7 +25,7 @@ pub documents_above : (parts ids : List (List ℕ)) → documents parts ≡ Some
 documents_above [] ids h = cc
 documents_above (first ∷ rest) ids h =
     let x = cond_some (text_eq first (codes "documents")) rest ids h in
-    let is = text_is_one first (codes "documents") x.0 in
+    let is = text_is first (codes "documents") x.0 in
     λ i. is i ∷ x.1 i
 
 pub nothing_above : (parts ids : List (List ℕ)) → nothing parts ≡ Some ids → parts ≡ ids
@@ -82,8 +69,8 @@ spells_at : (f : Form) (a p b d : List ℕ) (rest : List (List ℕ)) (n : DocNam
 spells_at f a p b d rest n None e ha hb hp hd h = cc
 spells_at f a p b d rest n (Some ids) e ha hb hp hd h =
     let is : record { project = p; database = d; ids = ids } ≡ n = cc in
-    let projects = text_is_one a (codes "projects") ha in
-    let databases = text_is_one b (codes "databases") hb in
+    let projects = text_is a (codes "projects") ha in
+    let databases = text_is b (codes "databases") hb in
     let above = f.is_above rest ids e in
     let P : DocName → Type 0 = λ m. Spells f (a ∷ p ∷ b ∷ d ∷ rest) m in
     subst P is (record { same = λ i. projects i ∷ p ∷ databases i ∷ d ∷ above i; project = hp; database = hd; ids = ap f.below (sym above) ∙ e })
@@ -98,7 +85,7 @@ spells f (a ∷ p ∷ b ∷ d ∷ rest) n h =
     let e3 = and_parts _ _ x.0 in
     let e2 = and_parts _ _ e3.0 in
     let e1 = and_parts _ _ e2.0 in
-    spells_at f a p b d rest n (f.below rest) refl e1.0 e1.1 (not_true _ e2.1) (not_true _ e3.1) x.1
+    spells_at f a p b d rest n (f.below rest) refl e1.0 e1.1 (not-true _ e2.1) (not-true _ e3.1) x.1
 
 pub reads : (f : Form) (text : List ℕ) (n : DocName) → spelled f.below (segments text) ≡ Some n → Reads f text n
 reads f text n h =

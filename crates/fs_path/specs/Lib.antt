@@ -10,7 +10,6 @@ pub mod Refusal
 pub mod Spelling
 pub mod Findings
 pub mod Document
-pub mod DocumentLaws
 pub mod Database
 pub mod Cursor
 pub mod Survey
@@ -19,3 +18,5 @@ pub mod FieldName
 pub mod Field
 pub mod FieldReader
 pub mod Scope
+pub mod Related
+pub mod FieldOrder

@@ -6,7 +6,7 @@ use Rattle.std.specs.declared.cmp.Ordering.{Ordering}
 use Rattle.std.specs.declared.cmp.Ordering.TheVariants.{Less, Equal, Greater}
 use Rattle.std.specs.Ordering.{ordering_then, then_cmp, on, eq_by_cmp, as_partial_cmp}
 use Rattle.std.specs.Cmp.{Equal-is, IsTotalOrder, IsEquivalence, IsPartialEquivalence, IsPartialOrder, partial_equiv_from_equiv, partial_order_from_agreeing_total}
-use Rattle.std.proofs.lemmas.Cmp.{then_total, on_total, eq_by_cmp_equiv}
+use Rattle.std.proofs.lemmas.Cmp.{then_total, on_total, eq_by_cmp_equiv, tied_itself}
 use Rattle.fs_path.specs.Name.{path_of}
 use Rattle.fs_path.specs.declared.name.DocName.{DocName}
 use Rattle.fs_path.specs.TextOrder.{text_cmp, ids_cmp, text_cmp_total, text_same, ids_cmp_total, ids_same}
@@ -47,3 +47,10 @@ name_po = partial_order_from_agreeing_total name_cmp name_cmp_total (λ _ _. ref
 -- equal names feed a hasher alike
 pub name_hashed_alike : (a b : DocName) → name_eq a b ≡ true → str (path_of a) ≡ str (path_of b)
 name_hashed_alike a b same = λ i. str (path_of (name_same a b ((Equal-is _).0 same) i))
+
+-- a name is at its own place, and nowhere else
+pub name_itself : (a : DocName) → name_eq a a ≡ true
+name_itself a = (Equal-is _).1 (tied_itself name_cmp_total a)
+
+pub name_is : (a b : DocName) → name_eq a b ≡ true → a ≡ b
+name_is a b ties = name_same a b ((Equal-is _).0 ties)

@@ -6,6 +6,15 @@ use Rattle.fs_path.specs.declared.scope.Scope.{Scope}
 use Rattle.fs_path.specs.declared.scope.Scope.TheVariants.{Collection, Group}
 use Rattle.fs_path.specs.TextOrder.{text_eq}
 
+-- what a query's collections lie below, and their id
+abbrev pub scope_parent : Scope → List (List ℕ)
+scope_parent (Collection parent id) = parent
+scope_parent (Group parent id) = parent
+
+abbrev pub scope_id : Scope → List ℕ
+scope_id (Collection parent id) = id
+scope_id (Group parent id) = id
+
 -- a document of the collection right below its parent, or of a collection with this id anywhere below its parent
 abbrev pub Covers : Scope → DocName → Type 0
 Covers (Collection parent id) n = (last : List ℕ) × (n.ids ≡ parent ++ id ∷ last ∷ [])

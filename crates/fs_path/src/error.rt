@@ -8,6 +8,7 @@ use std::alloc::{AllocError, AllocFailed};
 
 /// Why a text is no name or path. Of several reasons the first in this order is told. What a person is told of it is the rule
 /// and the place, in the message of a refusal.
+/// (docs/DECISIONS.md, "What refuses a name has no text".)
 #[derive(Clone, Copy, Debug, PartialEq, Eq)]
 pub enum PathError {
     /// It doesn't begin as `projects/{project}/databases/{database}/documents`.

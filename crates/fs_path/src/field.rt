@@ -32,6 +32,7 @@ impl FieldPath {
 /// Reads a field path: simple names, or any names in backquotes, with a dot between each two. A refusal is
 /// `BadQuote(at)`, where `at` is the length in bytes of the longest beginning of the text that some field path begins
 /// with. (v1 reference, "StructuredQuery.FieldReference", `fieldPath`.)
+/// (docs/DECISIONS.md, "A field path has no limit of length".)
 pub fn parse_field(alloc: Global, text: &str) -> Result<FieldPath, PathError>
     ensures ok { IfOk result (λ p. field_of text.now ≡ Ok p.parts) }
     ensures err { IfErr result (λ e. ¬ IsMemory e → field_of text.now ≡ Err e) }

@@ -37,6 +37,7 @@ impl Root {
 ///     demo/(default)/c/a
 ///     demo/(default)/c/a/x/b      at the byte behind `a`, `/` comes before `-`,
 ///     demo/(default)/c/a-b        though its number, 0x2f, is above that of `-`, 0x2d
+/// (docs/DECISIONS.md, "A name is one text".)
 #[derive(Drop, Debug)]
 pub struct DocName {
     path: String,
@@ -197,6 +198,7 @@ impl PartialOrd for DocName {
     }
 }
 
+// (docs/DECISIONS.md, "Names are ordered segment by segment".)
 impl Ord for DocName {
     ghost use Rattle.std.specs.Prelude.{refl};
     ghost use Rattle.fs_path.specs.NameOrder.{name_cmp, name_cmp_total};

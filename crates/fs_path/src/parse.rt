@@ -8,7 +8,7 @@ ghost use Rattle.fs_path.specs.Head.{head_name};
 
 use crate::error::PathError;
 use crate::head::Head;
-use crate::ids::Ids;
+use crate::ids::{Ids, split};
 use crate::name::{DocName, Root};
 use crate::survey::survey_of;
 use std::alloc::Global;
@@ -109,5 +109,5 @@ fn read_ids(alloc: Global, head: Head<'_>, bytes: usize) -> Result<Ids, PathErro
     ensures err { IfErr result (λ e. ¬ IsMemory e → unless_refused (head_name head.entry).ids (parent_refusals (findings (head_name head.entry).ids) bytes) ≡ Err e) }
 {
     survey_of(head.ids).check_parent(bytes)?;
-    Ok(Ids::split(alloc, head.ids)?)
+    Ok(split(alloc, head.ids)?)
 }

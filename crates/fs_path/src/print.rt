@@ -1,9 +1,13 @@
 //! Printing of names.
-ghost use Rattle.std.specs.Prelude.{◌≡◌, IfOk, Ok};
-ghost use Rattle.fs_path.specs.Document.{document_of, document_text, reference_of, IsDocument, IsDocumentOf};
+ghost use Rattle.std.specs.Prelude.{◌≡◌, ◌++◌, IfOk, Ok, OnOk, string_bytes};
+ghost use Rattle.std.specs.List.{flat_map};
+ghost use Rattle.fs_path.specs.Database.{database_text};
+ghost use Rattle.fs_path.specs.Document.{document_of, document_text, reference_of, under, IsDocument, IsDocumentOf};
+ghost use Rattle.fs_path.specs.Spelling.{slashed};
 ghost use Rattle.fs_path.specs.declared.name.Root.{Root};
 
-use crate::name::DocName;
+use crate::ids::Ids;
+use crate::name::{DocName, Root};
 use crate::text::Text;
 use std::alloc::{AllocError, Global};
 
@@ -31,4 +35,38 @@ fn name_text(alloc: Global, name: &DocName) -> Result<Text, AllocError>
     text.push_str("/documents")?;
     head.push_ids(&mut text)?;
     Ok(Text::of(text))
+}
+
+/// Writes the name of a root's database: `projects/{project}/databases/{database}`. (v1 reference, `CommitRequest`,
+/// `database`.)
+pub fn print_database(alloc: Global, root: &Root) -> Result<Text, AllocError>
+    ensures { IfOk result (λ t. t ≡ database_text root.now) }
+{
+    let mut text = String::from_str(alloc, "projects/")?;
+    text.push_str(root.project.as_str())?;
+    text.push_str("/databases/")?;
+    text.push_str(root.database.as_str())?;
+    Ok(Text::of(text))
+}
+
+/// Writes the name of what has collections: the root's documents, or the one that has these ids. (v1 reference,
+/// `RunQueryRequest`, `parent`.)
+pub fn print_parent(alloc: Global, root: &Root, ids: &Ids) -> Result<Text, AllocError>
+    ensures { IfOk result (λ t. t ≡ document_text (under root.now ids.now)) }
+{
+    let mut text = print_database(alloc, root)?.into_string();
+    text.push_str("/documents")?;
+    push_ids(&mut text, ids.as_slice())?;
+    Ok(Text::of(text))
+}
+
+/// Adds ids, each behind a slash.
+fn push_ids(text: &mut String, ids: &[Text]) -> Result<(), AllocError>
+    ensures { OnOk result (string_bytes text.new ≡ string_bytes text.old ++ flat_map slashed ids.now) }
+{
+    for id in ids {
+        text.push_str("/")?;
+        text.push_str(id.as_str())?;
+    }
+    Ok(())
 }

@@ -3,7 +3,7 @@ ghost use Rattle.std.specs.Prelude.{◌≡◌, ◌↔◌, ◌<◌, ◌≤◌, �
 ghost use Rattle.std.specs.List.{starts_with};
 ghost use Rattle.std.specs.Option.{option_copied};
 ghost use Rattle.fs_path.specs.Cursor.{rest_segments};
-ghost use Rattle.fs_path.specs.Scope.{covers, lies_in, Covers};
+ghost use Rattle.fs_path.specs.Scope.{covers, lies_in, scope_id, scope_parent, Covers};
 ghost use Rattle.fs_path.specs.TextOrder.{text_eq};
 
 use crate::ids::Ids;
@@ -22,6 +22,26 @@ pub enum Scope {
 }
 
 impl Scope {
+    /// The ids of the document below which the collections lie, or none for the root.
+    pub fn parent(&self) -> &Ids
+        ensures { result.now ≡ scope_parent self.now }
+    {
+        match self {
+            Scope::Collection { parent, .. } => parent,
+            Scope::Group { parent, .. } => parent,
+        }
+    }
+
+    /// The id of the collections.
+    pub fn id(&self) -> &Text
+        ensures { result.now ≡ scope_id self.now }
+    {
+        match self {
+            Scope::Collection { id, .. } => id,
+            Scope::Group { id, .. } => id,
+        }
+    }
+
     pub fn copy(&self, alloc: Global) -> Result<Scope, AllocError>
         ensures { IfOk result (λ s. s ≡ self.now) }
     {

@@ -13,6 +13,7 @@ use std::fmt::Write;
 /// The way to the name of a commit's first write is
 /// `Way::method("commit").member("writes").item(0).member("update").member("name")`, and its place
 /// `commit.writes[0].update.name`.
+/// (docs/DECISIONS.md, "A reader of JSON goes along a way, and a place is made only where something is refused".)
 #[derive(Clone, Copy)]
 pub enum Way<'a> {
     Method(&'a str),

@@ -27,6 +27,7 @@ use Rattle.fs_query.proofs.CursorLaws.{beside_document, behind_started, first_tr
 use Rattle.fs_query.proofs.Foremost.{told, keeps_sorted}
 use Rattle.fs_query.proofs.OrderLaws.{orders_total, tells_names, name_is_ordered}
 use Rattle.fs_query.proofs.Rising.{has_none, has_first, has_later, has_cases, has_kept, has_taken, has_left, keeps, all_of, rise_kept, rise_taken, rise_left, rise_rest, rise_behind, first_below, front_below, only_one, in_rise_rises, from_rise, to_rise, not_below_itself, not_both_below}
+use Rattle.fs_path.proofs.Orders.{less_is}
 
 -- the order of a query's documents
 abbrev pub by_query : Asked → Document → Document → Ordering
@@ -47,14 +48,9 @@ below_names : (n : DocName) (ds : List Document) (d : Document) → below_all na
 below_names n [] d h k = absurd (has_none d k)
 below_names n (e ∷ ds) d h k =
     elim (has_cases e ds d k) [
-      | inl s ↦ subst (λ z. name_cmp n z.name ≡ Less) s (is_less (name_cmp n e.name) (first_true (is_lt (name_cmp n e.name)) (below_all name_cmp n (by_name ds)) h))
+      | inl s ↦ subst (λ z. name_cmp n z.name ≡ Less) s (less_is (name_cmp n e.name) (first_true (is_lt (name_cmp n e.name)) (below_all name_cmp n (by_name ds)) h))
       | inr s ↦ below_names n ds d (second_true (is_lt (name_cmp n e.name)) (below_all name_cmp n (by_name ds)) h) s
     ]
-  where
-    is_less : (o : Ordering) → is_lt o ≡ true → o ≡ Less
-    is_less Less e = refl
-    is_less Equal e = absurd (cc)
-    is_less Greater e = absurd (cc)
 
 -- names that rise differ
 names_apart : (a b : Document) → name_cmp a.name b.name ≡ Less → ¬ (a.name ≡ b.name)

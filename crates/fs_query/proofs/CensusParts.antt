@@ -15,6 +15,7 @@ use Rattle.fs_query.specs.declared.census.Census.{Census}
 use Rattle.fs_query.specs.declared.filter.Filter.{Filter}
 use Rattle.fs_query.specs.FilterParts.{parts, parts_of, is_by, is_not_in_op}
 use Rattle.fs_query.specs.FilterRules.{has_bad_path_itself, has_bad_list_itself, long_not_in_itself, first_some, is_kept_from_not_in, is_is_not_null, misuses_name, is_without_filters}
+use Rattle.std.proofs.Math.Bool.{or-false}
 
 -- ---- numbers of parts
 
@@ -73,10 +74,6 @@ census_with_own c xs = census_append (c ∷ []) xs
 
 -- ---- one part
 
-or_false : (a : Bool) → a ≡ (a || false)
-or_false true = refl
-or_false false = refl
-
 if_some : (o : Option ℕ) → o ≡ cond (is_some o) o None
 if_some (Some n) = refl
 if_some None = refl
@@ -100,15 +97,15 @@ alone c = record {
 
 pub census_alone : (c : Condition) → alone c ≡ census_in (c ∷ [])
 census_alone c = λ i. record {
-  bad_path = or_false (has_bad_path_itself c) i;
-  bad_list = or_false (has_bad_list_itself c) i;
+  bad_path = sym (or-false (has_bad_path_itself c)) i;
+  bad_list = sym (or-false (has_bad_list_itself c)) i;
   long_not_in = if_some (long_not_in_itself c) i;
-  not_in = or_false (is_by is_not_in_op c) i;
+  not_in = sym (or-false (is_by is_not_in_op c)) i;
   second_not_in = not_two (is_by is_not_in_op c) i;
-  kept_from_not_in = or_false (is_kept_from_not_in c) i;
-  not_null = or_false (is_is_not_null c) i;
-  misused_name = or_false (misuses_name c) i;
-  without_filters = or_false (is_without_filters c) i;
+  kept_from_not_in = sym (or-false (is_kept_from_not_in c)) i;
+  not_null = sym (or-false (is_is_not_null c)) i;
+  misused_name = sym (or-false (misuses_name c)) i;
+  without_filters = sym (or-false (is_without_filters c)) i;
 }
 
 -- ---- an AND or an OR itself

@@ -19,6 +19,7 @@ use Rattle.fs_query.specs.Rules.{is_bad_place}
 use Rattle.fs_query.specs.declared.order.Order.{Order}
 use Rattle.fs_query.proofs.JoiningPaths.{all_put}
 use Rattle.fs_query.proofs.WholeOrdering.{length_with_name}
+use Rattle.std.proofs.Math.Bool.{or-false, or_assoc}
 
 abbrev some_bad : List Order → List Data → Bool
 some_bad os vs = list_any is_bad_place (zip os vs)
@@ -29,15 +30,11 @@ no_places : (os : List Order) → some_bad os [] ≡ false
 no_places [] = refl
 no_places (o ∷ os) = refl
 
-or_assoc : (a b c : Bool) → (a || (b || c)) ≡ ((a || b) || c)
-or_assoc true b c = refl
-or_assoc false b c = refl
-
 some_bad_append : (os ps : List Order) (vs : List Data) → some_bad (os ++ ps) vs ≡ (some_bad os vs || some_bad ps (drop (length os) vs))
 some_bad_append [] ps vs = refl
 some_bad_append (o ∷ os) ps [] = sym (no_places ps)
 some_bad_append (o ∷ os) ps (v ∷ vs) =
-    ap (λ b. is_bad_place (o, v) || b) (some_bad_append os ps vs) ∙ or_assoc (is_bad_place (o, v)) (some_bad os vs) (some_bad ps (drop (length os) vs))
+    ap (λ b. is_bad_place (o, v) || b) (some_bad_append os ps vs) ∙ sym (or_assoc (is_bad_place (o, v)) (some_bad os vs) (some_bad ps (drop (length os) vs)))
 
 -- ---- the places of paths that join ask for nothing
 
@@ -72,16 +69,12 @@ drop_to_last zero (v ∷ w ∷ vs) h = absurd (omega arith)
 drop_to_last (suc k) [] h = absurd (omega arith)
 drop_to_last (suc k) (v ∷ vs) h = drop_to_last k vs (omega arith)
 
-or_false : (a : Bool) → (a || false) ≡ a
-or_false true = refl
-or_false false = refl
-
 name_bad : (o : Order) (k : ℕ) (vs : List Data) → is_name o.path ≡ true → (found : (v : Data) × (drop k vs ≡ v ∷ []) × (slice_get vs k ≡ Some v)) → length vs ≡ suc k
     → some_bad (o ∷ []) (drop k vs) ≡ last_is_bad vs
 name_bad o k vs named (v, e, f) h =
     ap (some_bad (o ∷ [])) e
     ∙ (λ i. (named i && not (is_reference v)) || false)
-    ∙ or_false (not (is_reference v))
+    ∙ or-false (not (is_reference v))
     ∙ ap (λ r. option_map_or (λ x. not (is_reference x)) r false) (sym f)
     ∙ ap (λ n. option_map_or (λ x. not (is_reference x)) (slice_get vs n) false) (let s : k ≡ length vs - 1 = omega arith in s)
 

@@ -15,7 +15,8 @@ use Rattle.fs_value.specs.ValueOrderLaws.{value_cmp_total}
 use Rattle.fs_value.specs.declared.document.Document.{Document}
 use Rattle.fs_query.specs.Asked.{Asked}
 use Rattle.fs_query.specs.Condition.{Condition, anything, compared, is_null, is_not_null, all_of, any_of, Conditions, no_more, one_more, conditions_of}
-use Rattle.fs_query.specs.Elements.{elements, same, is_among, is_null_value}
+use Rattle.fs_value.specs.Elements.{array_contains, elements, same}
+use Rattle.fs_query.specs.Fits.{is_null_value}
 use Rattle.fs_query.specs.Field.{value_at}
 use Rattle.fs_query.specs.Fits.{holds, passes, meets, meets_all, meets_any, one_is_among, has_field, fits}
 use Rattle.fs_query.specs.Inequalities.{has_inequality_fields, have_inequality_fields}
@@ -24,6 +25,7 @@ use Rattle.fs_query.specs.Normal.{is_inequality, alternatives, products, conjunc
 use Rattle.fs_query.specs.declared.op.Op.{Op}
 use Rattle.fs_query.specs.declared.op.Op.TheVariants as op
 use Rattle.fs_query.proofs.OrderFields.{order_fields}
+use Rattle.std.proofs.Math.Bool.{or-false}
 
 -- ---- truth values
 
@@ -35,14 +37,10 @@ and_false : (a : Bool) → false ≡ (a && false)
 and_false true = refl
 and_false false = refl
 
-or_false : (a : Bool) → (a || false) ≡ a
-or_false true = refl
-or_false false = refl
-
 -- g && m where m needs g
 alone_by : (g m : Bool) → (g && m) ≡ m → (((g && true) && (m && true)) || false) ≡ m
 alone_by g m h =
-    or_false ((g && true) && (m && true)) ∙ (λ i. and_true g i && and_true m i) ∙ h
+    or-false ((g && true) && (m && true)) ∙ (λ i. and_true g i && and_true m i) ∙ h
 
 and_across : (a b c d : Bool) → ((a && b) && (c && d)) ≡ ((a && c) && (b && d))
 and_across true true c d = refl
@@ -102,7 +100,7 @@ none_any : (ws : List Data) → list_any (λ w. list_any (λ x. same w x) []) ws
 none_any [] = refl
 none_any (w ∷ ws) = none_any ws
 
-pairs_turned : (vs ws : List Data) → list_any (λ w. is_among w vs) ws ≡ one_is_among vs ws
+pairs_turned : (vs ws : List Data) → list_any (λ w. array_contains vs w) ws ≡ one_is_among vs ws
 pairs_turned [] ws = none_any ws
 pairs_turned (v ∷ vs) ws =
     any_pair v vs ws
@@ -156,22 +154,22 @@ compared_met d p o w =
     alone_by (has_inequality_fields (compared p o w) d) (meets (compared p o w) d) (needs_field (is_inequality o) (value_at p d) (λ v. holds o v w))
 
 in_met : (d : Document) (p : FieldPath) (ws : List Data) (o : Option Data) → value_at p d ≡ o
-    → list_any (met d) (map (λ c. c ∷ []) (map (compared p op.Equal) ws)) ≡ passes (λ v. is_among v ws) o
+    → list_any (met d) (map (λ c. c ∷ []) (map (compared p op.Equal) ws)) ≡ passes (λ v. array_contains ws v) o
 in_met d p [] None e = refl
 in_met d p [] (Some v) e = refl
 in_met d p (w ∷ ws) None e = (λ i. (passes (λ v. same v w) (e i) && true) || in_met d p ws None e i)
-in_met d p (w ∷ ws) (Some v) e = (λ i. (passes (λ x. same x w) (e i) && true) || in_met d p ws (Some v) e i) ∙ ap (λ b. b || is_among v ws) (and_true (same v w))
+in_met d p (w ∷ ws) (Some v) e = (λ i. (passes (λ x. same x w) (e i) && true) || in_met d p ws (Some v) e i) ∙ ap (λ b. b || array_contains ws v) (and_true (same v w))
 
 any_met : (d : Document) (p : FieldPath) (ws : List Data) (o : Option Data) → value_at p d ≡ o
-    → list_any (met d) (map (λ c. c ∷ []) (map (compared p op.ArrayContains) ws)) ≡ passes (λ v. list_any (λ w. is_among w (elements v)) ws) o
+    → list_any (met d) (map (λ c. c ∷ []) (map (compared p op.ArrayContains) ws)) ≡ passes (λ v. list_any (λ w. array_contains (elements v) w) ws) o
 any_met d p [] None e = refl
 any_met d p [] (Some v) e = refl
-any_met d p (w ∷ ws) None e = (λ i. (passes (λ v. is_among w (elements v)) (e i) && true) || any_met d p ws None e i)
+any_met d p (w ∷ ws) None e = (λ i. (passes (λ v. array_contains (elements v) w) (e i) && true) || any_met d p ws None e i)
 any_met d p (w ∷ ws) (Some v) e =
-    (λ i. (passes (λ x. is_among w (elements x)) (e i) && true) || any_met d p ws (Some v) e i)
-    ∙ ap (λ b. b || list_any (λ y. is_among y (elements v)) ws) (and_true (is_among w (elements v)))
+    (λ i. (passes (λ x. array_contains (elements x) w) (e i) && true) || any_met d p ws (Some v) e i)
+    ∙ ap (λ b. b || list_any (λ y. array_contains (elements v) y) ws) (and_true (array_contains (elements v) w))
 
-any_passes : (ws : List Data) (o : Option Data) → passes (λ v. list_any (λ w. is_among w (elements v)) ws) o ≡ passes (λ v. one_is_among (elements v) ws) o
+any_passes : (ws : List Data) (o : Option Data) → passes (λ v. list_any (λ w. array_contains (elements v) w) ws) o ≡ passes (λ v. one_is_among (elements v) ws) o
 any_passes ws None = refl
 any_passes ws (Some v) = pairs_turned (elements v) ws
 

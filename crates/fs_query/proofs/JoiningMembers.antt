@@ -8,7 +8,8 @@ use Rattle.std.proofs.lemmas.List.Elements.{Contains-append_right, Contains-appe
 use Rattle.fs_path.specs.declared.field.FieldPath.{FieldPath}
 use Rattle.fs_query.specs.Laws.{JoiningRise, JoiningAreUnordered}
 use Rattle.fs_query.specs.Normal.{inequality_paths, put_path, in_order, joins}
-use Rattle.fs_query.proofs.JoiningPaths.{by_parts, equal_paths, in_order_rises}
+use Rattle.fs_path.specs.FieldOrder.{by_parts}
+use Rattle.fs_query.proofs.JoiningPaths.{equal_paths, in_order_rises}
 
 -- ---- a list's members
 

@@ -8,7 +8,8 @@ use Rattle.std.specs.declared.cmp.Ordering.{Ordering}
 use Rattle.std.specs.declared.cmp.Ordering.TheVariants.{Less, Equal, Greater}
 use Rattle.std.proofs.Math.Bridge.{le_prop}
 use Rattle.std.proofs.lemmas.List.{drop_more}
-use Rattle.fs_path.specs.TextOrder.{ids_cmp, ids_cmp_total, ids_same}
+use Rattle.fs_path.specs.FieldOrder.{by_parts}
+use Rattle.fs_path.specs.TextOrder.{ids_cmp_total, ids_same}
 use Rattle.fs_path.specs.declared.field.FieldPath.{FieldPath}
 use Rattle.fs_query.specs.Asked.{Asked}
 use Rattle.fs_query.specs.Condition.{conditions_of}
@@ -17,9 +18,6 @@ use Rattle.fs_query.specs.declared.filter.Filter.{Filter}
 use Rattle.fs_query.specs.Joining.{is_above, lesser, nearer, least_of}
 use Rattle.fs_query.specs.Normal.{inequality_paths, inequality_paths_of, put_path, in_order, joins, joining}
 use Rattle.fs_query.specs.declared.order.Order.{Order}
-
-abbrev pub by_parts : FieldPath → FieldPath → Ordering
-by_parts p q = ids_cmp p.parts q.parts
 
 abbrev pub Rise : List FieldPath → Type 0
 Rise ps = IsStrictlySortedBy by_parts ps

@@ -3,7 +3,7 @@ use Rattle.std.proofs.Common.{◌≡◌, ℕ, zero, suc, ◌+◌, ◌<◌, ◌�
 use Rattle.std.specs.Borrow.{Bor}
 use Rattle.std.specs.List.{AllWithin, Contains}
 use Rattle.std.specs.List.Sorted.{IsPermutation, IsPartitionedBy}
-use Rattle.std.specs.Ordering.{is_lt, is_eq, ordering_then, ordering_reverse}
+use Rattle.std.specs.Ordering.{is_lt, is_eq, ordering_reverse}
 use Rattle.std.specs.declared.cmp.Ordering.{Ordering}
 use Rattle.std.proofs.lemmas.List.{get_or-drop, get_or_default, length-drop, map-append, take-append-drop}
 use Rattle.std.proofs.lemmas.List.Sorted.{Contains-permutation, IsPermutation-sym, sorted_far, ranks_by}
@@ -12,6 +12,7 @@ use Rattle.fs_value.specs.Data.{Data, null, boolean, integer, timestamp, string,
 use Rattle.fs_query.specs.PathsBehind.{NamesInOrder, is_before}
 use Rattle.fs_query.specs.Project.{ends_here, rest_behind, rests, if_any, kept_of, kept}
 use Rattle.fs_query.proofs.ProjectionLaws.{rest_in, in_rests, ends_in, in_ends}
+use Rattle.fs_path.proofs.Orders.{less_is, not_less_first}
 
 -- ---- whatever their order
 
@@ -65,17 +66,7 @@ far refs up i j d l m = sorted_far (λ a b. is_lt (ids_cmp a.now b.now)) (ranks_
 earlier_name : (k m key : List ℕ) (o : Ordering) → text_cmp m k ≡ o → is_lt o ≡ false → is_lt (text_cmp m key) ≡ true → is_lt (text_cmp k key) ≡ true
 earlier_name k m key Less e h b = absurd (cc)
 earlier_name k m key Equal e h b = subst (λ z. is_lt (text_cmp z key) ≡ true) (text_same m k e) b
-earlier_name k m key Greater e h b = ap is_lt (text_cmp_total.trans k m key (text_cmp_total.antisymm k m ∙ ap ordering_reverse e) (is_less (text_cmp m key) b))
-  where
-    is_less : (o : Ordering) → is_lt o ≡ true → o ≡ Less
-    is_less Less e = refl
-    is_less Equal e = absurd (cc)
-    is_less Greater e = absurd (cc)
-
-not_less_first : (o s : Ordering) → is_lt (ordering_then o s) ≡ false → is_lt o ≡ false
-not_less_first Less s h = h
-not_less_first Equal s h = refl
-not_less_first Greater s h = refl
+earlier_name k m key Greater e h b = ap is_lt (text_cmp_total.trans k m key (text_cmp_total.antisymm k m ∙ ap ordering_reverse e) (less_is (text_cmp m key) b))
 
 before_earlier : (key : List ℕ) (p q : List (List ℕ)) → is_lt (ids_cmp q p) ≡ false → is_before key q ≡ true → is_before key p ≡ true
 before_earlier key [] q h b = refl

@@ -12,7 +12,7 @@ use Rattle.fs_query.specs.Seen.{seen}
 use Rattle.fs_query.specs.declared.found.Found.{Found}
 use Rattle.fs_query.specs.declared.order.Order.{Order}
 use Rattle.fs_query.proofs.OrderLaws.{found_by_total, orders_total}
-use Rattle.fs_query.proofs.Rising.{sorted_map}
+use Rattle.fs_path.proofs.FieldOrder.{sorted_map}
 
 pub keyed_total : (os : List Order) → IsTotalOrder (keyed_cmp os)
 keyed_total [] = on_total (λ (f : Found). f.document.now) (orders_total [])

@@ -6,7 +6,6 @@ pub mod AnswerLaws
 pub mod Projected
 pub mod ProjectionLaws
 pub mod Weights
-pub mod Elements
 pub mod OrderFields
 pub mod CensusParts
 pub mod PeakProducts

@@ -6,9 +6,8 @@ use Rattle.std.specs.FinMap.Entries.{below_all}
 use Rattle.std.specs.List.{Contains, starts_with}
 use Rattle.std.specs.Ordering.{is_eq, is_lt, eq_by_cmp}
 use Rattle.std.specs.declared.cmp.Ordering.{Ordering}
-use Rattle.std.proofs.lemmas.Cmp.{tied_itself}
 use Rattle.std.proofs.lemmas.List.Elements.{Contains-append_cases, Contains-append_left, Contains-append_right}
-use Rattle.fs_path.specs.TextOrder.{text_cmp, text_eq, text_cmp_total, text_same, text_ties}
+use Rattle.fs_path.specs.TextOrder.{text_cmp, text_eq, text_ties}
 use Rattle.fs_path.specs.declared.field.FieldPath.{FieldPath}
 use Rattle.fs_value.specs.Data.{Data, object, members_of, fields_of, Members, no_members, member}
 use Rattle.fs_value.specs.DataLaws.{fields_of-members_of, members_of-fields_of}
@@ -18,29 +17,18 @@ use Rattle.fs_query.specs.Laws.{PathsAreKept, OthersAreLeftOut, NoMapIsLeftEmpty
 use Rattle.fs_query.specs.Project.{ends_here, rest_behind, rests, if_any, kept_of, kept}
 use Rattle.fs_query.proofs.Projected.{AtMost, none, one, at_most_one, below_kept, first_true, second_true}
 use Rattle.fs_query.proofs.Rising.{has_first, has_later, has_cases, has_none}
+use Rattle.fs_path.specs.TextOrder.{text_alike, text_is, text_itself}
+use Rattle.fs_value.proofs.PathLaws.{apart_below}
 
 -- ---- one key
 
-one_key : (k l : List ℕ) → eq_by_cmp text_cmp k l ≡ true → k ≡ l
-one_key k l is = elim (text_cmp k l) as (λ o. text_cmp k l ≡ o → is_eq o ≡ true → k ≡ l) [
-  | Less ↦ λ e h. absurd (cc)
-  | Equal ↦ λ e h. text_same k l e
-  | Greater ↦ λ e h. absurd (cc)
-] refl is
-
-ties_itself : (k : List ℕ) → eq_by_cmp text_cmp k k ≡ true
-ties_itself k = ap is_eq (tied_itself text_cmp_total k)
-
-one_text : (k l : List ℕ) → text_eq k l ≡ true → k ≡ l
-one_text k l e = one_key k l (sym (text_ties k l) ∙ e)
-
 same_text : (k : List ℕ) → text_eq k k ≡ true
-same_text k = text_ties k k ∙ ties_itself k
+same_text k = text_ties k k ∙ text_itself k
 
 -- ---- the rests of paths behind a key
 
 rest_in_by : (key k : List ℕ) (ks r : List (List ℕ)) (b : Bool) → text_eq k key ≡ b → Contains (cond b (ks ∷ []) []) r → (key ∷ r) ≡ (k ∷ ks)
-rest_in_by key k ks r true e h = elim (has_cases ks [] r h) [ inl s ↦ (λ i. sym (one_text k key e) i ∷ sym s i) | inr s ↦ absurd (has_none r s) ]
+rest_in_by key k ks r true e h = elim (has_cases ks [] r h) [ inl s ↦ (λ i. sym (text_is k key e) i ∷ sym s i) | inr s ↦ absurd (has_none r s) ]
 rest_in_by key k ks r false e h = absurd (has_none r h)
 
 -- each rest is that of one of the paths
@@ -89,7 +77,7 @@ found_here : (ps : List (List (List ℕ))) (k key : List ℕ) (d v : Data) (gs r
 found_here ps k key d v gs rest none is h later = later h
 found_here ps k key d v gs rest (one e) is h later =
     elim (eq_by_cmp text_cmp k key) as (λ b. eq_by_cmp text_cmp k key ≡ b → cond b (Some e) (find text_cmp k rest) ≡ Some v → Found ps k v) [
-      | true ↦ λ t h. kept_from d (subst (λ l. only (kept_of (rests l ps) l d) ≡ Some v) (sym (one_key k key t)) (ap only is ∙ h))
+      | true ↦ λ t h. kept_from d (subst (λ l. only (kept_of (rests l ps) l d) ≡ Some v) (sym (text_alike k key t)) (ap only is ∙ h))
       | false ↦ λ t h. later h
     ] refl h
 
@@ -148,9 +136,6 @@ mutual
 no_paths : (rs : List (List (List ℕ))) → ((r : List (List ℕ)) → ¬ Contains rs r) → rs ≡ []
 no_paths [] h = refl
 no_paths (r ∷ rs) h = absurd (h r (has_first r rs))
-
-apart_below : (k : List ℕ) (p q : List (List ℕ)) → IsApart (k ∷ p) (k ∷ q) → IsApart p q
-apart_below k p q apart = (λ h. apart.0 (begins k p q h), λ h. apart.1 (begins k q p h))
 
 -- no path ends at a key above
 none_ends : (k : List ℕ) (ks : List (List ℕ)) (ps : List (List (List ℕ))) → ((p : List (List ℕ)) → Contains ps p → IsApart p (k ∷ ks)) → ¬ (ends_here (rests k ps) ≡ true)
@@ -257,9 +242,9 @@ find_first : (ps : List (List (List ℕ))) (k key : List ℕ) (d : Data) (ms : M
     → below_all text_cmp key (kept ps ms) ≡ true → find text_cmp k (kept ps ms) ≡ kept_at ps k (find text_cmp k (fields_of ms))
     → find text_cmp k (gs ++ kept ps ms) ≡ kept_at ps k (cond b (Some d) (find text_cmp k (fields_of ms)))
 find_first ps k key d ms gs true e none is below rest =
-    ap (λ l. find text_cmp l (kept ps ms)) (one_key k key e) ∙ find_below key (kept ps ms) below ∙ ap only (sym is) ∙ ap (λ l. only (kept_of (rests l ps) l d)) (sym (one_key k key e))
+    ap (λ l. find text_cmp l (kept ps ms)) (text_alike k key e) ∙ find_below key (kept ps ms) below ∙ ap only (sym is) ∙ ap (λ l. only (kept_of (rests l ps) l d)) (sym (text_alike k key e))
 find_first ps k key d ms gs true e (one v) is below rest =
-    ap (λ b. cond b (Some v) (find text_cmp k (kept ps ms))) e ∙ ap only (sym is) ∙ ap (λ l. only (kept_of (rests l ps) l d)) (sym (one_key k key e))
+    ap (λ b. cond b (Some v) (find text_cmp k (kept ps ms))) e ∙ ap only (sym is) ∙ ap (λ l. only (kept_of (rests l ps) l d)) (sym (text_alike k key e))
 find_first ps k key d ms gs false e none is below rest = rest
 find_first ps k key d ms gs false e (one v) is below rest = ap (λ b. cond b (Some v) (find text_cmp k (kept ps ms))) e ∙ rest
 

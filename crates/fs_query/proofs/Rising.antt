@@ -1,13 +1,13 @@
 -- Lists in strict order: there is only one with given elements, one with the elements of any list, and what is kept of one
 -- rises too.
-use Rattle.std.proofs.Common.{◌≡◌, ℕ, zero, suc, ◌+◌, ◌<◌, Bool, true, false, cond, List, [], ◌∷◌, ◌++◌, length, get_or, map, take, drop, Less, Equal, Greater, ◌⊎◌, inl, inr, refl, sym, ap, ◌∙◌, subst, arith}
+use Rattle.std.proofs.Common.{◌≡◌, ℕ, zero, suc, ◌+◌, ◌<◌, Bool, true, false, cond, List, [], ◌∷◌, ◌++◌, length, get_or, take, drop, Less, Equal, Greater, ◌⊎◌, inl, inr, refl, sym, ap, ◌∙◌, subst, arith}
 use Rattle.std.specs.List.{Contains, AllByRecursion, IsDistinct, filter}
-use Rattle.std.specs.List.Sorted.{IsStrictlySortedBy, IsSorted, IsSortedBy}
+use Rattle.std.specs.List.Sorted.{IsStrictlySortedBy, IsSorted}
 use Rattle.std.specs.Ordering.{is_lt, is_eq, ordering_reverse, eq_by_cmp, match_ordering}
 use Rattle.std.specs.declared.cmp.Ordering.{Ordering}
 use Rattle.std.specs.Cmp.{IsTotalOrder}
 use Rattle.std.proofs.lemmas.Cmp.{tied_itself}
-use Rattle.std.proofs.lemmas.List.{take-append-drop, length-map, get_or-map}
+use Rattle.std.proofs.lemmas.List.{take-append-drop}
 use Rattle.std.proofs.lemmas.List.Elements.{All-contains, All-from_recursion, Contains-append_left, Contains-append_right}
 use Rattle.std.proofs.lemmas.List.Sorted.{sorted_far, ranks_by}
 use Rattle.fs_query.specs.AnswerTo.{put_in, in_rise}
@@ -72,13 +72,6 @@ module _ {X : Type 0} where
       ]
 
 -- ---- lists that a test sorts
-
--- what a test sorts by what f gives, f of each is sorted
-pub sorted_map : {X Y : Type 0} (f : X → Y) (lt : Y → Y → Bool) (xs : List X) → IsSortedBy (λ a b. lt (f a) (f b)) xs → IsSortedBy lt (map f xs)
-sorted_map f lt [] up k d low l = absurd (omega arith)
-sorted_map f lt (x ∷ xs) up k d low l =
-    let within : k + 1 < length (x ∷ xs) = omega (arith, length-map (x ∷ xs) f) in
-    (λ i. lt (get_or-map f (x ∷ xs) (k + 1) x d within i) (get_or-map f (x ∷ xs) k x d (omega arith) i)) ∙ up k x low within
 
 -- ---- lists that rise
 

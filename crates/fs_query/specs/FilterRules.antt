@@ -7,7 +7,7 @@ use Rattle.fs_path.specs.declared.field.FieldPath.{FieldPath}
 use Rattle.fs_value.specs.Data.{Data, reference}
 use Rattle.fs_query.specs.Asked.{Asked}
 use Rattle.fs_query.specs.Condition.{Condition, compared, is_null, is_not_null, all_of, any_of, no_more}
-use Rattle.fs_query.specs.Elements.{elements}
+use Rattle.fs_value.specs.Elements.{elements}
 use Rattle.fs_query.specs.Field.{is_name}
 use Rattle.fs_query.specs.Limits.{max_not_in, max_disjuncts}
 use Rattle.fs_query.specs.Normal.{equalities, conjunctions, disjuncts}

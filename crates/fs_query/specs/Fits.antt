@@ -20,19 +20,23 @@ use Rattle.fs_query.specs.Normal.{whole_order}
 use Rattle.fs_query.specs.declared.op.Op.{Op}
 use Rattle.fs_query.specs.declared.op.Op.TheVariants.{Less, LessEqual, Greater, GreaterEqual, Equal, NotEqual, ArrayContains, In, ArrayContainsAny, NotIn}
 use Rattle.fs_query.specs.declared.order.Order.{Order}
-use Rattle.fs_query.specs.Elements.{elements, same, is_among, is_null_value}
+use Rattle.fs_value.specs.Elements.{array_contains, elements, same}
 
 -- ---- one operator
+
+abbrev pub is_null_value : Data → Bool
+is_null_value null = true
+is_null_value d = false
 
 abbrev pub same_kind : Data → Data → Bool
 same_kind v w = kind v == kind w
 
 -- NOT_IN: null isn't outside of anything, and nothing is where the list has null
 abbrev pub is_outside : Data → List Data → Bool
-is_outside v ws = not (is_null_value v) && (not (is_among null ws) && not (is_among v ws))
+is_outside v ws = not (is_null_value v) && (not (array_contains ws null) && not (array_contains ws v))
 
 abbrev pub one_is_among : List Data → List Data → Bool
-one_is_among vs ws = list_any (λ v. is_among v ws) vs
+one_is_among vs ws = list_any (λ v. array_contains ws v) vs
 
 -- whether a field's value meets an operator with an operand
 abbrev pub holds : Op → Data → Data → Bool
@@ -44,9 +48,9 @@ holds GreaterEqual v w = same_kind v w && is_ge (value_cmp v w)
 holds Equal v w = same v w
 -- null isn't other than anything
 holds NotEqual v w = not (is_null_value v) && not (same v w)
-holds In v w = is_among v (elements w)
+holds In v w = array_contains (elements w) v
 holds NotIn v w = is_outside v (elements w)
-holds ArrayContains v w = is_among w (elements v)
+holds ArrayContains v w = array_contains (elements v) w
 holds ArrayContainsAny v w = one_is_among (elements v) (elements w)
 
 -- ---- a filter

@@ -5,7 +5,6 @@ pub mod ConditionLaws
 pub mod Falls
 pub mod View
 pub mod Field
-pub mod Elements
 pub mod Normal
 pub mod Fits
 pub mod DocumentOrder

@@ -15,7 +15,7 @@ use Rattle.fs_path.specs.TextOrder.{ids_cmp, ids_eq}
 use Rattle.fs_path.specs.declared.field.FieldPath.{FieldPath}
 use Rattle.fs_query.specs.Asked.{Asked}
 use Rattle.fs_query.specs.Condition.{Condition, anything, compared, is_null, is_not_null, all_of, any_of, Conditions, no_more, one_more, conditions_of}
-use Rattle.fs_query.specs.Elements.{elements}
+use Rattle.fs_value.specs.Elements.{elements}
 use Rattle.fs_query.specs.Field.{name_path, is_name}
 use Rattle.fs_query.specs.declared.op.Op.{Op}
 use Rattle.fs_query.specs.declared.op.Op.TheVariants.{Less, LessEqual, Greater, GreaterEqual, Equal, NotEqual, ArrayContains, In, ArrayContainsAny, NotIn}

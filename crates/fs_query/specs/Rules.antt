@@ -19,9 +19,8 @@ use Rattle.std.specs.Prelude.{ℕ, ℤ, pos, negsuc, Bool, true, false, not, ◌
 use Rattle.std.specs.List.{list_any, zip}
 use Rattle.std.specs.Option.{option_map_or}
 use Rattle.fs_path.specs.Segment.{is_bad_id}
-use Rattle.fs_path.specs.declared.scope.Scope.{Scope}
-use Rattle.fs_path.specs.declared.scope.Scope.TheVariants.{Collection, Group}
 use Rattle.fs_value.specs.Data.{Data}
+use Rattle.fs_path.specs.Scope.{scope_id}
 use Rattle.fs_query.specs.Asked.{Asked}
 use Rattle.fs_query.specs.Field.{is_name}
 use Rattle.fs_query.specs.Limits.{most_told}
@@ -34,12 +33,8 @@ use Rattle.fs_query.specs.FilterRules.{is_reference, is_bad_path, has_bad_path_i
 
 -- ---- 1
 
-abbrev pub collection_id : Scope → List ℕ
-collection_id (Collection parent id) = id
-collection_id (Group parent id) = id
-
 abbrev pub has_bad_collection : Asked → Bool
-has_bad_collection q = is_bad_id (collection_id q.scope)
+has_bad_collection q = is_bad_id (scope_id q.scope)
 
 -- ---- 2
 

@@ -24,6 +24,7 @@ use std::cmp::Ordering;
 
 /// The answer to a query over documents whose names rise: those that fit, in its order, as its cursors, offset and limit
 /// cut them. (v1 reference, "StructuredQuery".)
+/// (docs/DECISIONS.md, "A query's answer is stated as a property, and given as a function too".)
 pub fn answer(alloc: Global, q: &Query, docs: &Documents) -> Result<Documents, AllocError>
     requires { IsTrue (is_sorted name_cmp (by_name docs.now)) }
     ensures { IfOk result (λ ds. IsAnswer q.now docs.now ds) }

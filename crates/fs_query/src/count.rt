@@ -3,7 +3,7 @@ ghost use Rattle.std.specs.Prelude.{◌≡◌, ◌+◌, ◌*◌, length, min};
 ghost use Rattle.fs_path.specs.declared.field.FieldPath.{FieldPath};
 ghost use Rattle.fs_value.specs.View.{view as value_view};
 ghost use Rattle.fs_query.specs.Condition.{compared, conditions_of};
-ghost use Rattle.fs_query.specs.Elements.{elements};
+ghost use Rattle.fs_value.specs.Elements.{elements};
 ghost use Rattle.fs_query.specs.Limits.{most_told};
 ghost use Rattle.fs_query.specs.Normal.{alternatives, conjunctions, conjunctions_of_all, conjunctions_of_any};
 ghost use Rattle.fs_query.specs.View.{view};

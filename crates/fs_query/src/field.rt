@@ -4,7 +4,8 @@ ghost use Rattle.std.specs.Prelude.{List};
 ghost use Rattle.fs_value.specs.Data.{Data};
 ghost use Rattle.fs_value.specs.ValueOrder.{kind as kind_of, value_cmp};
 ghost use Rattle.fs_value.specs.View.{view};
-ghost use Rattle.fs_query.specs.Elements.{elements, is_among, is_null_value};
+ghost use Rattle.fs_value.specs.Elements.{array_contains, elements};
+ghost use Rattle.fs_query.specs.Fits.{is_null_value};
 ghost use Rattle.fs_query.specs.Field.{is_name, name_path, value_at};
 ghost use Rattle.fs_query.specs.Seen.{seen};
 
@@ -110,7 +111,7 @@ pub(crate) fn seen_elements(v: Seen<'_>) -> &[Value]
 
 /// Whether a value is among these.
 pub(crate) fn is_among(v: Seen<'_>, values: &[Value]) -> bool
-    ensures { result ≡ is_among (seen v.entry) (map view values.now) }
+    ensures { result ≡ array_contains (map view values.now) (seen v.entry) }
 {
     for value in values {
         if compare_seen(v, Seen::Value(value)) == Ordering::Equal {

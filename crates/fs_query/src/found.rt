@@ -15,6 +15,7 @@ use std::cmp::Ordering;
 
 /// A document that fits, and what stands at the first field of the order, which most comparisons go by: so it is looked up
 /// once. Ordered by `n`, `{n: 2, m: 1}` of `c/a` stands with 2.
+/// (docs/DECISIONS.md, "A document that is found stands with what is at the first field of the order".)
 #[derive(Clone, Copy)]
 pub(crate) struct Found<'a> {
     pub(crate) document: &'a Document,

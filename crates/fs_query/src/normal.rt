@@ -32,6 +32,7 @@ impl Normal {
 }
 
 /// The normal form of a query. (Cloud Firestore documentation, "Order and limit data" and "Query operators".)
+/// (docs/DECISIONS.md, "`normal_form`".)
 pub fn normal_form(alloc: Global, q: &Query) -> Result<Normal, AllocError>
     ensures orders { IfOk result (λ n. n.orders ≡ whole_order q.now) }
     ensures disjuncts { IfOk result (λ n. n.disjuncts ≡ disjuncts q.now.filter) }

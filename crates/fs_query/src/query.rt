@@ -9,6 +9,7 @@ use std::alloc::{AllocError, Global};
 use std::marker::Model;
 
 /// A structured query (v1 reference, "StructuredQuery"). Contracts see what it asks, as `Asked`.
+/// (docs/DECISIONS.md, "A query's contract speaks of what it asks".)
 #[derive(Drop, Debug)]
 pub struct Query {
     /// `from`, below the parent of the request.

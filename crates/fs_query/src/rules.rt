@@ -21,7 +21,7 @@ use crate::peaks::{Peaks, peaks_of};
 use crate::query::Query;
 use crate::rule::QueryRule;
 use crate::whole_order::is_ordered;
-use fs_path::{FieldPath, Paths, Scope, Text, is_bad_field_name, is_bad_id};
+use fs_path::{FieldPath, Paths, Text, is_bad_field_name, is_bad_id};
 use fs_value::Value;
 use std::alloc::{AllocError, Global};
 
@@ -52,6 +52,7 @@ pub fn check(q: &Query) -> Option<QueryRule>
 
 /// The least rule of queries that a query breaks, or none, as `check` tells it, in the time of a sort. The paths of the
 /// orders and of inequalities are sorted, for which it takes memory; it refuses only for want of it.
+/// (docs/DECISIONS.md, "The rules of a query are told twice".)
 #[tactic(auto, using(crate::proofs::RuleParts::late_rule))]
 pub fn check_with(alloc: Global, q: &Query) -> Result<Option<QueryRule>, AllocError>
     ensures { IfOk result (λ r. r ≡ rule_of_query q.now) }
@@ -216,10 +217,7 @@ fn is_negative(number: i32) -> bool
 fn has_bad_collection(q: &Query) -> bool
     ensures { result ≡ has_bad_collection q.now }
 {
-    match &q.scope {
-        Scope::Collection { id, .. } => is_bad_id(id.as_str()),
-        Scope::Group { id, .. } => is_bad_id(id.as_str()),
-    }
+    is_bad_id(q.scope.id().as_str())
 }
 
 /// Whether a path has a bad name. `__name__` may be a whole path.

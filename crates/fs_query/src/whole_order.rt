@@ -3,7 +3,7 @@ ghost use Rattle.std.specs.Prelude.{◌≡◌, ◌+◌, ◌-◌, ◌^◌, ◌++�
 ghost use Rattle.std.specs.Option.{option_copied};
 ghost use Rattle.fs_query.specs.Condition.{conditions_of};
 ghost use Rattle.fs_query.specs.Field.{name_path};
-ghost use Rattle.fs_query.specs.SortedPaths.{paths_at};
+ghost use Rattle.fs_path.specs.FieldOrder.{paths_at};
 ghost use Rattle.fs_query.specs.Joining.{is_above, nearer, least_of};
 ghost use Rattle.fs_query.specs.Normal.{inequality_paths, inequality_paths_of, is_ordered, joined, joining, last_descending, whole_order};
 ghost use Rattle.fs_query.specs.View.{view};
@@ -20,6 +20,7 @@ use std::cmp::Ordering;
 
 /// The orders that are given, the fields of inequalities that join them in the order of their paths, and the name, if it
 /// isn't among them.
+/// (docs/DECISIONS.md, "The order fields that a document has to have are those of the whole order".)
 #[tactic(auto, using(crate::proofs::WholeOrdering::with_name, crate::proofs::WholeOrdering::without_name))]
 pub(crate) fn whole_order(alloc: Global, q: &Query) -> Result<Orders, AllocError>
     ensures { IfOk result (λ os. os ≡ whole_order q.now) }

@@ -9,9 +9,9 @@ use Rattle.fs_path.specs.declared.scope.Scope.{Scope}
 use Rattle.fs_path.specs.declared.scope.Scope.TheVariants.{Collection, Group}
 use Rattle.serde_json.specs.Data as json
 use Rattle.serde_json.specs.View.{items_of}
-use Rattle.fs_json.specs.Answer.{or_fault}
+use Rattle.fs_json.specs.Answer.{or_fault, made}
 use Rattle.fs_json.specs.Integer.{small_json}
-use Rattle.fs_json.specs.Members.{member_at, only_at}
+use Rattle.fs_json.specs.Members.{member_at, only_at, member_or}
 use Rattle.fs_json.specs.Walk.{each_at}
 use Rattle.fs_json.specs.declared.bad.Bad.{Bad}
 use Rattle.fs_value.specs.Data.{Data}
@@ -19,15 +19,16 @@ use Rattle.fs_query.specs.Asked.{Asked}
 use Rattle.fs_query.specs.Condition.{Condition, anything, compared, is_null, is_not_null, all_of, any_of}
 use Rattle.fs_query.specs.declared.cursor.Cursor.{Cursor}
 use Rattle.fs_query.specs.declared.order.Order.{Order}
-use Rattle.fs_valjson.specs.Reading.{made}
+use Rattle.fs_json.specs.Paths.{IsPathHeld}
 use Rattle.fs_valjson.specs.Writing.{ItemsHaveNames}
 use Rattle.fs_value.specs.Data as value
 use Rattle.fs_queryjson.specs.Cursor.{cursor_at, cursor_in, cursor_json}
 use Rattle.fs_queryjson.specs.Field.{field_at}
 use Rattle.fs_queryjson.specs.Filter.{filter_at, where_in}
-use Rattle.fs_queryjson.specs.From.{from_json, parent_of, scopes_at, scopes_in}
-use Rattle.fs_queryjson.specs.Held.{AreFirstHeld, AreLastHeld, AreValuesHeld, IsCursorHeld, IsHeld, IsLimitHeld, IsOrderHeld, IsPathHeld, IsSelectHeld, IsSmallHeld}
-use Rattle.fs_queryjson.specs.Member.{member_or, small_at}
+use Rattle.fs_path.specs.Scope.{scope_parent}
+use Rattle.fs_queryjson.specs.From.{from_json, scopes_at, scopes_in}
+use Rattle.fs_queryjson.specs.Held.{AreFirstHeld, AreLastHeld, AreValuesHeld, IsCursorHeld, IsHeld, IsLimitHeld, IsOrderHeld, IsSelectHeld, IsSmallHeld}
+use Rattle.fs_queryjson.specs.Member.{small_at}
 use Rattle.fs_queryjson.specs.Order.{order_at, order_json, orders_at, orders_in}
 use Rattle.fs_queryjson.specs.Query.{limit_in, offset_in, permitted_at, query_at, query_members, walked_at, unless_broken}
 use Rattle.fs_queryjson.specs.Select.{fields_json, select_at, select_in, select_json, selection_of}
@@ -51,7 +52,7 @@ select_again None place held some = refl
 select_again (Some []) place held some = absurd some
 select_again (Some (p ∷ ps)) place held some = ap (made selection_of) (fields_again (p ∷ ps) 0 (member_place place (codes "fields")) held)
 
-from_again : (s : Scope) (place : List ℕ) → scopes_at (parent_of s) (from_json s) place ≡ Ok (s ∷ [])
+from_again : (s : Scope) (place : List ℕ) → scopes_at (scope_parent s) (from_json s) place ≡ Ok (s ∷ [])
 from_again (Collection parent id) place = refl
 from_again (Group parent id) place = refl
 
@@ -146,7 +147,7 @@ pub walked : (parent : List (List ℕ)) (d : json.Data) (place : List ℕ) (q : 
 unfolding walked_at
 walked parent d place q known select scopes filter orders start end offset limit = rw (known, select, scopes, filter, orders, start, end, offset, limit) refl
 
-pub query_again : (q : Asked) (place : List ℕ) → AreLastHeld q → AreFirstHeld q → IsValid q → query_at (parent_of q.scope) (query_json q) place ≡ Ok q
+pub query_again : (q : Asked) (place : List ℕ) → AreLastHeld q → AreFirstHeld q → IsValid q → query_at (scope_parent q.scope) (query_json q) place ≡ Ok q
 unfolding query_json
 query_again q place last first valid =
     let rows = query_parts q in
@@ -155,7 +156,7 @@ query_again q place last first valid =
     let select = member_or-there None select_at (codes "select") d place (option_map select_json q.select) q.select
     (member_at-there (codes "select") rows place _ (option_or-none _) (select_given (codes "select") q.select) refl)
     (select_again q.select (at (codes "select")) last.select valid.select) in
-    let scopes = member_or-there [] (scopes_at (parent_of q.scope)) (codes "from") d place (Some (from_json q.scope)) (q.scope ∷ [])
+    let scopes = member_or-there [] (scopes_at (scope_parent q.scope)) (codes "from") d place (Some (from_json q.scope)) (q.scope ∷ [])
     (member_at-there (codes "from") rows place _ refl refl refl)
     (from_again q.scope (at (codes "from"))) in
     let filter = member_or-there anything filter_at (codes "where") d place (where_json q.filter) q.filter
@@ -176,5 +177,5 @@ query_again q place last first valid =
     let limit = member_or-there None read_small (codes "limit") d place (option_map small_json q.limit) q.limit
     (member_at-there (codes "limit") rows place _ (option_or-none _) (limit_given (codes "limit") q.limit) refl)
     (limit_again q.limit (at (codes "limit")) first.limit) in
-    walked (parent_of q.scope) d place q (only_at-there query_members rows place refl refl) select scopes filter orders start end offset limit
+    walked (scope_parent q.scope) d place q (only_at-there query_members rows place refl refl) select scopes filter orders start end offset limit
     ∙ ap (λ rule. unless_broken rule q place) valid.allowed

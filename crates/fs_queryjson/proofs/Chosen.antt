@@ -6,10 +6,9 @@ use Rattle.fs_path.specs.Place.{member_place}
 use Rattle.fs_path.specs.declared.place.Rule.TheVariants.{G}
 use Rattle.serde_json.specs.Data as json
 use Rattle.fs_json.specs.Answer.{◌>>=◌}
-use Rattle.fs_json.specs.Members.{at_most_one_at, chosen, one_of_at, only_at}
+use Rattle.fs_json.specs.Members.{at_most_one_at, chosen, one_of_at, only_at, the_one}
 use Rattle.fs_json.specs.declared.bad.Bad.TheVariants.{At}
-use Rattle.fs_valjson.specs.ChoiceLaws.{one_more, the_one-map, in_turn, one_or_fault}
-use Rattle.fs_valjson.specs.Reading.{the_one}
+use Rattle.fs_json.proofs.Choices.{one_more, the_one-map, in_turn, one_or_fault}
 use Rattle.fs_queryjson.specs.Filter.{filter_at, filter_kinds, filters_at, inner_in, inner_members, kind_at, kinds_in, simple_at}
 use Rattle.fs_queryjson.specs.Steps.{composite_at, inner_at, the_filter, the_inner}
 

@@ -3,26 +3,23 @@ use Rattle.std.proofs.Common.{◌≡◌, ℕ, ◌+◌, Bool, true, false, List, 
 use Rattle.fs_path.specs.Place.{member_place, item_place}
 use Rattle.fs_path.specs.declared.field.FieldPath.{FieldPath}
 use Rattle.serde_json.specs.Data as json
-use Rattle.fs_json.specs.FieldPathLaws.{path_of-is}
-use Rattle.fs_json.specs.Paths.{field_path_at, named, path_at}
-use Rattle.fs_path.specs.Field.{field_text}
+use Rattle.fs_json.proofs.FieldPaths.{path_again}
+use Rattle.fs_json.specs.Answer.{made}
+use Rattle.fs_json.specs.Paths.{IsPathHeld}
 use Rattle.fs_value.specs.Data.{Data, null, boolean, integer, timestamp, string, bytes, reference, array, object}
 use Rattle.fs_query.specs.Condition.{Condition, anything, compared, is_null, is_not_null, all_of, any_of, Conditions, no_more, one_more, condition_list, conditions_of}
 use Rattle.fs_query.specs.declared.op.Op.{Op}
 use Rattle.fs_query.specs.declared.op.Op.TheVariants.{Less, LessEqual, Greater, GreaterEqual, Equal, NotEqual, ArrayContains, In, ArrayContainsAny, NotIn}
-use Rattle.fs_valjson.specs.Reading.{made, value_at}
+use Rattle.fs_valjson.specs.Reading.{value_at}
 use Rattle.fs_valjson.specs.Writing.{HasNames, value_json}
 use Rattle.fs_queryjson.specs.Field.{field_at, field_json}
 use Rattle.fs_queryjson.specs.Filter.{compare_at, each_filter_at, filter_at, joined, nullness, unary_at}
-use Rattle.fs_queryjson.specs.Held.{AreHeld, IsHeld, IsOperandHeld, IsPathHeld}
+use Rattle.fs_queryjson.specs.Held.{AreHeld, IsHeld, IsOperandHeld}
 use Rattle.fs_queryjson.specs.Op.{is_null_at, null_name, op_at, op_name}
 use Rattle.fs_queryjson.specs.Valid.{AreFilters, IsFilter}
 use Rattle.fs_queryjson.specs.Written.{compare_json, filter_json, filters_json, unary_json}
 
 -- ---- fields and operators
-
-path_again : (p : FieldPath) (place : List ℕ) → IsPathHeld p → field_path_at (json.string (field_text p.parts)) place ≡ Ok p
-path_again p place held = ap (λ r. path_at place (named r)) held ∙ ap (path_at place) (path_of-is p)
 
 pub field_again : (p : FieldPath) (place : List ℕ) → IsPathHeld p → field_at (field_json p) place ≡ Ok p
 field_again p place held = path_again p (member_place place (codes "fieldPath")) held

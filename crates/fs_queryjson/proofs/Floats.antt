@@ -14,7 +14,7 @@ use Rattle.fs_query.specs.Asked.{Asked}
 use Rattle.fs_query.specs.Condition.{Condition, anything, compared, is_null, is_not_null, all_of, any_of, Conditions, no_more, one_more}
 use Rattle.fs_query.specs.declared.cursor.Cursor.{Cursor}
 use Rattle.fs_query.specs.declared.order.Order.{Order}
-use Rattle.fs_valjson.specs.FloatLaws.{list_float, value_float}
+use Rattle.fs_valjson.proofs.Floats.{list_float, value_float}
 use Rattle.fs_queryjson.specs.Cursor.{cursor_json}
 use Rattle.fs_queryjson.specs.From.{from_json}
 use Rattle.fs_queryjson.specs.Order.{order_json}

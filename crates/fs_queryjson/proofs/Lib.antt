@@ -1,8 +1,12 @@
 pub mod Again
 pub mod Chosen
 pub mod FilterAgain
+pub mod FilterDepth
+pub mod FilterValid
 pub mod Floats
 pub mod Lists
 pub mod Put
+pub mod QueryDepth
+pub mod QueryValid
 pub mod Rows
 pub mod Written

@@ -2,7 +2,7 @@
 use Rattle.std.proofs.Common.{◌≡◌, ℕ, ◌+◌, List, [], ◌∷◌, ◌++◌, Ok}
 use Rattle.fs_path.specs.Place.{item_place}
 use Rattle.serde_json.specs.Data as json
-use Rattle.fs_json.specs.WalkLaws.{behind, behind-more}
+use Rattle.fs_json.proofs.Walks.{behind, behind-more}
 use Rattle.fs_query.specs.Condition.{Condition}
 use Rattle.fs_queryjson.specs.Filter.{each_filter_at, filter_at}
 

@@ -14,6 +14,8 @@ use Rattle.fs_json.specs.Names.{snake_of, spells}
 use Rattle.fs_json.specs.declared.bad.Bad.TheVariants.{At}
 use Rattle.fs_queryjson.specs.Steps.{with_put}
 use Rattle.fs_queryjson.specs.Written.{those_there, with_member}
+use Rattle.std.proofs.lemmas.Bool.{and_parts, or_parts}
+use Rattle.fs_path.proofs.Orders.{less_is}
 
 abbrev pub Row : Type 0
 Row = List ℕ × Option Data
@@ -78,10 +80,6 @@ all_known names (r ∷ rows) = list_any (λ name. spells name r.0) names && all_
 abbrev pub some_second : List (List ℕ) → Members → List Row → Bool
 some_second names all rows = list_any (λ r. is_second names all r.0) rows
 
-both : (a b : Bool) → a && b ≡ true → (a ≡ true) × (b ≡ true)
-both true b h = (refl, h)
-both false b h = absurd (cc)
-
 known_with : (names : List (List ℕ)) (k : List ℕ) (o : Option Data) (rest : Members) → list_any (λ name. spells name k) names ≡ true
     → first_unknown names (with_member k o rest) ≡ first_unknown names rest
 known_with names k None rest known = refl
@@ -90,12 +88,8 @@ known_with names k (Some d) rest known = rw known refl
 first_unknown-there : (names : List (List ℕ)) (rows : List Row) → all_known names rows ≡ true → first_unknown names (those_there rows) ≡ None
 first_unknown-there names [] known = refl
 first_unknown-there names (r ∷ rows) known =
-    let h = both (list_any (λ name. spells name r.0) names) (all_known names rows) known in
+    let h = and_parts (list_any (λ name. spells name r.0) names) (all_known names rows) known in
     known_with names r.0 r.1 (those_there rows) h.0 ∙ first_unknown-there names rows h.1
-
-neither : (a b : Bool) → a || b ≡ false → (a ≡ false) × (b ≡ false)
-neither true b h = absurd (cc)
-neither false b h = (refl, h)
 
 never : {A : Type 0} (a b : Bool) (x y : A) → b ≡ false → cond (a && b) x y ≡ y
 never true b x y h = rw h refl
@@ -109,7 +103,7 @@ once_with names all k (Some d) rest once = never (is_given k d) (is_second names
 first_twice-there : (names : List (List ℕ)) (all : Members) (rows : List Row) → some_second names all rows ≡ false → first_twice names all (those_there rows) ≡ None
 first_twice-there names all [] once = refl
 first_twice-there names all (r ∷ rows) once =
-    let h = neither (is_second names all r.0) (some_second names all rows) once in
+    let h = or_parts (is_second names all r.0) (some_second names all rows) once in
     once_with names all r.0 r.1 (those_there rows) h.0 ∙ first_twice-there names all rows h.1
 
 first_wrong-there : (names : List (List ℕ)) (rows : List Row) → all_known names rows ≡ true → some_second names (those_there rows) rows ≡ false
@@ -137,11 +131,6 @@ abbrev pub rise : List Row → Bool
 rise [] = true
 rise (r ∷ rows) = is_ahead r.0 rows && rise rows
 
-less : (o : Ordering) → is_lt o ≡ true → o ≡ Less
-less Less h = refl
-less Equal h = cc
-less Greater h = cc
-
 put_before : (k : List ℕ) (d : Data) (l : List ℕ) (o : Option Data) (rest : Members) → slice_cmp nat_cmp k l ≡ Less → put k d rest ≡ member k d rest
     → put k d (with_member l o rest) ≡ member k d (with_member l o rest)
 put_before k d l None rest lower h = h
@@ -150,8 +139,8 @@ put_before k d l (Some e) rest lower h = rw lower refl
 put_ahead : (k : List ℕ) (d : Data) (rows : List Row) → is_ahead k rows ≡ true → put k d (those_there rows) ≡ member k d (those_there rows)
 put_ahead k d [] h = refl
 put_ahead k d (r ∷ rows) h =
-    let b = both (is_lt (slice_cmp nat_cmp k r.0)) (is_ahead k rows) h in
-    put_before k d r.0 r.1 (those_there rows) (less _ b.0) (put_ahead k d rows b.1)
+    let b = and_parts (is_lt (slice_cmp nat_cmp k r.0)) (is_ahead k rows) h in
+    put_before k d r.0 r.1 (those_there rows) (less_is _ b.0) (put_ahead k d rows b.1)
 
 with_put-ahead : (k : List ℕ) (o : Option Data) (rows : List Row) → is_ahead k rows ≡ true → with_put k o (those_there rows) ≡ with_member k o (those_there rows)
 with_put-ahead k None rows h = refl
@@ -160,5 +149,5 @@ with_put-ahead k (Some d) rows h = put_ahead k d rows h
 pub put_rows-there : (rows : List Row) → rise rows ≡ true → put_rows rows ≡ those_there rows
 put_rows-there [] h = refl
 put_rows-there (r ∷ rows) h =
-    let b = both (is_ahead r.0 rows) (rise rows) h in
+    let b = and_parts (is_ahead r.0 rows) (rise rows) h in
     ap (with_put r.0 r.1) (put_rows-there rows b.1) ∙ with_put-ahead r.0 r.1 rows b.0

@@ -26,8 +26,3 @@ items_push (x ∷ js) j (e ∷ cs) c written one =
 pub held_push : (cs : List Condition) (c : Condition) → AreHeld (conditions_of cs) → IsHeld c → AreHeld (conditions_of (cs ++ c ∷ []))
 held_push [] c h one = (one, tt)
 held_push (e ∷ cs) c h one = (h.0, held_push cs c h.1 one)
-
--- a fact that holds anyhow
-pub on_ok_always : {T E P : Type 0} (r : Result T E) → P → OnOk r P
-on_ok_always (Ok x) p = p
-on_ok_always (Err e) p = record {}

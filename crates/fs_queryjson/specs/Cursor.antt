@@ -4,14 +4,14 @@
 --     just after 1     {"values":[{"integerValue":"1"}]}
 use Rattle.std.specs.Prelude.{ℕ, Bool, true, false, List, [], ◌∷◌, Option, Some, None, Result, Ok, codes}
 use Rattle.serde_json.specs.Data as json
-use Rattle.fs_json.specs.Answer.{◌>>=◌}
-use Rattle.fs_json.specs.Members.{only_at}
+use Rattle.fs_json.specs.Answer.{◌>>=◌, made}
+use Rattle.fs_json.specs.Members.{only_at, member_or}
 use Rattle.fs_json.specs.declared.bad.Bad.{Bad}
 use Rattle.fs_value.specs.Data.{Data}
 use Rattle.fs_query.specs.declared.cursor.Cursor.{Cursor}
-use Rattle.fs_valjson.specs.Reading.{list_at, made}
+use Rattle.fs_valjson.specs.Reading.{list_at}
 use Rattle.fs_valjson.specs.Writing.{list_json}
-use Rattle.fs_queryjson.specs.Member.{member_or, truth_at}
+use Rattle.fs_queryjson.specs.Member.{truth_at}
 
 abbrev pub cursor_members : List (List ℕ)
 cursor_members = codes "values" ∷ codes "before" ∷ []

@@ -3,15 +3,13 @@
 --     the field city of the map address     {"fieldPath":"address.city"}
 --     the document's name                   {"fieldPath":"__name__"}
 use Rattle.std.specs.Prelude.{ℕ, List, [], ◌∷◌, Result, codes}
-use Rattle.fs_path.specs.Field.{field_text}
 use Rattle.fs_path.specs.Place.{member_place}
 use Rattle.fs_path.specs.declared.field.FieldPath.{FieldPath}
 use Rattle.serde_json.specs.Data as json
 use Rattle.fs_json.specs.Answer.{◌>>=◌}
-use Rattle.fs_json.specs.Members.{only_at, required_at}
-use Rattle.fs_json.specs.Paths.{field_path_at}
+use Rattle.fs_json.specs.Members.{only_at, required_at, with_one}
+use Rattle.fs_json.specs.Paths.{field_path_at, path_json}
 use Rattle.fs_json.specs.declared.bad.Bad.{Bad}
-use Rattle.fs_valjson.specs.Writing.{with_one}
 
 abbrev pub field_members : List (List ℕ)
 field_members = codes "fieldPath" ∷ []
@@ -27,4 +25,4 @@ field_in d place = required_at (codes "field") d place >>= λ field. field_at fi
 
 -- as it is written
 abbrev pub field_json : FieldPath → json.Data
-field_json p = with_one (codes "fieldPath") (json.string (field_text p.parts))
+field_json p = with_one (codes "fieldPath") (path_json p)

@@ -5,14 +5,13 @@ use Rattle.fs_path.specs.Place.{member_place, item_place}
 use Rattle.fs_path.specs.declared.field.FieldPath.{FieldPath}
 use Rattle.fs_path.specs.declared.place.Rule.TheVariants.{G}
 use Rattle.serde_json.specs.Data as json
-use Rattle.fs_json.specs.Answer.{◌>>=◌}
-use Rattle.fs_json.specs.Members.{if_chosen, only_at, required_at}
+use Rattle.fs_json.specs.Answer.{◌>>=◌, made}
+use Rattle.fs_json.specs.Members.{if_chosen, only_at, required_at, the_one, member_or, required_as}
 use Rattle.fs_json.specs.declared.bad.Bad.{Bad}
 use Rattle.fs_json.specs.declared.bad.Bad.TheVariants.{At}
 use Rattle.fs_query.specs.Condition.{Condition, anything, compared, is_null, is_not_null, all_of, any_of, conditions_of}
-use Rattle.fs_valjson.specs.Reading.{made, the_one, value_at}
+use Rattle.fs_valjson.specs.Reading.{value_at}
 use Rattle.fs_queryjson.specs.Field.{field_in}
-use Rattle.fs_queryjson.specs.Member.{member_or}
 use Rattle.fs_queryjson.specs.Op.{is_and_at, is_null_at, op_at}
 
 -- the members of which a filter has just one, and those of each
@@ -30,10 +29,6 @@ compare_members = codes "field" ∷ codes "op" ∷ codes "value" ∷ []
 
 abbrev pub unary_members : List (List ℕ)
 unary_members = codes "op" ∷ codes "field" ∷ []
-
--- a member that has to be there, as it is read at its own place
-abbrev pub required_as : {A : Type 0} → (json.Data → List ℕ → Result A Bad) → List ℕ → json.Data → List ℕ → Result A Bad
-required_as read name d place = required_at name d place >>= λ x. read x (member_place place name)
 
 -- ---- filters on one field
 

@@ -8,10 +8,10 @@ use Rattle.fs_path.specs.declared.scope.Scope.{Scope}
 use Rattle.fs_path.specs.declared.scope.Scope.TheVariants.{Collection, Group}
 use Rattle.serde_json.specs.Data as json
 use Rattle.fs_json.specs.Answer.{◌>>=◌}
-use Rattle.fs_json.specs.Members.{only_at}
+use Rattle.fs_json.specs.Members.{only_at, member_or}
 use Rattle.fs_json.specs.Walk.{all_at}
 use Rattle.fs_json.specs.declared.bad.Bad.{Bad}
-use Rattle.fs_queryjson.specs.Member.{member_or, text_at, truth_at}
+use Rattle.fs_queryjson.specs.Member.{text_at, truth_at}
 
 abbrev pub from_members : List (List ℕ)
 from_members = codes "collectionId" ∷ codes "allDescendants" ∷ []
@@ -35,10 +35,6 @@ scopes_in parent d place = member_or [] (scopes_at parent) (codes "from") d plac
 abbrev pub the_scope : List (List ℕ) → List Scope → Scope
 the_scope parent (scope ∷ []) = scope
 the_scope parent _ = Collection parent []
-
-abbrev pub parent_of : Scope → List (List ℕ)
-parent_of (Collection parent id) = parent
-parent_of (Group parent id) = parent
 
 -- ---- writing
 

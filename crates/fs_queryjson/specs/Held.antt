@@ -1,7 +1,6 @@
 -- What only private clauses cite: that the parts of a query, as they are written, are read back.
 use Rattle.std.specs.Prelude.{◌≡◌, ℕ, ℤ, List, Option, Some, None, Ok}
 use Rattle.std.specs.List.{AllByRecursion}
-use Rattle.fs_path.specs.Field.{field_of, field_text}
 use Rattle.fs_path.specs.declared.field.FieldPath.{FieldPath}
 use Rattle.fs_json.specs.Integer.{small_json, small_of}
 use Rattle.fs_value.specs.Data.{Data, items_of}
@@ -11,10 +10,7 @@ use Rattle.fs_query.specs.declared.cursor.Cursor.{Cursor}
 use Rattle.fs_query.specs.declared.order.Order.{Order}
 use Rattle.fs_valjson.specs.Reading.{list_at, value_at}
 use Rattle.fs_valjson.specs.Writing.{HasNames, ItemsHaveNames, list_json, value_json}
-
--- a field path's text
-abbrev pub IsPathHeld : FieldPath → Type 0
-IsPathHeld p = field_of (field_text p.parts) ≡ Ok p.parts
+use Rattle.fs_json.specs.Paths.{IsPathHeld}
 
 -- an operand's value
 abbrev pub IsOperandHeld : Data → Type 0

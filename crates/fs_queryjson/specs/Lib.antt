@@ -10,6 +10,4 @@ pub mod Query
 pub mod Steps
 pub mod Written
 pub mod Valid
-pub mod ValidLaws
-pub mod DepthLaws
 pub mod Held

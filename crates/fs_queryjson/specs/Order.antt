@@ -6,12 +6,11 @@ use Rattle.std.specs.Str.{bytes_eq}
 use Rattle.serde_json.specs.Data as json
 use Rattle.serde_json.specs.View.{items_of}
 use Rattle.fs_json.specs.Answer.{◌>>=◌}
-use Rattle.fs_json.specs.Members.{only_at}
+use Rattle.fs_json.specs.Members.{only_at, member_or}
 use Rattle.fs_json.specs.Walk.{all_at}
 use Rattle.fs_json.specs.declared.bad.Bad.{Bad}
 use Rattle.fs_query.specs.declared.order.Order.{Order}
 use Rattle.fs_queryjson.specs.Field.{field_in, field_json}
-use Rattle.fs_queryjson.specs.Member.{member_or}
 use Rattle.fs_queryjson.specs.Op.{named_at}
 
 abbrev pub order_members : List (List ℕ)

@@ -3,18 +3,17 @@
 use Rattle.std.specs.Prelude.{ℕ, ℤ, pos, List, [], ◌∷◌, Option, Some, None, Result, Ok, Err, codes}
 use Rattle.fs_path.specs.declared.place.Rule.TheVariants.{Q}
 use Rattle.serde_json.specs.Data.{Data}
-use Rattle.fs_json.specs.Answer.{◌>>=◌}
-use Rattle.fs_json.specs.Members.{only_at}
+use Rattle.fs_json.specs.Answer.{◌>>=◌, made}
+use Rattle.fs_json.specs.Members.{only_at, member_or}
 use Rattle.fs_json.specs.declared.bad.Bad.{Bad}
 use Rattle.fs_json.specs.declared.bad.Bad.TheVariants.{At}
 use Rattle.fs_query.specs.Asked.{Asked}
 use Rattle.fs_query.specs.Rules.{rule_of_query}
 use Rattle.fs_query.specs.declared.rule.QueryRule.{QueryRule}
-use Rattle.fs_valjson.specs.Reading.{made}
 use Rattle.fs_queryjson.specs.Cursor.{cursor_in}
 use Rattle.fs_queryjson.specs.Filter.{where_in}
 use Rattle.fs_queryjson.specs.From.{scopes_in, the_scope}
-use Rattle.fs_queryjson.specs.Member.{member_or, small_at}
+use Rattle.fs_queryjson.specs.Member.{small_at}
 use Rattle.fs_queryjson.specs.Order.{orders_in}
 use Rattle.fs_queryjson.specs.Select.{select_in}
 

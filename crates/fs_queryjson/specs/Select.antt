@@ -8,15 +8,12 @@ use Rattle.std.specs.Prelude.{ℕ, List, [], ◌∷◌, map, Option, Some, None,
 use Rattle.fs_path.specs.declared.field.FieldPath.{FieldPath}
 use Rattle.serde_json.specs.Data as json
 use Rattle.serde_json.specs.View.{items_of}
-use Rattle.fs_json.specs.Answer.{◌>>=◌}
-use Rattle.fs_json.specs.Members.{only_at}
+use Rattle.fs_json.specs.Answer.{◌>>=◌, made}
+use Rattle.fs_json.specs.Members.{only_at, with_one, member_or}
 use Rattle.fs_json.specs.Walk.{all_at}
 use Rattle.fs_json.specs.declared.bad.Bad.{Bad}
 use Rattle.fs_query.specs.Field.{name_path}
-use Rattle.fs_valjson.specs.Reading.{made}
-use Rattle.fs_valjson.specs.Writing.{with_one}
 use Rattle.fs_queryjson.specs.Field.{field_at, field_json}
-use Rattle.fs_queryjson.specs.Member.{member_or}
 
 abbrev pub select_members : List (List ℕ)
 select_members = codes "fields" ∷ []

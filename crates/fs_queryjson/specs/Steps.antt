@@ -3,13 +3,12 @@ use Rattle.std.specs.Prelude.{ℕ, List, [], Option, Some, None, option_map, Res
 use Rattle.fs_path.specs.declared.place.Rule.TheVariants.{G}
 use Rattle.serde_json.specs.Data as json
 use Rattle.fs_json.specs.Answer.{◌>>=◌}
-use Rattle.fs_json.specs.Members.{at_most_one_at, one_of_at, only_at}
+use Rattle.fs_json.specs.Members.{at_most_one_at, one_of_at, only_at, the_one}
 use Rattle.fs_json.specs.declared.bad.Bad.{Bad}
 use Rattle.fs_json.specs.declared.bad.Bad.TheVariants.{At}
 use Rattle.fs_json.specs.Integer.{small_json}
 use Rattle.fs_query.specs.Asked.{Asked}
 use Rattle.fs_query.specs.Condition.{Condition}
-use Rattle.fs_valjson.specs.Reading.{the_one}
 use Rattle.fs_queryjson.specs.Cursor.{cursor_json}
 use Rattle.fs_queryjson.specs.Filter.{composite_of, filter_kinds, inner_in, inner_members}
 use Rattle.fs_queryjson.specs.From.{from_json}

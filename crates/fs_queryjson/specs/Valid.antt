@@ -1,5 +1,5 @@
 -- The queries that are read back from what is written of them.
-use Rattle.std.specs.Prelude.{◌≡◌, List, [], ◌∷◌, Option, Some, None}
+use Rattle.std.specs.Prelude.{◌≡◌, ℕ, List, [], ◌∷◌, Option, Some, None}
 use Rattle.fs_path.specs.declared.field.FieldPath.{FieldPath}
 use Rattle.fs_value.specs.Data.{items_of}
 use Rattle.fs_query.specs.Asked.{Asked}
@@ -7,6 +7,7 @@ use Rattle.fs_query.specs.Condition.{Condition, anything, compared, is_null, is_
 use Rattle.fs_query.specs.Rules.{rule_of_query}
 use Rattle.fs_query.specs.declared.cursor.Cursor.{Cursor}
 use Rattle.fs_valjson.specs.Writing.{HasNames, ItemsHaveNames}
+use Rattle.fs_path.specs.Scope.{scope_parent}
 
 -- a filter that asks something in each of its parts, and whose references are names of documents
 abbrev mutual
@@ -45,3 +46,16 @@ pub record IsValid (q : Asked) : Type 0 where
   pub end : CursorHasNames q.end
   pub select : SelectsSome q.select
   pub allowed : rule_of_query q ≡ None
+
+-- a query as it is walked below a parent, before its rules are tested
+pub record IsWalked (parent : List (List ℕ)) (q : Asked) : Type 0 where
+  pub below : scope_parent q.scope ≡ parent
+  pub filter : IsWhere q.filter
+  pub start : CursorHasNames q.start
+  pub end : CursorHasNames q.end
+  pub select : SelectsSome q.select
+
+-- a query below a parent that is read back
+pub record IsReadBelow (parent : List (List ℕ)) (q : Asked) : Type 0 where
+  pub below : scope_parent q.scope ≡ parent
+  pub valid : IsValid q

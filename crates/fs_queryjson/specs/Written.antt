@@ -14,7 +14,8 @@ use Rattle.fs_query.specs.Asked.{Asked}
 use Rattle.fs_query.specs.Condition.{Condition, anything, compared, is_null, is_not_null, all_of, any_of, Conditions, no_more, one_more}
 use Rattle.fs_query.specs.declared.op.Op.{Op}
 use Rattle.fs_query.specs.declared.order.Order.{Order}
-use Rattle.fs_valjson.specs.Writing.{value_json, with_one}
+use Rattle.fs_valjson.specs.Writing.{value_json}
+use Rattle.fs_json.specs.Members.{with_one}
 use Rattle.fs_queryjson.specs.Cursor.{cursor_json}
 use Rattle.fs_queryjson.specs.Field.{field_json}
 use Rattle.fs_queryjson.specs.From.{from_json}

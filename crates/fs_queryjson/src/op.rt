@@ -4,7 +4,7 @@ ghost use Rattle.fs_path.specs.Way.{place_of};
 ghost use Rattle.fs_path.specs.declared.place.Rule.TheVariants.{G};
 ghost use Rattle.serde_json.specs.View.{view as json};
 ghost use Rattle.fs_json.specs.Answer.{Gives, or_fault};
-ghost use Rattle.fs_queryjson.specs.Filter.{required_as};
+ghost use Rattle.fs_json.specs.Members.{required_as};
 ghost use Rattle.fs_queryjson.specs.Op.{is_and_at, is_and_of, is_null_at, is_null_of, op_at, op_of};
 
 use crate::names::{
@@ -18,38 +18,38 @@ use serde_json::Value;
 use std::alloc::Global;
 
 /// The operator of a field filter, which has to be there. (v1 reference, "StructuredQuery.FieldFilter", `op`.)
-pub(crate) fn read_op_of(alloc: Global, v: &Value, place: &Way<'_>) -> Result<Op, Bad>
-    ensures { Gives (λ op. op) result (required_as op_at (codes "op") (json v.now) (place_of place.now)) }
+pub(crate) fn read_op_of(alloc: Global, v: &Value, way: &Way<'_>) -> Result<Op, Bad>
+    ensures { Gives (λ op. op) result (required_as op_at (codes "op") (json v.now) (place_of way.now)) }
 {
-    let op = required(alloc, v, OP, place)?;
+    let op = required(alloc, v, OP, way)?;
     or_fault(
         alloc,
         op.as_str().and_then(|name| op_of(name)),
-        &place.member(OP),
+        &way.member(OP),
     )
 }
 
 /// Whether a unary filter asks for null, and not for any other value. (v1 reference, "StructuredQuery.UnaryFilter", `op`.)
-pub(crate) fn read_null_of(alloc: Global, v: &Value, place: &Way<'_>) -> Result<bool, Bad>
-    ensures { Gives (λ b. b) result (required_as is_null_at (codes "op") (json v.now) (place_of place.now)) }
+pub(crate) fn read_null_of(alloc: Global, v: &Value, way: &Way<'_>) -> Result<bool, Bad>
+    ensures { Gives (λ b. b) result (required_as is_null_at (codes "op") (json v.now) (place_of way.now)) }
 {
-    let op = required(alloc, v, OP, place)?;
+    let op = required(alloc, v, OP, way)?;
     or_fault(
         alloc,
         op.as_str().and_then(|name| is_null_of(name)),
-        &place.member(OP),
+        &way.member(OP),
     )
 }
 
 /// Whether all that a composite filter joins have to hold. (v1 reference, "StructuredQuery.CompositeFilter", `op`.)
-pub(crate) fn read_and_of(alloc: Global, v: &Value, place: &Way<'_>) -> Result<bool, Bad>
-    ensures { Gives (λ b. b) result (required_as is_and_at (codes "op") (json v.now) (place_of place.now)) }
+pub(crate) fn read_and_of(alloc: Global, v: &Value, way: &Way<'_>) -> Result<bool, Bad>
+    ensures { Gives (λ b. b) result (required_as is_and_at (codes "op") (json v.now) (place_of way.now)) }
 {
-    let op = required(alloc, v, OP, place)?;
+    let op = required(alloc, v, OP, way)?;
     or_fault(
         alloc,
         op.as_str().and_then(|name| is_and_of(name)),
-        &place.member(OP),
+        &way.member(OP),
     )
 }
 
@@ -92,15 +92,11 @@ fn is_and_of(name: &str) -> Option<bool>
 }
 
 /// What a name means, or that it means nothing.
-pub(crate) fn or_fault<T: Drop>(
-    alloc: Global,
-    meaning: Option<T>,
-    place: &Way<'_>,
-) -> Result<T, Bad>
-    ensures { Gives (λ x. x) result (or_fault G (place_of place.now) meaning) }
+pub(crate) fn or_fault<T: Drop>(alloc: Global, meaning: Option<T>, way: &Way<'_>) -> Result<T, Bad>
+    ensures { Gives (λ x. x) result (or_fault G (place_of way.now) meaning) }
 {
     match meaning {
         Some(x) => Ok(x),
-        None => Err(Bad::at(alloc, Rule::G, place)),
+        None => Err(Bad::at(alloc, Rule::G, way)),
     }
 }

@@ -22,14 +22,15 @@ use std::alloc::Global;
 
 /// Reads a query that goes over collections below the parent: the walk, and then the rules of queries, the least of which is
 /// told at the place of the query itself. (v1 reference, "StructuredQuery".)
-pub fn read_query(alloc: Global, parent: &Ids, v: &Value, place: &Way<'_>) -> Result<Query, Bad>
-    ensures gives { Gives (λ q. q) result (query_at parent.now (json v.now) (place_of place.now)) }
+/// (docs/DECISIONS.md, "A query is read without a root".)
+pub fn read_query(alloc: Global, parent: &Ids, v: &Value, way: &Way<'_>) -> Result<Query, Bad>
+    ensures gives { Gives (λ q. q) result (query_at parent.now (json v.now) (place_of way.now)) }
 
     // It breaks no rule, its references are names of documents, and each of its parts can be told in JSON.
     ensures valid { IfOk result (λ q. IsValid q) }
 {
-    let query = walk_query(alloc, parent, v, place)?;
-    judge_query(alloc, query, place)
+    let query = walk_query(alloc, parent, v, way)?;
+    judge_query(alloc, query, way)
 }
 
 /// Reads a query as it is walked. Its rules are tested by `judge_query`, since they come after the walk of the whole request.
@@ -37,8 +38,8 @@ pub fn read_query(alloc: Global, parent: &Ids, v: &Value, place: &Way<'_>) -> Re
 ///
 /// At the way `x` the reader of `{"orderBy":[{}],"from":1}` refuses at `x.from`, and where that is a list at
 /// `x.orderBy[0].field`.
-pub fn walk_query(alloc: Global, parent: &Ids, v: &Value, place: &Way<'_>) -> Result<Query, Bad>
-    ensures { Gives (λ q. q) result (walked_at parent.now (json v.now) (place_of place.now)) }
+pub fn walk_query(alloc: Global, parent: &Ids, v: &Value, way: &Way<'_>) -> Result<Query, Bad>
+    ensures { Gives (λ q. q) result (walked_at parent.now (json v.now) (place_of way.now)) }
 {
     let mut query = Query {
         scope: no_scope(alloc, Ids::new(alloc)),
@@ -50,7 +51,7 @@ pub fn walk_query(alloc: Global, parent: &Ids, v: &Value, place: &Way<'_>) -> Re
         limit: None,
         select: None,
     };
-    match walk_into(alloc, parent, v, place, &mut query) {
+    match walk_into(alloc, parent, v, way, &mut query) {
         Ok(()) => Ok(query),
         Err(bad) => {
             drop(query);
@@ -65,42 +66,42 @@ fn walk_into(
     alloc: Global,
     parent: &Ids,
     v: &Value,
-    place: &Way<'_>,
+    way: &Way<'_>,
     query: &mut Query,
 ) -> Result<(), Bad>
-    ensures { Gives {Y = Asked} (λ u. query.new) result (walked_at parent.now (json v.now) (place_of place.now)) }
+    ensures { Gives {Y = Asked} (λ u. query.new) result (walked_at parent.now (json v.now) (place_of way.now)) }
 {
-    only(alloc, v, &QUERY_MEMBERS, place)?;
-    query.select = read_select_of(alloc, v, place)?;
-    let scopes = read_scopes_of(alloc, parent, v, place)?;
+    only(alloc, v, &QUERY_MEMBERS, way)?;
+    query.select = read_select_of(alloc, v, way)?;
+    let scopes = read_scopes_of(alloc, parent, v, way)?;
     query.scope = the_scope(alloc, parent, scopes)?;
-    query.filter = read_where_of(alloc, v, place)?;
-    query.orders = read_orders_of(alloc, v, place)?;
-    query.start = read_cursor_of(alloc, v, START_AT, place)?;
-    query.end = read_cursor_of(alloc, v, END_AT, place)?;
-    query.offset = read_offset_of(alloc, v, place)?;
-    query.limit = read_small_of(alloc, v, LIMIT, place)?;
+    query.filter = read_where_of(alloc, v, way)?;
+    query.orders = read_orders_of(alloc, v, way)?;
+    query.start = read_cursor_of(alloc, v, START_AT, way)?;
+    query.end = read_cursor_of(alloc, v, END_AT, way)?;
+    query.offset = read_offset_of(alloc, v, way)?;
+    query.limit = read_small_of(alloc, v, LIMIT, way)?;
     Ok(())
 }
 
 /// An offset that is absent is 0.
-fn read_offset_of(alloc: Global, query: &Value, place: &Way<'_>) -> Result<i32, Bad>
-    ensures { Gives (λ n. n) result (offset_in (json query.now) (place_of place.now)) }
+fn read_offset_of(alloc: Global, query: &Value, way: &Way<'_>) -> Result<i32, Bad>
+    ensures { Gives (λ n. n) result (offset_in (json query.now) (place_of way.now)) }
 {
-    match read_small_of(alloc, query, OFFSET, place)? {
+    match read_small_of(alloc, query, OFFSET, way)? {
         Some(offset) => Ok(offset),
         None => Ok(0),
     }
 }
 
 /// A query that was walked, unless it breaks a rule: then the least, at its place.
-pub fn judge_query(alloc: Global, query: Query, place: &Way<'_>) -> Result<Query, Bad>
-    ensures { Gives (λ q. q) result (permitted_at query (place_of place.now)) }
+pub fn judge_query(alloc: Global, query: Query, way: &Way<'_>) -> Result<Query, Bad>
+    ensures { Gives (λ q. q) result (permitted_at query (place_of way.now)) }
 {
     match check_with(alloc, &query) {
         Ok(Some(rule)) => {
             drop(query);
-            Err(Bad::at(alloc, Rule::Q(rule.number, rule.count), place))
+            Err(Bad::at(alloc, Rule::Q(rule.number, rule.count), way))
         }
         Ok(None) => Ok(query),
         Err(e) => {

@@ -1,17 +1,16 @@
 //! Selections: the fields that a query keeps of each document.
 ghost use Rattle.std.specs.Prelude.{◌≡◌, List, Option};
 ghost use Rattle.fs_path.specs.Way.{place_of};
-ghost use Rattle.fs_path.specs.declared.field.FieldPath.{FieldPath};
-ghost use Rattle.serde_json.specs.View.{items_view, view as json};
+ghost use Rattle.fs_path.specs.declared.field.FieldPath.{FieldPath as Path};
+ghost use Rattle.serde_json.specs.View.{view as json};
 ghost use Rattle.fs_json.specs.Answer.{Gives};
-ghost use Rattle.fs_json.specs.Walk.{each_at};
 ghost use Rattle.fs_queryjson.specs.Field.{field_at};
-ghost use Rattle.fs_queryjson.specs.Select.{fields_at, fields_in, select_at, select_in, selection_of};
+ghost use Rattle.fs_queryjson.specs.Select.{fields_in, select_at, select_in, selection_of};
 
 use crate::field::read_field;
 use crate::names::{FIELDS, SELECT, SELECT_MEMBERS};
-use fs_json::{Bad, list, member, only};
-use fs_path::{Paths, Way};
+use fs_json::{Bad, ReadsItem, member, only, read_each};
+use fs_path::{FieldPath, Paths, Way};
 use serde_json::Value;
 use std::alloc::Global;
 
@@ -20,21 +19,21 @@ use std::alloc::Global;
 pub(crate) fn read_select_of(
     alloc: Global,
     query: &Value,
-    place: &Way<'_>,
+    way: &Way<'_>,
 ) -> Result<Option<Paths>, Bad>
-    ensures { Gives {Y = Option (List FieldPath)} (λ ps. ps) result (select_in (json query.now) (place_of place.now)) }
+    ensures { Gives {Y = Option (List Path)} (λ ps. ps) result (select_in (json query.now) (place_of way.now)) }
 {
-    match member(alloc, query, SELECT, place)? {
-        Some(selection) => read_select(alloc, selection, &place.member(SELECT)),
+    match member(alloc, query, SELECT, way)? {
+        Some(selection) => read_select(alloc, selection, &way.member(SELECT)),
         None => Ok(None),
     }
 }
 
-fn read_select(alloc: Global, v: &Value, place: &Way<'_>) -> Result<Option<Paths>, Bad>
-    ensures { Gives {Y = Option (List FieldPath)} (λ ps. ps) result (select_at (json v.now) (place_of place.now)) }
+fn read_select(alloc: Global, v: &Value, way: &Way<'_>) -> Result<Option<Paths>, Bad>
+    ensures { Gives {Y = Option (List Path)} (λ ps. ps) result (select_at (json v.now) (place_of way.now)) }
 {
-    only(alloc, v, &SELECT_MEMBERS, place)?;
-    let paths = read_fields_of(alloc, v, place)?;
+    only(alloc, v, &SELECT_MEMBERS, way)?;
+    let paths = read_fields_of(alloc, v, way)?;
     Ok(selection_of(paths))
 }
 
@@ -45,28 +44,24 @@ fn selection_of(paths: Paths) -> Option<Paths>
     if paths.is_empty() { None } else { Some(paths) }
 }
 
-fn read_fields_of(alloc: Global, selection: &Value, place: &Way<'_>) -> Result<Paths, Bad>
-    ensures { Gives (λ ps. ps) result (fields_in (json selection.now) (place_of place.now)) }
+fn read_fields_of(alloc: Global, selection: &Value, way: &Way<'_>) -> Result<Paths, Bad>
+    ensures { Gives (λ ps. ps) result (fields_in (json selection.now) (place_of way.now)) }
 {
-    match member(alloc, selection, FIELDS, place)? {
-        Some(fields) => read_fields(alloc, fields, &place.member(FIELDS)),
+    match member(alloc, selection, FIELDS, way)? {
+        Some(fields) => read_each(alloc, &FieldReader, fields, &way.member(FIELDS)),
         None => Ok(Paths::new(alloc)),
     }
 }
 
-fn read_fields(alloc: Global, v: &Value, place: &Way<'_>) -> Result<Paths, Bad>
-    ensures { Gives (λ ps. ps) result (fields_at (json v.now) (place_of place.now)) }
-{
-    read_items(alloc, list(alloc, v, place)?, place)
-}
+/// Reads a field of a list.
+struct FieldReader;
 
-fn read_items(alloc: Global, items: &[Value], place: &Way<'_>) -> Result<Paths, Bad>
-    ensures { Gives (λ ps. ps) result (each_at field_at (items_view items.now) 0 (place_of place.now)) }
-{
-    let mut paths = Paths::new(alloc);
-    for (i, item) in items.iter().enumerate() {
-        let path = read_field(alloc, item, &place.item(i as u64))?;
-        paths.push(path)?;
+impl ReadsItem for FieldReader {
+    type Item = FieldPath;
+
+    ghost reading = { λ _. field_at };
+
+    fn read(&self, alloc: Global, item: &Value, way: &Way<'_>) -> Result<FieldPath, Bad> {
+        read_field(alloc, item, way)
     }
-    Ok(paths)
 }

@@ -4,7 +4,8 @@ ghost use Rattle.serde_json.specs.Written.{has_float};
 ghost use Rattle.serde_json.specs.View.{members_view, view as json};
 ghost use Rattle.fs_json.specs.Integer.{small_json};
 ghost use Rattle.fs_queryjson.specs.Cursor.{cursor_json};
-ghost use Rattle.fs_queryjson.specs.From.{from_json, parent_of, scope_json};
+ghost use Rattle.fs_path.specs.Scope.{scope_parent};
+ghost use Rattle.fs_queryjson.specs.From.{from_json, scope_json};
 ghost use Rattle.fs_queryjson.specs.Held.{AreFirstHeld, AreLastHeld, IsCursorHeld, IsLimitHeld, IsSelectHeld, IsSmallHeld};
 ghost use Rattle.fs_queryjson.specs.Query.{query_at};
 ghost use Rattle.fs_queryjson.specs.Select.{select_json};
@@ -34,7 +35,7 @@ pub fn write_query(alloc: Global, q: &Query) -> Result<Value, AllocError>
 
     // Where it is valid, it is read back as the same query below its parent, at any place.
     ensures reads_back { IfOk result (λ j. (place : List ℕ) → IsValid q.now
-        → query_at (parent_of q.now.scope) (json j) place ≡ Ok q.now) }
+        → query_at (scope_parent q.now.scope) (json j) place ≡ Ok q.now) }
 {
     let mut members = Map::new(alloc);
     put_last(alloc, &mut members, q)?;
@@ -103,6 +104,7 @@ fn write_select_of(alloc: Global, select: &Option<Paths>) -> Result<Option<Value
     }
 }
 
+// (docs/DECISIONS.md, "A selection is kept as it was given".)
 fn write_select(alloc: Global, paths: &Paths) -> Result<Value, AllocError>
     ensures value { IfOk result (λ j. json j ≡ select_json paths.now) }
     ensures held { OnOk result (IsSelectHeld (Some paths.now)) }

@@ -4,8 +4,8 @@ ghost use Rattle.serde_json.specs.View.{items_view, view as json};
 ghost use Rattle.fs_query.specs.Condition.{conditions_of};
 ghost use Rattle.fs_query.specs.View.{view};
 ghost use Rattle.fs_value.specs.View.{view as value_view};
-ghost use Rattle.fs_valjson.specs.Writing.{with_one};
-ghost use Rattle.fs_queryjson.specs.Held.{AreHeld, IsHeld, IsOperandHeld, IsPathHeld};
+ghost use Rattle.fs_json.specs.Paths.{IsPathHeld};
+ghost use Rattle.fs_queryjson.specs.Held.{AreHeld, IsHeld, IsOperandHeld};
 ghost use Rattle.fs_queryjson.specs.Op.{join_name, null_name, op_name};
 ghost use Rattle.fs_queryjson.specs.Steps.{with_filters};
 ghost use Rattle.fs_queryjson.specs.Written.{compare_json, composite_json, filter_json, filters_json, unary_json, where_json};
@@ -16,6 +16,7 @@ use crate::names::{
     NOT_EQUAL, NOT_IN, OP, OR, UNARY_FILTER, VALUE,
 };
 use crate::write_parts::write_field;
+use fs_json::with_one;
 use fs_path::FieldPath;
 use fs_query::{Filter, Filters, Op};
 use fs_valjson::write_value;
@@ -138,15 +139,6 @@ fn write_unary(alloc: Global, null: bool, path: &FieldPath) -> Result<Value, All
     serde_json::put(&mut members, alloc, OP, op)?;
     let field = write_field(alloc, path)?;
     serde_json::put(&mut members, alloc, FIELD, field)?;
-    Ok(Value::Object(members))
-}
-
-/// An object of one member.
-fn with_one(alloc: Global, name: &str, content: Value) -> Result<Value, AllocError>
-    ensures { IfOk result (λ j. json j ≡ with_one name.now (json content)) }
-{
-    let mut members = Map::new(alloc);
-    serde_json::put(&mut members, alloc, name, content)?;
     Ok(Value::Object(members))
 }
 

@@ -5,13 +5,15 @@ ghost use Rattle.serde_json.specs.View.{items_of, items_view, members_view, view
 ghost use Rattle.fs_query.specs.Field.{name_path};
 ghost use Rattle.fs_queryjson.specs.Cursor.{cursor_json, with_values};
 ghost use Rattle.fs_queryjson.specs.Field.{field_json};
-ghost use Rattle.fs_queryjson.specs.Held.{AreValuesHeld, IsCursorHeld, IsOrderHeld, IsPathHeld};
+ghost use Rattle.fs_queryjson.specs.Held.{AreValuesHeld, IsCursorHeld, IsOrderHeld};
+ghost use Rattle.fs_json.specs.Paths.{IsPathHeld};
 ghost use Rattle.fs_queryjson.specs.Order.{direction_name, order_json};
 ghost use Rattle.fs_queryjson.specs.Select.{fields_json, written_paths};
 ghost use Rattle.fs_queryjson.specs.Written.{order_by_json};
 
 use crate::names::{ASCENDING, BEFORE, DESCENDING, DIRECTION, FIELD, FIELD_PATH, NAME, VALUES};
-use fs_path::{FieldPath, print_field};
+use fs_json::{with_one, write_field_path};
+use fs_path::FieldPath;
 use fs_query::{Cursor, Order, Orders};
 use fs_valjson::write_list;
 use fs_value::Values;
@@ -23,10 +25,7 @@ pub(crate) fn write_field(alloc: Global, path: &FieldPath) -> Result<Value, Allo
     ensures value { IfOk result (λ j. json j ≡ field_json path.now) }
     ensures held { OnOk result (IsPathHeld path.now) }
 {
-    let text = print_field(alloc, path)?.into_string();
-    let mut members = Map::new(alloc);
-    serde_json::put(&mut members, alloc, FIELD_PATH, Value::String(text))?;
-    Ok(Value::Object(members))
+    with_one(alloc, FIELD_PATH, write_field_path(alloc, path)?)
 }
 
 /// Writes the fields of a selection. Where it has none, the path `__name__` stands for them, which keeps no field.
@@ -56,10 +55,7 @@ fn write_items(alloc: Global, paths: &[FieldPath]) -> Result<Vec<Value>, AllocEr
 fn write_name(alloc: Global) -> Result<Value, AllocError>
     ensures { IfOk result (λ j. json j ≡ field_json name_path) }
 {
-    let mut members = Map::new(alloc);
-    let text = Value::try_from_str(alloc, NAME)?;
-    serde_json::put(&mut members, alloc, FIELD_PATH, text)?;
-    Ok(Value::Object(members))
+    with_one(alloc, FIELD_PATH, Value::try_from_str(alloc, NAME)?)
 }
 
 /// Writes the orders, where there are any.

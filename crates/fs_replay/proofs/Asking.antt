@@ -16,11 +16,12 @@ use Rattle.fs_write.specs.declared.write.Write.{Write}
 use Rattle.fs_machine.specs.Commit.{commit_refusal, next_batch, next_commit, outbox_refusal, prepared_answer, prepared_unless}
 use Rattle.fs_machine.specs.Open.{is_full, with_session}
 use Rattle.fs_machine.specs.Past.{Past}
-use Rattle.fs_machine.specs.Read.{batch_get_answer, document_answer, get_answer, run_answer, time_of, time_refusal, unless_refused}
+use Rattle.fs_machine.specs.Read.{batch_get_answer, document_answer, get_answer, run_answer, read_time, time_refusal, unless_refused}
 use Rattle.fs_machine.specs.Request.{read_answer}
 use Rattle.fs_machine.specs.State.{Machine}
 use Rattle.fs_machine.specs.declared.answer.Answer.{Answer}
 use Rattle.fs_machine.specs.declared.answer.Answer.TheVariants.{Reply, Prepared, Refused}
+use Rattle.fs_machine.proofs.Runs.{kept_prepared}
 use Rattle.fs_replay.specs.Directory.{number_of}
 use Rattle.fs_replay.specs.Laws.{IsBetweenLines, IsOneLine, commits_in, commits_on, commits_opened, is_open, writes_of}
 use Rattle.fs_replay.specs.Line.{reason_of}
@@ -29,8 +30,7 @@ use Rattle.fs_replay.specs.declared.state.State.{State}
 use Rattle.fs_replay.proofs.Closing.{IsOwn, json_one_line, preparing}
 use Rattle.fs_replay.proofs.Drained.{has_number}
 use Rattle.fs_replay.proofs.Known.{all_open_more, known, knows_it, numbers_more, open_by_name, opens_it}
-use Rattle.fs_replay.proofs.Standing.{prepared_stands}
-use Rattle.fs_replay.proofs.Told.{nothing_more}
+use Rattle.fs_replay.proofs.Waiting.{nothing_more}
 
 -- it is answered: on a state between lines where what was committed is this
 pub record Answers (p : Past) (commits : Bool) (played : Played) : Type 0 where
@@ -102,7 +102,7 @@ module _ (on : State) (p : Past) (between : IsBetweenLines on) (past : on.server
     id = id;
     writes = writes;
     asked = refl;
-    own = record { pending = refl; facts = prepared_stands on.server number id writes between.facts; known = own.known; opened = own.opened };
+    own = record { pending = refl; facts = kept_prepared on.server number id writes None between.facts; known = own.known; opened = own.opened };
     state = refl;
     output = refl;
     yes = refl;
@@ -120,10 +120,10 @@ module _ (on : State) (p : Past) (between : IsBetweenLines on) (past : on.server
 
   asked_comes : (r : Result Request Bad) → Answers p (commits_on on.server number r) (asks on name number id r) ⊎ Prepares p r (commits_on on.server number r) (asks on name number id r)
   asked_comes (Ok (Commit database writes)) = commit_comes database writes (commit_refusal on.server number writes)
-  asked_comes (Ok (GetDocument document mask time)) = inl (read_comes (get_answer on.server.past id document mask (time_of on.server.past time))
-      (told_unless (time_refusal on.server.past (time_of on.server.past time)) _ (document_told id (time_of on.server.past time) mask _)))
-  asked_comes (Ok (BatchGetDocuments database names mask time)) = inl (read_comes (batch_get_answer on.server.past id names mask (time_of on.server.past time)) (told_unless (time_refusal on.server.past (time_of on.server.past time)) _ refl))
-  asked_comes (Ok (RunQuery database query time)) = inl (read_comes (run_answer on.server.past id query (time_of on.server.past time)) (told_unless (time_refusal on.server.past (time_of on.server.past time)) _ refl))
+  asked_comes (Ok (GetDocument document mask time)) = inl (read_comes (get_answer on.server.past id document mask (read_time on.server.past time))
+      (told_unless (time_refusal on.server.past (read_time on.server.past time)) _ (document_told id (read_time on.server.past time) mask _)))
+  asked_comes (Ok (BatchGetDocuments database names mask time)) = inl (read_comes (batch_get_answer on.server.past id names mask (read_time on.server.past time)) (told_unless (time_refusal on.server.past (read_time on.server.past time)) _ refl))
+  asked_comes (Ok (RunQuery database query time)) = inl (read_comes (run_answer on.server.past id query (read_time on.server.past time)) (told_unless (time_refusal on.server.past (read_time on.server.past time)) _ refl))
   asked_comes (Err bad) = inl (record { on = on; between = between; past = past; state = refl; line = json_one_line (message_json_on name (refused id (refusal_of (reason_of bad)))); no = refl })
 
 -- ---- the session of a line

@@ -6,9 +6,9 @@ use Rattle.fs_write.specs.declared.write_result.WriteResult.{WriteResult}
 use Rattle.fs_machine.specs.Commit.{prepared}
 use Rattle.fs_machine.specs.Compact.{compacted}
 use Rattle.fs_machine.specs.Facts.{Facts}
-use Rattle.fs_machine.specs.Leave.{left}
+use Rattle.fs_machine.specs.Leave.{departed}
 use Rattle.fs_machine.specs.Past.{Past}
-use Rattle.fs_machine.specs.Release.{all_told, freed, free_to, joined, kept_back, released}
+use Rattle.fs_machine.specs.Release.{all_delivered, freed, free_to, joined, kept_back, released}
 use Rattle.fs_machine.specs.State.{Machine}
 use Rattle.fs_machine.specs.Tick.{advanced, ticked}
 use Rattle.fs_machine.specs.declared.unreleased.Unreleased.{Unreleased}
@@ -16,9 +16,9 @@ use Rattle.fs_replay.specs.Directory.{number_of, without}
 use Rattle.fs_replay.specs.Laws.{IsBetweenLines}
 use Rattle.fs_replay.specs.declared.state.State.{State}
 use Rattle.fs_replay.proofs.Closing.{IsOwn, committed_stands, outcome_on, past_after, settling}
-use Rattle.fs_replay.proofs.Known.{all_open_left, numbers_left}
+use Rattle.fs_replay.proofs.Known.{all_open_departed, numbers_departed}
 use Rattle.fs_replay.proofs.Standing.{compacted_stands, ticked_stands}
-use Rattle.fs_replay.proofs.Told.{nothing_without}
+use Rattle.fs_replay.proofs.Waiting.{nothing_without}
 
 -- ---- a commit
 
@@ -50,7 +50,7 @@ released_idle : (m : Machine) → m.past.unreleased ≡ [] → released m ≡ al
 released_idle m idle =
     ap (λ (us : List Unreleased). record m {
       past = record m.past { history = joined m.past.history (freed (free_to m.past.last us) us); unreleased = kept_back (free_to m.past.last us) us; released = free_to m.past.last us };
-      sessions = record m.sessions { list = all_told (freed (free_to m.past.last us) us) m.sessions.list };
+      sessions = record m.sessions { list = all_delivered (freed (free_to m.past.last us) us) m.sessions.list };
     }) idle
 
 pub ticked_idle : (m : Machine) (now : ℤ) → m.past.unreleased ≡ [] → ticked m now ≡ all_released (advanced m now)
@@ -89,15 +89,15 @@ compacted_between s time b = record {
 -- ---- a session that leaves
 
 -- the state after the session of a name and a number left
-abbrev pub left_by : State → ℕ → List ℕ → State
-left_by s number name = record s { server = left s.server number; directory = without name s.directory }
+abbrev pub departed_by : State → ℕ → List ℕ → State
+departed_by s number name = record s { server = departed s.server number; directory = without name s.directory }
 
-pub left_between : (s : State) (number : ℕ) (name : List ℕ) → number_of name s.directory ≡ Some number → IsBetweenLines s → IsBetweenLines (left_by s number name)
-left_between s number name is b = record {
+pub departed_between : (s : State) (number : ℕ) (name : List ℕ) → number_of name s.directory ≡ Some number → IsBetweenLines s → IsBetweenLines (departed_by s number name)
+departed_between s number name is b = record {
   idle = b.idle;
   empty = nothing_without s.server.sessions.list number b.empty;
-  open_all = all_open_left s.directory s.server.sessions.list name number 0 s.server.sessions.given b.numbers b.open_all is;
-  numbers = numbers_left s.directory name 0 s.server.sessions.given b.numbers;
+  open_all = all_open_departed s.directory s.server.sessions.list name number 0 s.server.sessions.given b.numbers b.open_all is;
+  numbers = numbers_departed s.directory name 0 s.server.sessions.given b.numbers;
   facts = record { past = b.facts.past; ids = b.facts.ids };
   limits = b.limits;
 }

@@ -7,7 +7,8 @@ use Rattle.fs_rpc.specs.declared.message.Message.TheVariants as message
 use Rattle.fs_status.specs.declared.refusal.Refusal.{Refusal}
 use Rattle.fs_write.specs.Batch.{Docs}
 use Rattle.fs_write.specs.declared.write_result.WriteResult.{WriteResult}
-use Rattle.fs_machine.specs.Alone.{IsAlone, settled_accepted, settled_rejected, with_batch, without_batch}
+use Rattle.fs_machine.specs.Alone.{IsAlone, with_batch, without_batch}
+use Rattle.fs_machine.proofs.Alone.{settled_accepted, settled_rejected}
 use Rattle.fs_machine.specs.Commit.{prepared}
 use Rattle.fs_machine.specs.Facts.{Facts}
 use Rattle.fs_machine.specs.Past.{Past}
@@ -23,7 +24,7 @@ use Rattle.fs_replay.specs.Outboxes.{drained, drain_output}
 use Rattle.fs_replay.specs.Reply.{json_line}
 use Rattle.fs_replay.specs.Step.{closed, nothing, settled_if, settled_next}
 use Rattle.fs_replay.specs.declared.state.State.{State}
-use Rattle.fs_replay.proofs.Drained.{IsToldOnce, drained_same, drain_none, drained_told, drain_told, has_number, telling}
+use Rattle.fs_replay.proofs.Drained.{IsToldOnce, drained_same, drain_none, drained_delivered, drain_delivered, has_number, delivering}
 use Rattle.fs_replay.proofs.OneLine.{no_newline}
 use Rattle.fs_replay.proofs.Standing.{settled_stands}
 
@@ -50,7 +51,7 @@ reply_after u (Ok done) = message.Commit u.request u.batch.time done.1
 reply_after u (Err refusal) = refused u.request refusal
 
 settled_alone : (m : Machine) (id : ℕ) (a : IsAlone m.past id) (r : Result (Docs × List WriteResult) Refusal) → UnreleasedRise m.past → outcome_of m.past a.commit ≡ r
-    → settled m id ≡ telling (record m { past = past_after m.past a.commit r }) a.commit.session (reply_after a.commit r)
+    → settled m id ≡ delivering (record m { past = past_after m.past a.commit r }) a.commit.session (reply_after a.commit r)
 settled_alone m id a (Ok done) above is = settled_accepted m id a done above is
 settled_alone m id a (Err refusal) above is = settled_rejected m id a refusal is
 
@@ -67,7 +68,7 @@ abbrev alone : (m : Machine) (u : Unreleased) → m.past.unreleased ≡ [] → u
 alone m u idle pending = record { commit = u; alone = ap (λ (us : List Unreleased). us ++ u ∷ []) idle; pending = pending; number = refl }
 
 pub settled_commit : (m : Machine) (u : Unreleased) → m.past.unreleased ≡ [] → u.results ≡ None → UnreleasedRise (prepared m u).past
-    → settled (prepared m u) u.batch.id ≡ telling (committed m u) u.session (reply_after u (outcome_on m u))
+    → settled (prepared m u) u.batch.id ≡ delivering (committed m u) u.session (reply_after u (outcome_on m u))
 settled_commit m u idle pending above = settled_alone (prepared m u) u.batch.id (alone m u idle pending) (outcome_on m u) above refl
 
 next_alone : (m : Machine) (u : Unreleased) → m.past.unreleased ≡ [] → u.results ≡ None → settled_next (prepared m u) ≡ settled (prepared m u) u.batch.id
@@ -95,13 +96,13 @@ pub record IsOwn (s : State) (u : Unreleased) : Type 0 where
   pub known : has_number u.session s.directory ≡ true
   pub opened : is_open u.session s.server.sessions.list ≡ true
 
-closed_at : (s : State) (u : Unreleased) → IsBetweenLines s → IsOwn s u → settled_next (prepared s.server u) ≡ telling (committed s.server u) u.session (reply_after u (outcome_on s.server u))
+closed_at : (s : State) (u : Unreleased) → IsBetweenLines s → IsOwn s u → settled_next (prepared s.server u) ≡ delivering (committed s.server u) u.session (reply_after u (outcome_on s.server u))
 closed_at s u b own = next_alone s.server u b.idle own.pending ∙ settled_commit s.server u b.idle own.pending own.facts.past.unreleased
 
 pub closed_commit : (s : State) (u : Unreleased) → IsBetweenLines s → IsOwn s u → (closed (preparing s u)).state ≡ settling s u
 closed_commit s u b own =
     ap (λ (m : Machine). record s { server = drained s.directory m }) (closed_at s u b own)
-    ∙ ap (λ (m : Machine). record s { server = m }) (drained_told s.directory (committed s.server u) u.session (reply_after u (outcome_on s.server u)) b.empty own.known)
+    ∙ ap (λ (m : Machine). record s { server = m }) (drained_delivered s.directory (committed s.server u) u.session (reply_after u (outcome_on s.server u)) b.empty own.known)
 
 pub json_one_line : (d : Data) → IsOneLine (json_line d)
 json_one_line d = (compact_text d, refl, no_newline d)
@@ -113,4 +114,4 @@ pub closed_one_line : (s : State) (u : Unreleased) → IsBetweenLines s → IsOw
 closed_one_line s u b own =
     let reply = reply_after u (outcome_on s.server u) in
     subst (λ (m : Machine). IsOneLine (drain_output s.directory m)) (sym (closed_at s u b own))
-    (told_one_line reply (drain_output s.directory (telling (committed s.server u) u.session reply)) (drain_told s.directory (committed s.server u) u.session reply b.empty own.opened own.known))
+    (told_one_line reply (drain_output s.directory (delivering (committed s.server u) u.session reply)) (drain_delivered s.directory (committed s.server u) u.session reply b.empty own.opened own.known))

@@ -20,7 +20,8 @@ use Rattle.fs_machine.specs.Facts.{Facts}
 use Rattle.fs_machine.specs.Laws.{NeverChanged}
 use Rattle.fs_machine.specs.Past.{Past}
 use Rattle.fs_machine.specs.State.{Machine}
-use Rattle.fs_machine.specs.Stays.{Stays, stays_on, stays_same}
+use Rattle.fs_machine.specs.Stays.{Stays}
+use Rattle.fs_machine.proofs.Stays.{stays_on, stays_same}
 use Rattle.fs_machine.specs.Tick.{later}
 use Rattle.fs_machine.specs.declared.unreleased.Unreleased.{Unreleased}
 use Rattle.fs_replay.specs.Directory.{number_of}
@@ -31,7 +32,7 @@ use Rattle.fs_replay.specs.declared.request.Line.{Line}
 use Rattle.fs_replay.specs.declared.request.Line.TheVariants as line
 use Rattle.fs_replay.specs.declared.state.State.{State}
 use Rattle.fs_replay.proofs.Asking.{Answers, Prepares, comes}
-use Rattle.fs_replay.proofs.Between.{clocked_between, clocked_to, compacted_between, compacted_to, last_after, left_between, left_by, settling_between, ticked_idle}
+use Rattle.fs_replay.proofs.Between.{clocked_between, clocked_to, compacted_between, compacted_to, last_after, departed_between, departed_by, settling_between, ticked_idle}
 use Rattle.fs_replay.proofs.Closing.{closed_commit, closed_idle, closed_one_line, committed, json_one_line, outcome_on, past_after, preparing, settled_commit, settling}
 
 -- a law of batches
@@ -155,8 +156,8 @@ module _ (unwritten : Unwritten) (unchanged : NeverChanged) where
       → Follows s (line.Leave name) (leaves s n name number).state (leaves s n name number).output
   leave_follows s n name None is b = same_follows s (line.Leave name) s _ b refl refl (λ e. never (sym e)) (λ e. never (sym e))
   leave_follows s n name (Some number) is b =
-      let t = left_by s number name in
-      let between = left_between s number name is b in
+      let t = departed_by s number name in
+      let between = departed_between s number name is b in
       subst (λ (q : Played). Follows s (line.Leave name) q.state q.output) (sym (closed_idle t between))
       (same_follows s (line.Leave name) t [] between refl refl (λ e. never (sym e)) (λ e. never (sym e)))
 

@@ -11,7 +11,7 @@ use Rattle.fs_replay.specs.Directory.{number_of, without}
 use Rattle.fs_replay.specs.Laws.{IsOpen, NumbersRise, is_open}
 use Rattle.fs_replay.specs.declared.directory.Named.{Named}
 use Rattle.fs_replay.proofs.Drained.{has_number}
-use Rattle.fs_replay.proofs.Told.{apart}
+use Rattle.fs_replay.proofs.Waiting.{apart}
 
 -- ---- the session of a name
 
@@ -114,21 +114,21 @@ found_above : (ns : List Named) (name : List ℕ) (number from to : ℕ) → Num
 found_above [] name number from to rise e = absurd (cc)
 found_above (n ∷ ns) name number from to rise e = found_next n ns name number from (bytes_eq n.name name) rise.0 e (found_above ns name number (n.number + 1) to rise.1)
 
-left_next : (n : Named) (ns : List Named) (ss : List Session) (name : List ℕ) (number to : ℕ) (b : Bool) → NumbersRise (n.number + 1) to ns → IsOpen ss n → AllByRecursion (IsOpen ss) ns
+departed_next : (n : Named) (ns : List Named) (ss : List Session) (name : List ℕ) (number to : ℕ) (b : Bool) → NumbersRise (n.number + 1) to ns → IsOpen ss n → AllByRecursion (IsOpen ss) ns
     → cond b (Some n.number) (number_of name ns) ≡ Some number → (number_of name ns ≡ Some number → AllByRecursion (IsOpen (without_session number ss)) (without name ns))
     → AllByRecursion (IsOpen (without_session number ss)) (cond b ns (n ∷ without name ns))
-left_next n ns ss name number to true rise here all e more =
+departed_next n ns ss name number to true rise here all e more =
     let is = same_some n.number number e in others_open ns ss number (n.number + 1) to (omega arith) rise all
-left_next n ns ss name number to false rise here all e more =
+departed_next n ns ss name number to false rise here all e more =
     let above : n.number + 1 ≤ number = found_above ns name number (n.number + 1) to rise e in
     (open_without ss number n.number (below_apart n.number number (omega arith)) ∙ here, more e)
 
 -- those that stay are open, where the session of a name leaves
-pub all_open_left : (ns : List Named) (ss : List Session) (name : List ℕ) (number from to : ℕ) → NumbersRise from to ns → AllByRecursion (IsOpen ss) ns → number_of name ns ≡ Some number
+pub all_open_departed : (ns : List Named) (ss : List Session) (name : List ℕ) (number from to : ℕ) → NumbersRise from to ns → AllByRecursion (IsOpen ss) ns → number_of name ns ≡ Some number
     → AllByRecursion (IsOpen (without_session number ss)) (without name ns)
-all_open_left [] ss name number from to rise all e = tt
-all_open_left (n ∷ ns) ss name number from to rise all e =
-    left_next n ns ss name number to (bytes_eq n.name name) rise.1 all.0 all.1 e (all_open_left ns ss name number (n.number + 1) to rise.1 all.1)
+all_open_departed [] ss name number from to rise all e = tt
+all_open_departed (n ∷ ns) ss name number from to rise all e =
+    departed_next n ns ss name number to (bytes_eq n.name name) rise.1 all.0 all.1 e (all_open_departed ns ss name number (n.number + 1) to rise.1 all.1)
 
 numbers_lower : (ns : List Named) (low from to : ℕ) → low ≤ from → NumbersRise from to ns → NumbersRise low to ns
 numbers_lower [] low from to lower rise = omega arith
@@ -139,6 +139,6 @@ numbers_next : (n : Named) (ns : List Named) (name : List ℕ) (from to : ℕ) (
 numbers_next n ns name from to true first rise more = numbers_lower ns from (n.number + 1) to (omega arith) rise
 numbers_next n ns name from to false first rise more = (first, more)
 
-pub numbers_left : (ns : List Named) (name : List ℕ) (from to : ℕ) → NumbersRise from to ns → NumbersRise from to (without name ns)
-numbers_left [] name from to rise = rise
-numbers_left (n ∷ ns) name from to rise = numbers_next n ns name from to (bytes_eq n.name name) rise.0 rise.1 (numbers_left ns name (n.number + 1) to rise.1)
+pub numbers_departed : (ns : List Named) (name : List ℕ) (from to : ℕ) → NumbersRise from to ns → NumbersRise from to (without name ns)
+numbers_departed [] name from to rise = rise
+numbers_departed (n ∷ ns) name from to rise = numbers_next n ns name from to (bytes_eq n.name name) rise.0 rise.1 (numbers_departed ns name (n.number + 1) to rise.1)

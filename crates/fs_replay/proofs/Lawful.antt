@@ -1,10 +1,11 @@
 -- What holds of all scripts.
 use Rattle.std.proofs.Common.{◌≡◌, ℕ, ◌+◌, ◌<◌, Bool, true, false, cond, eqb, List, [], ◌∷◌, ◌++◌, length, Option, Some, None, ◌≤ℤ◌, pos, ◌+ℤ◌, Err, refl, ap, ◌∙◌, arith}
-use Rattle.std.specs.Prelude.{◌||◌, codes, int_lt, nat_le}
+use Rattle.std.specs.Prelude.{codes, int_lt, nat_le}
 use Rattle.std.proofs.lemmas.Int.{ints}
 use Rattle.std.proofs.lemmas.List.Splits.{length-slice_split}
 use Rattle.std.specs.FinMap.{get}
 use Rattle.std.specs.List.{onto_first}
+use Rattle.std.proofs.lemmas.Bool.{or_parts}
 use Rattle.fs_path.specs.declared.name.DocName.{DocName}
 use Rattle.fs_rpc.specs.declared.message.Message.{Message}
 use Rattle.fs_rpc.specs.declared.message.Message.TheVariants as message
@@ -13,7 +14,8 @@ use Rattle.fs_status.specs.declared.refusal.Refusal.{Refusal}
 use Rattle.fs_value.specs.declared.document.Document.{Document}
 use Rattle.fs_write.specs.WrittenName.{is_written}
 use Rattle.fs_history.specs.History.{at, whole}
-use Rattle.fs_machine.specs.Alone.{IsAlone, settled_rejected}
+use Rattle.fs_machine.specs.Alone.{IsAlone}
+use Rattle.fs_machine.proofs.Alone.{settled_rejected}
 use Rattle.fs_machine.specs.Commit.{outbox_refusal, passed}
 use Rattle.fs_machine.specs.Laws.{AlwaysKept, NeverChanged}
 use Rattle.fs_machine.specs.Limits.{greatest}
@@ -22,7 +24,8 @@ use Rattle.fs_machine.specs.Read.{document_answer, time_refusal, unless_refused}
 use Rattle.fs_machine.specs.Request.{answered}
 use Rattle.fs_machine.specs.Settle.{outcome_of, settled}
 use Rattle.fs_machine.specs.State.{Machine}
-use Rattle.fs_machine.specs.Stays.{Stays, stays_on, stays_same}
+use Rattle.fs_machine.specs.Stays.{Stays}
+use Rattle.fs_machine.proofs.Stays.{stays_on, stays_same}
 use Rattle.fs_machine.specs.declared.answer.Answer.TheVariants.{Reply}
 use Rattle.fs_machine.specs.declared.limits.Limits.{Limits}
 use Rattle.fs_replay.specs.Laws.{IsBetweenLines, IsOneLine, after_lines, asked_writes, is_answered, is_commit, is_silent, is_written_in, line_in_state, may_move}
@@ -30,7 +33,7 @@ use Rattle.fs_replay.specs.Step.{after_line, line_output, start}
 use Rattle.fs_replay.specs.Transcript.{lines_of, written, transcript}
 use Rattle.fs_replay.specs.declared.state.State.{State}
 use Rattle.fs_replay.proofs.Following.{Follows, Unwritten, follows}
-use Rattle.fs_replay.proofs.Told.{nothing_in}
+use Rattle.fs_replay.proofs.Waiting.{nothing_in}
 
 -- ---- the start
 
@@ -38,10 +41,6 @@ pub starts_between : AlwaysKept → IsBetweenLines start
 starts_between kept = record { idle = refl; empty = tt; open_all = tt; numbers = omega arith; facts = kept start.server.config greatest start.moment []; limits = refl }
 
 -- ---- lines
-
-neither : (b c : Bool) → (b || c) ≡ false → (b ≡ false) × (c ≡ false)
-neither true c e = absurd (cc)
-neither false c e = (refl, e)
 
 module _ (unwritten : Unwritten) (unchanged : NeverChanged) where
   line_follows : (s : State) (n : ℕ) (bytes : List ℕ) → IsBetweenLines s → Follows s (line_in_state s bytes) (after_line s n bytes) (line_output s n bytes)
@@ -70,7 +69,7 @@ module _ (unwritten : Unwritten) (unchanged : NeverChanged) where
   lines_keep s n (bytes ∷ lines) name between e =
       let one = line_follows s n bytes between in
       let next = after_line s n bytes in
-      let both = neither (is_written name (asked_writes (line_in_state s bytes))) (is_written_in name next (n + 1) lines) e in
+      let both = or_parts (is_written name (asked_writes (line_in_state s bytes))) (is_written_in name next (n + 1) lines) e in
       lines_keep next (n + 1) lines name one.between both.1 ∙ one.kept name both.0
 
   pub one_line : (s : State) (n : ℕ) (bytes : List ℕ) → IsBetweenLines s → is_answered (line_in_state s bytes) ≡ true → IsOneLine (line_output s n bytes)

@@ -11,7 +11,7 @@ mod Removed
 mod Plain
 mod OneLine
 mod Standing
-mod Told
+mod Waiting
 mod Drained
 mod Known
 mod Closing

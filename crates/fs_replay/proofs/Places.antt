@@ -1,17 +1,10 @@
 -- Where a name stands in a directory.
-use Rattle.std.proofs.Common.{◌≡◌, ℕ, ◌+◌, suc, Bool, true, false, cond, List, [], ◌∷◌, Option, Some, None, option_map, refl, sym, ap, subst, arith}
+use Rattle.std.proofs.Common.{◌≡◌, ℕ, ◌+◌, Bool, true, false, cond, List, [], ◌∷◌, Option, Some, None, option_map, refl, sym, ap, subst}
 use Rattle.std.specs.Prelude.{remove}
 use Rattle.std.specs.Str.{bytes_eq}
+use Rattle.fs_machine.proofs.Places.{next_place, none_there}
 use Rattle.fs_replay.specs.Directory.{place_in, without}
 use Rattle.fs_replay.specs.declared.directory.Named.{Named}
-
-next_place : (o : Option ℕ) (i : ℕ) → option_map (λ place. place + 1) o ≡ Some i → (j : ℕ) × (o ≡ Some j) × (i ≡ suc j)
-next_place None i h = absurd (cc)
-next_place (Some j) i h = (j, refl, let e : Some (j + 1) ≡ Some i = h in let f : j + 1 ≡ i = cc in omega (arith, f))
-
-none_there : (o : Option ℕ) → option_map (λ place. place + 1) o ≡ None → o ≡ None
-none_there None h = refl
-none_there (Some j) h = absurd (cc)
 
 module _ (name : List ℕ) where
   abbrev Placed : Bool → List Named → Option ℕ

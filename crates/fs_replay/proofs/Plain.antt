@@ -1,5 +1,5 @@
 -- A line that is read as a request has no member that is there and tells another form.
-use Rattle.std.proofs.Common.{◌≡◌, ℕ, Bool, true, false, List, [], ◌∷◌, ◌++◌, Option, Some, None, Result, Ok, Err, ◌&&◌, ◌||◌, ◌∙◌, unwrap_or, refl, sym, ap, is_some, codes, if◌then◌else◌}
+use Rattle.std.proofs.Common.{◌≡◌, ℕ, Bool, true, false, List, [], ◌∷◌, ◌++◌, Option, Some, None, Result, Ok, Err, ◌&&◌, ◌∙◌, unwrap_or, refl, sym, ap, is_some, codes, if◌then◌else◌}
 use Rattle.std.proofs.lemmas.Map.Lookups.{exact_bytes}
 use Rattle.std.specs.Cmp.Lexicographic.{slice_cmp}
 use Rattle.std.specs.Bool.{⊤}
@@ -8,6 +8,7 @@ use Rattle.std.specs.Option.{option_map_or, option_or}
 use Rattle.std.specs.Ordering.{nat_cmp, match_ordering}
 use Rattle.std.specs.declared.cmp.Ordering.{Ordering}
 use Rattle.std.specs.declared.cmp.Ordering.TheVariants.{Less, Equal, Greater}
+use Rattle.std.proofs.lemmas.Bool.{or_parts}
 use Rattle.serde_json.specs.Data.{Data, null, boolean, number, string, array, object, Members, no_members, member}
 use Rattle.serde_json.specs.Find.{get, get_member}
 use Rattle.fs_json.specs.Answer.{◌>>=◌}
@@ -21,7 +22,7 @@ use Rattle.fs_path.specs.declared.place.Rule.TheVariants.{G}
 use Rattle.fs_rpc.specs.Envelope.{session_request_at}
 use Rattle.fs_rpc.specs.Methods.{methods, session_head}
 use Rattle.fs_rpc.specs.declared.envelope.SessionRequest.{SessionRequest}
-use Rattle.fs_replay.specs.Line.{bare, form_of, has_any, is_there, is_unbuilt_form, leaves_session, line_read, told_in, unbuilt_forms, without_member}
+use Rattle.fs_replay.specs.Line.{bare, form_of, has_any, is_there, is_unbuilt_form, leaves_session, line_read, other_form, unbuilt_forms, without_member}
 use Rattle.fs_replay.specs.declared.request.Line.{Line}
 use Rattle.fs_replay.specs.declared.request.Line.TheVariants as line
 
@@ -87,10 +88,6 @@ is_bare (object ms) clock compact leave =
 
 -- ---- requests
 
-neither : (a b : Bool) → (a || b) ≡ false → (a ≡ false) × (b ≡ false)
-neither false b is = (refl, is)
-neither true b is = absurd (cc)
-
 abbrev known : List (List ℕ)
 known = session_head ++ methods
 
@@ -101,7 +98,7 @@ first_passes (Err bad) next y is = absurd (cc)
 any_absent : (names keys : List (List ℕ)) (d : Data) (r : ⊤) → list_any (λ key. list_any (λ name. spells name key) names) keys ≡ false → only_at names d [] ≡ Ok r → has_any keys d ≡ false
 any_absent names [] d r unknown passed = refl
 any_absent names (k ∷ ks) d r unknown passed =
-    let each = neither (list_any (λ name. spells name k) names) (list_any (λ key. list_any (λ name. spells name key) names) ks) unknown in
+    let each = or_parts (list_any (λ name. spells name k) names) (list_any (λ key. list_any (λ name. spells name key) names) ks) unknown in
     rw (is_absent names k d r each.0 passed) (any_absent names ks d r each.1 passed)
 
 none_told : (a b c e : Bool) (w x y z : Line) → a ≡ false → b ≡ false → c ≡ false → e ≡ false
@@ -117,7 +114,7 @@ neither_both false b none = refl
 
 -- what is read as a request has no member that tells another form, and none of those members
 pub record IsPlain (d : Data) : Type 0 where
-  told : told_in d ≡ None
+  told : other_form d ≡ None
   bare : bare d ≡ d
 
 is_plain : (root : Root) (d : Data) (asked : SessionRequest) → session_request_at root d ≡ Ok asked → IsPlain d
@@ -136,24 +133,11 @@ is_plain root d asked is =
 
 -- ---- the form of a line
 
-formed : (a b c e : Bool) (w x y z r : Line) → (if a then w else if b then x else if c then y else if e then z else r)
-    ≡ unwrap_or (if a then Some w else if b then Some x else if c then Some y else if e then Some z else None) r
-formed true b c e w x y z r = refl
-formed false true c e w x y z r = refl
-formed false false true e w x y z r = refl
-formed false false false true w x y z r = refl
-formed false false false false w x y z r = refl
+pub form_told : (root : Root) (d : Data) (l : Line) → other_form d ≡ Some l → form_of root d ≡ l
+form_told root d l told = ap (λ o. unwrap_or o (line_read line.Asked (session_request_at root (bare d)))) told
 
-form_is : (root : Root) (d : Data) (found : Option Line) → told_in d ≡ found → form_of root d ≡ unwrap_or found (line_read line.Asked (session_request_at root (bare d)))
-form_is root d found told =
-    formed (is_unbuilt_form d) (is_there (codes "clock") d) (is_there (codes "compact") d) (leaves_session d) _ _ _ _ _
-    ∙ ap (λ o. unwrap_or o (line_read line.Asked (session_request_at root (bare d)))) told
-
-pub form_told : (root : Root) (d : Data) (l : Line) → told_in d ≡ Some l → form_of root d ≡ l
-form_told root d l told = form_is root d (Some l) told
-
-pub form_untold : (root : Root) (d : Data) → told_in d ≡ None → form_of root d ≡ line_read line.Asked (session_request_at root (bare d))
-form_untold root d told = form_is root d None told
+pub form_untold : (root : Root) (d : Data) → other_form d ≡ None → form_of root d ≡ line_read line.Asked (session_request_at root (bare d))
+form_untold root d told = ap (λ o. unwrap_or o (line_read line.Asked (session_request_at root (bare d)))) told
 
 pub form_asked : (root : Root) (d : Data) (asked : SessionRequest) → session_request_at root d ≡ Ok asked → form_of root d ≡ line.Asked asked
 form_asked root d asked is =

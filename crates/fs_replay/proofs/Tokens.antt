@@ -11,7 +11,7 @@ use Rattle.fs_rpc.specs.declared.message.Message.{Message}
 use Rattle.fs_rpc.specs.declared.message.Message.TheVariants.{Commit, GetDocument, BatchGetDocuments, RunQuery, Error}
 use Rattle.fs_value.specs.Data.{Data}
 use Rattle.fs_valjson.specs.Document.{document_json}
-use Rattle.fs_valjson.specs.TokenLaws.{object_tokens}
+use Rattle.fs_valjson.proofs.Tokens.{object_tokens}
 use Rattle.fs_valjson.specs.Tokens.{member_tokens, text_member, tokens_of}
 use Rattle.fs_valjson.specs.Writing.{list_json}
 use Rattle.fs_write.specs.declared.write_result.WriteResult.{WriteResult}

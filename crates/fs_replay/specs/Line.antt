@@ -1,5 +1,5 @@
 -- The lines of a script: what each is read as.
-use Rattle.std.specs.Prelude.{ℕ, ℤ, Bool, false, ◌&&◌, List, [], ◌∷◌, length, Option, Some, None, Result, Ok, Err, codes, is_some, is_none, nat_lt, option_and_then, if◌then◌else◌}
+use Rattle.std.specs.Prelude.{ℕ, ℤ, Bool, false, ◌&&◌, List, [], ◌∷◌, length, Option, Some, None, Result, Ok, Err, codes, is_some, is_none, nat_lt, option_and_then, if◌then◌else◌, unwrap_or}
 use Rattle.std.specs.Cmp.Lexicographic.{slice_cmp}
 use Rattle.std.specs.List.{list_any}
 use Rattle.std.specs.Option.{option_map_or}
@@ -15,7 +15,7 @@ use Rattle.fs_json.specs.Members.{only_at, required_at}
 use Rattle.fs_json.specs.declared.bad.Bad.{Bad}
 use Rattle.fs_json.specs.declared.bad.Bad.TheVariants.{At, Method, Memory}
 use Rattle.fs_rpc.specs.Envelope.{session_request_at}
-use Rattle.fs_rpc.specs.Times.{required_time_at}
+use Rattle.fs_json.specs.Time.{required_time_at}
 use Rattle.fs_status.specs.declared.reason.Reason.{Reason}
 use Rattle.fs_status.specs.declared.reason.Reason.TheVariants as reasons
 use Rattle.fs_status.specs.declared.reason.LineFault.TheVariants.{NotAnObject, HasBytes}
@@ -99,15 +99,19 @@ bare (string s) = string s
 bare (array ds) = array ds
 bare (object ms) = object (without_forms ms)
 
+-- the line that another form tells than that of a request
+abbrev pub other_form : Data → Option Line
+other_form d =
+    if is_unbuilt_form d then Some line.NotBuilt
+    else if is_there (codes "clock") d then Some (line_read line.Clock (time_line_at (codes "clock") d))
+    else if is_there (codes "compact") d then Some (line_read line.Compact (time_line_at (codes "compact") d))
+    else if leaves_session d then Some (line_read line.Leave (leave_at d))
+    else None
+
 -- What no other form tells is read as a request, whatever of those members it has: they are null, or a leave without a
 -- session. So where it has no session, a member that no form has is at fault at its place, and else the line itself.
 abbrev pub form_of : Root → Data → Line
-form_of root d =
-    if is_unbuilt_form d then line.NotBuilt
-    else if is_there (codes "clock") d then line_read line.Clock (time_line_at (codes "clock") d)
-    else if is_there (codes "compact") d then line_read line.Compact (time_line_at (codes "compact") d)
-    else if leaves_session d then line_read line.Leave (leave_at d)
-    else line_read line.Asked (session_request_at root (bare d))
+form_of root d = unwrap_or (other_form d) (line_read line.Asked (session_request_at root (bare d)))
 
 abbrev pub line_in : Root → Option Data → Line
 line_in root None = line.Refused (reasons.Line NotAnObject)
@@ -125,15 +129,6 @@ too_long bytes = reasons.Line (HasBytes bytes)
 abbrev pub line_of : Root → List ℕ → Line
 line_of root [] = line.Empty
 line_of root (b ∷ bs) = if nat_lt longest_line (length (b ∷ bs)) then line.Refused (too_long (length (b ∷ bs))) else line_in root (json_of (b ∷ bs))
-
--- for private clauses: a line that another form tells than that of a request
-abbrev pub told_in : Data → Option Line
-told_in d =
-    if is_unbuilt_form d then Some line.NotBuilt
-    else if is_there (codes "clock") d then Some (line_read line.Clock (time_line_at (codes "clock") d))
-    else if is_there (codes "compact") d then Some (line_read line.Compact (time_line_at (codes "compact") d))
-    else if leaves_session d then Some (line_read line.Leave (leave_at d))
-    else None
 
 -- for private clauses: a fault, and not want of memory
 abbrev pub IsFault : Bad → Type 0

@@ -3,7 +3,7 @@
 use Rattle.std.specs.Prelude.{◌≡◌, ℕ, ℤ, pos, List, [], ◌∷◌, ◌++◌, Option, Some, None, Result, Ok, Err, codes}
 use Rattle.fs_json.specs.declared.bad.Bad.{Bad}
 use Rattle.fs_machine.specs.Compact.{compacted}
-use Rattle.fs_machine.specs.Leave.{left}
+use Rattle.fs_machine.specs.Leave.{departed}
 use Rattle.fs_machine.specs.Limits.{greatest}
 use Rattle.fs_machine.specs.Open.{open_answer, opened}
 use Rattle.fs_machine.specs.Request.{answered, asked}
@@ -138,7 +138,7 @@ clocked s time = record s { server = ticked s.server (later s.moment time); mome
 
 abbrev pub leaves : State → ℕ → List ℕ → Option ℕ → Played
 leaves s n name None = prints s (error_line (reasons.Line DoesNotApply) n)
-leaves s n name (Some number) = closed (record s { server = left s.server number; directory = without name s.directory })
+leaves s n name (Some number) = closed (record s { server = departed s.server number; directory = without name s.directory })
 
 -- ---- lines
 

@@ -73,7 +73,7 @@ impl Directory {
     pub fn remove(&mut self, name: &str)
         ensures { self.new ≡ without name.now self.old }
     {
-        match place_of(&self.items, name) {
+        match place_in(&self.items, name) {
             Some(place) => {
                 let _ = self.items.remove(place);
             }
@@ -98,7 +98,7 @@ fn number_in(named: &[Named], name: &str) -> Option<u32>
 }
 
 // Where a name stands.
-fn place_of(named: &[Named], name: &str) -> Option<usize>
+fn place_in(named: &[Named], name: &str) -> Option<usize>
     ensures place { result ≡ place_in name.now named.now }
     ensures within { IfSome result (λ place. place < length named.now) }
 {
@@ -108,7 +108,7 @@ fn place_of(named: &[Named], name: &str) -> Option<usize>
             if first.name.as_str() == name {
                 return Some(0);
             }
-            let place = place_of(rest, name)?;
+            let place = place_in(rest, name)?;
             Some(place + 1)
         }
     }

@@ -1,15 +1,13 @@
 //! Reading the lines of a script.
 ghost use Rattle.std.specs.Prelude.{◌≡◌, IfOk, codes, map, option_map};
-ghost use Rattle.serde_json.specs.View.{members_view, view};
+ghost use Rattle.serde_json.specs.View.{members_view, view as json};
 ghost use Rattle.fs_json.specs.Answer.{Gives};
-ghost use Rattle.fs_path.specs.Way.{place_of};
 ghost use Rattle.fs_rpc.specs.Envelope.{session_request_at};
-ghost use Rattle.fs_rpc.specs.Times.{required_time_at};
-ghost use Rattle.fs_replay.specs.Line.{bare, form_of, has_any, is_there, is_unbuilt_form, IsFault, json_of, leave_at, leaves_session, line_of, line_read, line_reason, time_line_at, told_in, without_member};
+ghost use Rattle.fs_replay.specs.Line.{bare, form_of, has_any, is_there, is_unbuilt_form, IsFault, json_of, leave_at, leaves_session, line_of, line_read, line_reason, other_form, time_line_at, without_member};
 
 use crate::limits::LONGEST_LINE;
 use crate::request::Line;
-use fs_json::{Bad, only, required, text, time};
+use fs_json::{Bad, only, read_required_time, read_text, required};
 use fs_path::{Place, Root, Rule, Text, Way};
 use fs_rpc::read_session_request;
 use fs_status::{LineFault, Reason};
@@ -34,7 +32,7 @@ const SESSION: &str = "session";
 
 // Whether an object has a member of one of these names, whatever it holds.
 fn has_any(v: &Value, names: &[&str]) -> bool
-    ensures { result ≡ has_any (map (λ n. n.now) names.now) (view v.now) }
+    ensures { result ≡ has_any (map (λ n. n.now) names.now) (json v.now) }
 {
     match names {
         [] => false,
@@ -43,14 +41,14 @@ fn has_any(v: &Value, names: &[&str]) -> bool
 }
 
 fn is_unbuilt_form(v: &Value) -> bool
-    ensures { result ≡ is_unbuilt_form (view v.now) }
+    ensures { result ≡ is_unbuilt_form (json v.now) }
 {
     has_any(v, &UNBUILT_FORMS)
 }
 
 // The value of a line that is JSON.
 fn json_of(alloc: Global, line: &[u8]) -> Result<Option<Value>, AllocError>
-    ensures { IfOk result (λ found. option_map view found ≡ json_of line.now) }
+    ensures { IfOk result (λ found. option_map json found ≡ json_of line.now) }
 {
     match Value::from_slice(alloc, line) {
         Ok(v) => Ok(Some(v)),
@@ -86,8 +84,9 @@ pub fn read_line(alloc: Global, root: &Root, line: &[u8]) -> Result<Line, AllocE
 }
 
 // No member that is there of a request tells another form, so that is looked for only where a line isn't read as a request.
+// (docs/DECISIONS.md, "Whether a line is a request is asked first".)
 fn line_in(alloc: Global, root: &Root, v: &mut Value) -> Result<Line, AllocError>
-    ensures { IfOk result (λ l. l ≡ form_of root.now (view v.old)) }
+    ensures { IfOk result (λ l. l ≡ form_of root.now (json v.old)) }
 {
     match read_session_request(alloc, root, v) {
         Ok(asked) => Ok(Line::Asked(asked)),
@@ -100,17 +99,17 @@ fn line_in(alloc: Global, root: &Root, v: &mut Value) -> Result<Line, AllocError
 
 // A line of any form.
 fn other_line(alloc: Global, root: &Root, v: &mut Value) -> Result<Line, AllocError>
-    ensures { IfOk result (λ l. l ≡ form_of root.now (view v.old)) }
+    ensures { IfOk result (λ l. l ≡ form_of root.now (json v.old)) }
 {
-    match told_line(alloc, v)? {
+    match other_form(alloc, v)? {
         Some(line) => Ok(line),
         None => bare_line(alloc, root, v),
     }
 }
 
 // The line that another form tells than that of a request.
-fn told_line(alloc: Global, v: &Value) -> Result<Option<Line>, AllocError>
-    ensures { IfOk result (λ found. found ≡ told_in (view v.now)) }
+fn other_form(alloc: Global, v: &Value) -> Result<Option<Line>, AllocError>
+    ensures { IfOk result (λ found. found ≡ other_form (json v.now)) }
 {
     if is_unbuilt_form(v) {
         return Ok(Some(Line::NotBuilt));
@@ -129,7 +128,7 @@ fn told_line(alloc: Global, v: &Value) -> Result<Option<Line>, AllocError>
 
 // Whether a member is there: one that is null isn't.
 fn is_there(v: &Value, name: &str) -> bool
-    ensures { result ≡ is_there name.now (view v.now) }
+    ensures { result ≡ is_there name.now (json v.now) }
 {
     match v.get(name) {
         Some(found) => !found.is_null(),
@@ -138,14 +137,14 @@ fn is_there(v: &Value, name: &str) -> bool
 }
 
 fn leaves_session(v: &Value) -> bool
-    ensures { result ≡ leaves_session (view v.now) }
+    ensures { result ≡ leaves_session (json v.now) }
 {
     is_there(v, SESSION) && is_there(v, LEAVE)
 }
 
 // The line as a request, with the members of other forms taken out, none of which tells one.
 fn bare_line(alloc: Global, root: &Root, v: &mut Value) -> Result<Line, AllocError>
-    ensures { IfOk result (λ l. l ≡ line_read Line.Asked (session_request_at root.now (bare (view v.old)))) }
+    ensures { IfOk result (λ l. l ≡ line_read Line.Asked (session_request_at root.now (bare (json v.old)))) }
 {
     let bare = bare_of(mem::replace(v, Value::Null));
     let line = request_in(alloc, root, &bare);
@@ -154,7 +153,7 @@ fn bare_line(alloc: Global, root: &Root, v: &mut Value) -> Result<Line, AllocErr
 }
 
 fn request_in(alloc: Global, root: &Root, v: &Value) -> Result<Line, AllocError>
-    ensures { IfOk result (λ l. l ≡ line_read Line.Asked (session_request_at root.now (view v.now))) }
+    ensures { IfOk result (λ l. l ≡ line_read Line.Asked (session_request_at root.now (json v.now))) }
 {
     match read_session_request(alloc, root, v) {
         Ok(asked) => Ok(Line::Asked(asked)),
@@ -163,7 +162,7 @@ fn request_in(alloc: Global, root: &Root, v: &Value) -> Result<Line, AllocError>
 }
 
 fn bare_of(v: Value) -> Value
-    ensures { view result ≡ bare (view v) }
+    ensures { json result ≡ bare (json v) }
 {
     match v {
         Value::Object(mut members) => {
@@ -183,7 +182,7 @@ fn remove(members: &mut Map<String, Value>, name: &str)
 }
 
 fn clock_in(alloc: Global, v: &Value) -> Result<Line, AllocError>
-    ensures { IfOk result (λ l. l ≡ line_read Line.Clock (time_line_at (codes "clock") (view v.now))) }
+    ensures { IfOk result (λ l. l ≡ line_read Line.Clock (time_line_at (codes "clock") (json v.now))) }
 {
     match time_in(alloc, v, CLOCK) {
         Ok(time) => Ok(Line::Clock(time)),
@@ -192,7 +191,7 @@ fn clock_in(alloc: Global, v: &Value) -> Result<Line, AllocError>
 }
 
 fn compact_in(alloc: Global, v: &Value) -> Result<Line, AllocError>
-    ensures { IfOk result (λ l. l ≡ line_read Line.Compact (time_line_at (codes "compact") (view v.now))) }
+    ensures { IfOk result (λ l. l ≡ line_read Line.Compact (time_line_at (codes "compact") (json v.now))) }
 {
     match time_in(alloc, v, COMPACT) {
         Ok(time) => Ok(Line::Compact(time)),
@@ -200,8 +199,9 @@ fn compact_in(alloc: Global, v: &Value) -> Result<Line, AllocError>
     }
 }
 
+// (docs/DECISIONS.md, "A line with `session` and `leave`".)
 fn leave_in(alloc: Global, v: &Value) -> Result<Line, AllocError>
-    ensures { IfOk result (λ l. l ≡ line_read Line.Leave (leave_at (view v.now))) }
+    ensures { IfOk result (λ l. l ≡ line_read Line.Leave (leave_at (json v.now))) }
 {
     match leaving_in(alloc, v) {
         Ok(name) => Ok(Line::Leave(name)),
@@ -222,29 +222,21 @@ fn refused(bad: Bad) -> Result<Line, AllocError>
 
 // The time of a line that has nothing else.
 fn time_in(alloc: Global, v: &Value, name: &str) -> Result<Micros, Bad>
-    ensures { Gives (λ t. t) result (time_line_at name.now (view v.now)) }
+    ensures { Gives (λ t. t) result (time_line_at name.now (json v.now)) }
 {
     let top = Way::method("");
     only(alloc, v, &[name], &top)?;
-    required_time(alloc, v, name, &top)
-}
-
-// A time that has to be there.
-fn required_time(alloc: Global, v: &Value, name: &str, place: &Way<'_>) -> Result<Micros, Bad>
-    ensures { Gives (λ t. t) result (required_time_at name.now (view v.now) (place_of place.now)) }
-{
-    let moment = required(alloc, v, name, place)?;
-    time(alloc, moment, &place.member(name))
+    read_required_time(alloc, v, name, &top)
 }
 
 // The name of a session that leaves.
 fn leaving_in(alloc: Global, v: &Value) -> Result<Text, Bad>
-    ensures { Gives (λ t. t) result (leave_at (view v.now)) }
+    ensures { Gives (λ t. t) result (leave_at (json v.now)) }
 {
     let top = Way::method("");
     only(alloc, v, &[SESSION, LEAVE], &top)?;
     let session = required(alloc, v, SESSION, &top)?;
-    let name = text(alloc, session, &Way::method(SESSION))?;
+    let name = read_text(alloc, session, &Way::method(SESSION))?;
     let leave = required(alloc, v, LEAVE, &top)?;
     if leave.as_bool() == Some(true) {
         return Ok(name);

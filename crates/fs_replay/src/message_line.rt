@@ -27,6 +27,7 @@ const ROOM: usize = 1024;
 ///
 /// `{"id":"1","result":{"commitTime":"2024-01-01T00:00:00Z","writeResults":[{"updateTime":"2024-01-01T00:00:00Z"}]},
 /// "session":"a"}`
+/// (docs/DECISIONS.md, "Replies are written token by token".)
 pub fn message_bytes(alloc: Global, session: &str, message: &Message) -> Result<Vec<u8>, AllocError>
     ensures { IfOk result (λ b. b.items ≡ compact_text (message_json_on session.now message.now)) }
 {

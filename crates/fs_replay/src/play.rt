@@ -72,6 +72,7 @@ fn play_on<K: Sink>(
 
 /// Carries out the lines of a script, and gives what they write to the sink. The last line counts where the script is
 /// whole, and is left out where it was cut off in it. False where the sink failed.
+/// (docs/DECISIONS.md, "A run doesn't give its documents back one by one".)
 pub fn play<K: Sink>(
     alloc: Global,
     script: &[u8],

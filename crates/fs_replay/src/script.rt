@@ -15,6 +15,7 @@ use std::alloc::{AllocError, Global};
 ///
 /// `Ok` where the source told its end and all was written; `ReadFault` or `InputLimit` where the lines were carried out that
 /// had come with their newline by then; `WriteFault` or `Memory` where the sink has a beginning of the transcript.
+/// (docs/DECISIONS.md, "The whole input is read before its first line is carried out".)
 pub fn replay<S: Source, K: Sink>(alloc: Global, source: &mut S, sink: &mut K) -> Status
     ensures some { (result ≢ Status.Usage) × (result ≢ Status.DoorFault) }
 

@@ -7,7 +7,7 @@ use Rattle.serde_json.specs.Data.{Data, Items, item, member, array, object}
 use Rattle.serde_json.specs.Find.{as_array}
 use Rattle.serde_json.specs.View.{items_of}
 use Rattle.fs_path.specs.Document.{document_of, document_text, IsDocumentOf}
-use Rattle.fs_path.specs.DocumentLaws.{document_only}
+use Rattle.fs_path.proofs.Documents.{document_only}
 use Rattle.fs_path.specs.Place.{item_place, member_place}
 use Rattle.fs_path.specs.declared.name.DocName.{DocName}
 use Rattle.fs_path.specs.declared.name.Root.{Root}
@@ -19,39 +19,33 @@ use Rattle.fs_json.specs.Members.{is_given}
 use Rattle.fs_json.specs.declared.bad.Bad.{Bad}
 use Rattle.fs_valjson.specs.Document.{document_at, document_json}
 use Rattle.fs_valjson.specs.Reading.{list_at}
-use Rattle.fs_valjson.specs.Held.{IsTimeHeld}
+use Rattle.fs_json.specs.Time.{IsTimeHeld}
 use Rattle.fs_valjson.specs.Valid.{IsValid}
 use Rattle.fs_valjson.specs.Writing.{list_json}
 use Rattle.fs_value.specs.Data as value
 use Rattle.fs_value.specs.declared.document.Document.{Document}
 use Rattle.fs_write.specs.declared.write_result.WriteResult.{WriteResult}
-use Rattle.fs_writejson.specs.Results.{result_json, IsResultHeld}
+use Rattle.fs_writejson.specs.Results.{result_json, IsResultHeld, write_result_at}
 use Rattle.fs_json.specs.Walk.{each_at}
 use Rattle.fs_rpc.specs.MessageJson.{batch_answer_json, commit_json, error_json, error_members, message_json, query_answer_json, query_answers_json, read_at, result_members}
 use Rattle.fs_rpc.specs.MessageSteps.{IsAnswerHeld, IsDocumentHeld, IsMessageHeld}
 use Rattle.fs_rpc.specs.ReadMessage.{answers_commit, answers_names, commit_result_at, error_at, message_at, query_result_at, result_at}
-use Rattle.fs_rpc.specs.ReadResults.{answered, batch_answer_at, query_answer_at, write_result_at}
-use Rattle.fs_rpc.specs.ValidMessage.{HasNames, IsAnswerOf, IsMessageOf}
+use Rattle.fs_rpc.specs.ReadResults.{answered, batch_answer_at, query_answer_at}
+use Rattle.fs_rpc.specs.ValidMessage.{IsAnswerOf, IsMessageOf}
 use Rattle.fs_rpc.specs.declared.message.BatchAnswer.{BatchAnswer}
 use Rattle.fs_rpc.specs.declared.message.BatchAnswer.TheVariants.{Found, Missing}
 use Rattle.fs_rpc.specs.declared.message.Message.{Message}
 use Rattle.fs_rpc.specs.declared.message.Message.TheVariants.{Commit, GetDocument, BatchGetDocuments, RunQuery, Error}
+use Rattle.fs_writejson.proofs.WriteResults.{write_result_again}
+use Rattle.fs_writejson.specs.Valid.{ResultHasNames}
 
 -- ---- results of writes
 
-one_result : (updated : Option ℤ) (ds : List value.Data) (place : List ℕ) → IfSome updated IsTimeHeld
-    → ((p : List ℕ) → list_at (list_json ds) p ≡ Ok ds) → write_result_at (result_json (record { updated = updated; transforms = ds })) place ≡ Ok (record { updated = updated; transforms = ds })
-unfolding write_result_at result_json
-one_result None [] place t h = refl
-one_result (Some time) [] place t h = rw (t (member_place place (codes "updateTime"))) refl
-one_result None (d ∷ ds) place t h = rw (h (member_place place (codes "transformResults"))) refl
-one_result (Some time) (d ∷ ds) place t h = rw (t (member_place place (codes "updateTime")), h (member_place place (codes "transformResults"))) refl
-
-results_again : (rs : List WriteResult) (i : ℕ) (place : List ℕ) → AllByRecursion IsResultHeld rs → AllByRecursion HasNames rs
+results_again : (rs : List WriteResult) (i : ℕ) (place : List ℕ) → AllByRecursion IsResultHeld rs → AllByRecursion ResultHasNames rs
     → each_at write_result_at (items_of (map result_json rs)) i place ≡ Ok rs
 results_again [] i place held names = refl
 results_again (r ∷ rs) i place held names =
-    rw (one_result r.updated r.transforms (item_place place i) held.0.updated (λ p. held.0.transforms p names.0), results_again rs (i + 1) place held.1 names.1) refl
+    rw (write_result_again r (item_place place i) held.0 names.0, results_again rs (i + 1) place held.1 names.1) refl
 
 commit_again : (id : Option (List ℕ)) (time : ℤ) (rs : List WriteResult) (place : List ℕ) → IsTimeHeld time
     → each_at write_result_at (items_of (map result_json rs)) 0 (member_place place (codes "writeResults")) ≡ Ok rs → commit_result_at id (commit_json time rs) place ≡ Ok (Commit id time rs)
@@ -166,7 +160,7 @@ document_result : (root : Root) (id : Option (List ℕ)) (d : Document) (place :
 unfolding result_at
 document_result root id d place held valid = rw (no_list d, no_commit d, held root place valid) refl
 
-commit_result : (root : Root) (id : Option (List ℕ)) (time : ℤ) (rs : List WriteResult) (place : List ℕ) → IsTimeHeld time → AllByRecursion IsResultHeld rs → AllByRecursion HasNames rs
+commit_result : (root : Root) (id : Option (List ℕ)) (time : ℤ) (rs : List WriteResult) (place : List ℕ) → IsTimeHeld time → AllByRecursion IsResultHeld rs → AllByRecursion ResultHasNames rs
     → result_at root id (commit_json time rs) place ≡ Ok (Commit id time rs)
 unfolding result_at
 commit_result root id time rs place t held names = commit_again id time rs place t (results_again rs 0 (member_place place (codes "writeResults")) held names)

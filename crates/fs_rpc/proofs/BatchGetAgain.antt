@@ -5,7 +5,7 @@ use Rattle.std.proofs.lemmas.List.Folds.{list_any-append}
 use Rattle.std.proofs.lemmas.Map.Keys.{IsDistinct-head, IsDistinct-tail}
 use Rattle.fs_path.specs.Database.{IsDatabase}
 use Rattle.fs_path.specs.Document.{document_text, IsDocumentOf}
-use Rattle.fs_path.specs.DocumentLaws.{document_only}
+use Rattle.fs_path.proofs.Documents.{document_only}
 use Rattle.fs_path.specs.NameOrder.{name_eq, name_eq_equiv}
 use Rattle.fs_path.specs.Place.{item_place, member_place}
 use Rattle.fs_path.specs.declared.field.FieldPath.{FieldPath}
@@ -15,7 +15,7 @@ use Rattle.serde_json.specs.Data.{Members, no_members, member, object}
 use Rattle.fs_json.specs.Answer.{◌>>=◌}
 use Rattle.fs_json.specs.Paths.{document_name_at as name_at, path_at}
 use Rattle.fs_json.specs.Walk.{each_at}
-use Rattle.fs_valjson.specs.Held.{IsTimeHeld}
+use Rattle.fs_json.specs.Time.{IsTimeHeld}
 use Rattle.fs_rpc.specs.Envelope.{envelope_at}
 use Rattle.fs_rpc.specs.Id.{with_id_put}
 use Rattle.fs_rpc.specs.RequestJson.{batch_get_json, name_json, names_json}

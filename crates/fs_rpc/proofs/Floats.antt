@@ -5,10 +5,10 @@ use Rattle.serde_json.specs.View.{items_of}
 use Rattle.serde_json.specs.Written.{has_float, items_have_float, members_have_float}
 use Rattle.fs_status.specs.declared.code.Code.{Code}
 use Rattle.fs_valjson.specs.Document.{document_json}
-use Rattle.fs_valjson.specs.FloatLaws.{document_float}
+use Rattle.fs_valjson.proofs.Floats.{document_float}
 use Rattle.fs_value.specs.declared.document.Document.{Document}
 use Rattle.fs_write.specs.declared.write_result.WriteResult.{WriteResult}
-use Rattle.fs_writejson.specs.FloatLaws.{result_float}
+use Rattle.fs_writejson.proofs.WriteResults.{result_float}
 use Rattle.fs_writejson.specs.Results.{result_json}
 use Rattle.fs_rpc.specs.MessageJson.{batch_answer_json, commit_json, error_json, error_members, message_json, query_answer_json, query_answers_json, result_members}
 use Rattle.fs_rpc.specs.declared.message.BatchAnswer.{BatchAnswer}

@@ -1,13 +1,13 @@
 -- What is written of the read of one document is read as the same.
 use Rattle.std.proofs.Common.{◌≡◌, ℕ, ℤ, List, Option, Some, None, Ok, IfSome, codes, refl}
 use Rattle.fs_path.specs.Document.{document_text, IsDocumentOf}
-use Rattle.fs_path.specs.DocumentLaws.{document_only}
+use Rattle.fs_path.proofs.Documents.{document_only}
 use Rattle.fs_path.specs.Place.{member_place}
 use Rattle.fs_path.specs.declared.field.FieldPath.{FieldPath}
 use Rattle.fs_path.specs.declared.name.DocName.{DocName}
 use Rattle.fs_path.specs.declared.name.Root.{Root}
 use Rattle.serde_json.specs.Data.{Members, no_members, member, object}
-use Rattle.fs_valjson.specs.Held.{IsTimeHeld}
+use Rattle.fs_json.specs.Time.{IsTimeHeld}
 use Rattle.fs_rpc.specs.Envelope.{envelope_at}
 use Rattle.fs_rpc.specs.Id.{with_id_put}
 use Rattle.fs_rpc.specs.RequestJson.{get_json}

@@ -13,45 +13,29 @@ use Rattle.fs_json.specs.Paths.{document_name_at}
 use Rattle.fs_json.specs.Walk.{all_at, each_at}
 use Rattle.fs_value.specs.Data as value
 use Rattle.fs_value.specs.declared.document.Document.{Document}
-use Rattle.fs_valjson.specs.AnswerLaws.{at_last_holds, either, in_turn_holds}
-use Rattle.fs_valjson.specs.DepthLaws.{document_within, each_inside, inside_or, list_inside, list_within, one_falls}
+use Rattle.fs_json.proofs.Readings.{at_last_holds, either, in_turn_holds}
+use Rattle.fs_json.proofs.Walks.{each_inside, list_inside}
+use Rattle.fs_json.proofs.Depths.{inside_or, one_falls}
+use Rattle.fs_json.specs.Time.{optional_time_at, required_time_at}
+use Rattle.fs_valjson.proofs.Depths.{document_within, list_within}
 use Rattle.fs_valjson.specs.Document.{document_at, document_json}
 use Rattle.fs_valjson.specs.Reading.{list_at}
 use Rattle.fs_valjson.specs.Writing.{list_json}
 use Rattle.fs_write.specs.declared.write_result.WriteResult.{WriteResult}
-use Rattle.fs_writejson.specs.Results.{result_json}
+use Rattle.fs_writejson.specs.Results.{result_json, write_result_at}
 use Rattle.fs_rpc.specs.Id.{id_at}
 use Rattle.fs_rpc.specs.MessageJson.{batch_answer_json, commit_json, error_json, error_members, message_json, query_answer_json, query_answers_json, result_members}
 use Rattle.fs_rpc.specs.ReadMessage.{answers_commit, answers_names, code_named, commit_result_at, commit_result_members, documents_result_at, error_at, if_numbered, list_result_at, message_at, message_members, object_result_at, outcome_at, outcomes, query_result_at, required_integer_at, required_text_at, result_at}
 use Rattle.fs_rpc.specs.ReadMessage as read
-use Rattle.fs_rpc.specs.ReadResults.{answered, batch_answer_at, batch_answer_members, document_in, found_or_missing, query_answer_at, query_answer_members, results_in, time_of, transforms_in, write_result_at, write_result_members}
-use Rattle.fs_rpc.specs.Times.{optional_time_at, required_time_at}
+use Rattle.fs_rpc.specs.ReadResults.{answered, batch_answer_at, batch_answer_members, document_in, found_or_missing, query_answer_at, query_answer_members, results_in, answers_time}
 use Rattle.fs_rpc.specs.declared.message.BatchAnswer.{BatchAnswer}
 use Rattle.fs_rpc.specs.declared.message.Message.{Message}
+use Rattle.fs_writejson.proofs.WriteResults.{write_result_within}
 
 -- ---- results of writes
 
-result_fits : (updated : Option ℤ) (ds : List value.Data) (n : ℕ) → depth (list_json ds) ≤ n → depth (result_json (record { updated = updated; transforms = ds })) ≤ n + 1
-unfolding result_json
-result_fits None [] n h = omega (arith, h)
-result_fits (Some time) [] n h = omega (arith, h)
-result_fits None (d ∷ ds) n h = omega (arith, h)
-result_fits (Some time) (d ∷ ds) n h = omega (arith, h)
-
 abbrev ResultWithin : ℕ → WriteResult → Type 0
 ResultWithin n r = depth (result_json r) ≤ n + 1
-
-result_within : (d : Data) (place : List ℕ) (n : ℕ) → depth d ≤ n + 1 → 0 < n → IfOk (write_result_at d place) (ResultWithin n)
-unfolding write_result_at
-result_within d place n h some =
-    let inner = member_place place (codes "transformResults") in
-    let V : List value.Data → Type 0 = λ ds. depth (list_json ds) ≤ n in
-    at_last_holds (ResultWithin n) (only_at write_result_members d place) _
-    (λ u. at_last_holds (ResultWithin n) (optional_time_at (codes "updateTime") d place) _
-    (λ updated. in_turn_holds V (ResultWithin n) (transforms_in d place) _
-    (inside_or V (codes "transformResults") d place (λ x. list_at x inner) (Ok [])
-    (λ x falls. IfOk-weaker (list_at x inner) (λ ds. depth (list_json ds) ≤ depth x) V (λ ds are. omega (arith, are, falls, h)) (list_within x inner)) (omega (arith, some)))
-    (λ ds are. result_fits updated ds n are)))
 
 results_fit : (rs : List WriteResult) (n : ℕ) → AllByRecursion (ResultWithin n) rs → items_depth (items_of (map result_json rs)) ≤ n + 1
 results_fit [] n each = omega arith
@@ -84,7 +68,7 @@ commit_within id d place n h some =
     (λ u. at_last_holds P (required_time_at (codes "commitTime") d place) _
     (λ time. in_turn_holds (AllByRecursion (ResultWithin n)) P (results_in d place) _
     (inside_or (AllByRecursion (ResultWithin n)) (codes "writeResults") d place (λ x. all_at write_result_at x inner) (Ok [])
-    (λ x falls. list_inside (ResultWithin n) write_result_at x (n + 1) inner (omega (arith, falls, h)) (λ y p low. result_within y p n low some)) tt)
+    (λ x falls. list_inside (ResultWithin n) write_result_at x (n + 1) inner (omega (arith, falls, h)) (λ y p low. write_result_within y p n low some)) tt)
     (λ rs each. omega (arith, with_result id (commit_json time rs) (n + 3) (commit_fits time rs n each)))))
 
 -- ---- names that were asked for
@@ -146,7 +130,7 @@ query_fits (d ∷ ds) time n some each = told_fit (d ∷ ds) time n each
 
 one_answer : (place : List ℕ) (n : ℕ) (items : List (Option Document × ℤ)) → AllByRecursion (ItemWithin n) items
     → IfOk (or_fault G place (answered items)) (λ one. AllByRecursion (λ x. depth (document_json x) < n) one.0)
-one_answer place n items each = at (time_of items)
+one_answer place n items each = at (answers_time items)
   where
     at : (time : Option ℤ) → IfOk {T = List Document × ℤ} (or_fault G place (option_map (λ t. (filter_map (λ a. a.0) items, t)) time)) (λ one. AllByRecursion (λ x. depth (document_json x) < n) one.0)
     at None = record {}

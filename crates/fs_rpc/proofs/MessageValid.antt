@@ -13,40 +13,29 @@ use Rattle.fs_json.specs.Paths.{document_name_at}
 use Rattle.fs_json.specs.Walk.{all_at, each_at}
 use Rattle.fs_value.specs.Data.{items_of}
 use Rattle.fs_value.specs.declared.document.Document.{Document}
-use Rattle.fs_valjson.specs.AnswerLaws.{at_last_holds, each_item, each_of_list, either, found_or, in_turn_holds}
+use Rattle.fs_json.proofs.Readings.{at_last_holds, either, found_or, in_turn_holds, member_holds, of_made}
+use Rattle.fs_json.proofs.Walks.{each_item, each_of_list}
+use Rattle.fs_json.proofs.Named.{document_name_is}
+use Rattle.fs_json.specs.Time.{optional_time_at, required_time_at}
 use Rattle.fs_valjson.specs.Document.{document_at}
-use Rattle.fs_valjson.specs.NameLaws.{document_name_is}
 use Rattle.fs_valjson.specs.Reading.{list_at}
 use Rattle.fs_valjson.specs.Valid.{IsValid}
-use Rattle.fs_valjson.specs.ValidLaws.{document_valid, list_names}
+use Rattle.fs_valjson.proofs.Valid.{document_valid, list_names}
 use Rattle.fs_valjson.specs.Writing.{ItemsHaveNames}
 use Rattle.fs_rpc.specs.Id.{id_at}
 use Rattle.fs_rpc.specs.ReadMessage.{answers_commit, answers_names, code_named, commit_result_at, commit_result_members, documents_result_at, error_at, if_numbered, list_result_at, message_at, message_members, object_result_at, outcome_at, outcomes, query_result_at, required_integer_at, required_text_at, result_at}
 use Rattle.fs_rpc.specs.ReadMessage as read
-use Rattle.fs_rpc.specs.ReadResults.{answered, batch_answer_at, batch_answer_members, document_in, found_at, found_or_missing, missing_at, query_answer_at, query_answer_members, results_in, time_of, transforms_in, write_result_at, write_result_members}
-use Rattle.fs_rpc.specs.Times.{optional_time_at, required_time_at}
-use Rattle.fs_rpc.specs.ValidMessage.{HasNames, IsAnswerOf, IsMessageOf}
+use Rattle.fs_rpc.specs.ReadResults.{answered, batch_answer_at, batch_answer_members, document_in, found_at, found_or_missing, missing_at, query_answer_at, query_answer_members, results_in, answers_time}
+use Rattle.fs_rpc.specs.ValidMessage.{IsAnswerOf, IsMessageOf}
+use Rattle.fs_writejson.proofs.WriteResults.{write_result_valid}
+use Rattle.fs_writejson.specs.Results.{write_result_at}
+use Rattle.fs_writejson.specs.Valid.{ResultHasNames}
 
 -- ---- results of writes
 
-transforms_valid : (d : Data) (place : List ℕ) → IfOk (transforms_in d place) (λ ds. ItemsHaveNames (items_of ds))
-transforms_valid d place =
-    let inside = member_place place (codes "transformResults") in
-    at_last_holds (λ ds. ItemsHaveNames (items_of ds)) (member_at (codes "transformResults") d place) _
-    (λ found. found_or (λ ds. ItemsHaveNames (items_of ds)) (λ x. list_at x inside) found (Ok []) (λ x. list_names x inside) tt)
-
-write_result_valid : (d : Data) (place : List ℕ) → IfOk (write_result_at d place) HasNames
-unfolding write_result_at
-write_result_valid d place =
-    at_last_holds HasNames (only_at write_result_members d place) _
-    (λ u. at_last_holds HasNames (optional_time_at (codes "updateTime") d place) _
-    (λ updated. in_turn_holds (λ ds. ItemsHaveNames (items_of ds)) HasNames (transforms_in d place) _ (transforms_valid d place) (λ ds are. are)))
-
-results_valid : (d : Data) (place : List ℕ) → IfOk (results_in d place) (AllByRecursion HasNames)
+results_valid : (d : Data) (place : List ℕ) → IfOk (results_in d place) (AllByRecursion ResultHasNames)
 results_valid d place =
-    let inside = member_place place (codes "writeResults") in
-    at_last_holds (AllByRecursion HasNames) (member_at (codes "writeResults") d place) _
-    (λ found. found_or (AllByRecursion HasNames) (λ x. all_at write_result_at x inside) found (Ok []) (λ x. each_of_list HasNames write_result_at x inside write_result_valid) tt)
+    member_holds (AllByRecursion ResultHasNames) [] (all_at write_result_at) (codes "writeResults") d place (λ x p. each_of_list ResultHasNames write_result_at x p write_result_valid) tt
 
 -- ---- names that were asked for
 
@@ -77,10 +66,7 @@ IsItemOf root document = IfSome document (IsValid root)
 
 document_in_valid : (root : Root) (d : Data) (place : List ℕ) → IfOk (document_in root d place) (IsItemOf root)
 document_in_valid root d place =
-    let inside = member_place place (codes "document") in
-    at_last_holds (IsItemOf root) (member_at (codes "document") d place) _
-    (λ found. found_or (IsItemOf root) (λ x. document_at root x inside >>= λ document. Ok (Some document)) found (Ok None)
-    (λ x. in_turn_holds (IsValid root) (IsItemOf root) (document_at root x inside) _ (document_valid root x inside) (λ document is. is)) (record {}))
+    member_holds (IsItemOf root) None _ (codes "document") d place (λ x p. of_made (IsValid root) (IsItemOf root) Some (document_at root x p) (document_valid root x p) (λ document is. is)) (record {})
 
 item_valid : (root : Root) (d : Data) (place : List ℕ) → IfOk (query_answer_at root d place) (λ a. IsItemOf root a.0)
 unfolding query_answer_at
@@ -97,7 +83,7 @@ kept root ((Some document, time) ∷ items) each = (each.0, kept root items each
 
 one_answer : (root : Root) (place : List ℕ) (items : List (Option Document × ℤ)) → AllByRecursion (λ a. IsItemOf root a.0) items
     → IfOk (or_fault G place (answered items)) (λ one. AllByRecursion (IsValid root) one.0)
-one_answer root place items each = at (time_of items)
+one_answer root place items each = at (answers_time items)
   where
     at : (time : Option ℤ) → IfOk {T = List Document × ℤ} (or_fault G place (option_map (λ t. (filter_map (λ a. a.0) items, t)) time)) (λ one. AllByRecursion (IsValid root) one.0)
     at None = record {}
@@ -110,7 +96,7 @@ unfolding commit_result_at
 commit_valid root id d place =
     at_last_holds (IsMessageOf root) (only_at commit_result_members d place) _
     (λ u. at_last_holds (IsMessageOf root) (required_time_at (codes "commitTime") d place) _
-    (λ time. in_turn_holds (AllByRecursion HasNames) (IsMessageOf root) (results_in d place) _ (results_valid d place) (λ results are. are)))
+    (λ time. in_turn_holds (AllByRecursion ResultHasNames) (IsMessageOf root) (results_in d place) _ (results_valid d place) (λ results are. are)))
 
 object_valid : (root : Root) (id : Option (List ℕ)) (d : Data) (place : List ℕ) → IfOk (object_result_at root id d place) (IsMessageOf root)
 object_valid root id d place =

@@ -2,7 +2,7 @@
 use Rattle.std.proofs.Common.{◌≡◌, ◌==◌, ℕ, false, List, [], ◌∷◌, Vec, Global, length, refl, ap, ◌∙◌}
 use Rattle.serde_json.proofs.Views.{view-Array}
 use Rattle.serde_json.specs.Data.{Members, array, put}
-use Rattle.serde_json.specs.View.{items_view, view}
+use Rattle.serde_json.specs.View.{items_view, view as json}
 use Rattle.serde_json.specs.declared.value.Value.{Value, Array}
 use Rattle.fs_rpc.specs.Steps.{with_list_put}
 
@@ -12,5 +12,5 @@ filled_at name (v ∷ vs) others some = refl
 
 -- a list that has items
 pub filled_put : (name : List ℕ) (values : Vec Value Global) (others : Members) → (length values.items == 0) ≡ false
-    → put name (view (Array values)) others ≡ with_list_put name (items_view values.items) others
+    → put name (json (Array values)) others ≡ with_list_put name (items_view values.items) others
 filled_put name values others some = ap (λ d. put name d others) (view-Array values) ∙ filled_at name values.items others some

@@ -9,13 +9,14 @@ use Rattle.fs_path.specs.declared.name.Root.{Root}
 use Rattle.fs_json.specs.Members.{one_of_at, only_at, required_at, unbuilt_at}
 use Rattle.fs_json.specs.Paths.{document_name_at as name_at}
 use Rattle.fs_query.specs.Asked.{Asked}
-use Rattle.fs_queryjson.specs.DepthLaws.{permitted_within, walked_within}
+use Rattle.fs_queryjson.proofs.QueryDepth.{permitted_within, walked_within}
 use Rattle.fs_queryjson.specs.Query.{permitted_at, walked_at}
 use Rattle.fs_queryjson.specs.Written.{query_json}
-use Rattle.fs_valjson.specs.AnswerLaws.{at_last_holds, either, in_turn_holds}
-use Rattle.fs_valjson.specs.DepthLaws.{inside, inside_or, one_falls}
+use Rattle.fs_json.proofs.Readings.{at_last_holds, either, in_turn_holds}
+use Rattle.fs_json.proofs.Depths.{inside, inside_or, one_falls}
 use Rattle.fs_write.specs.declared.write.Write.{Write}
-use Rattle.fs_writejson.specs.DepthLaws.{drafts_within, judged_within, mask_depth}
+use Rattle.fs_writejson.proofs.MaskDepth.{mask_depth}
+use Rattle.fs_writejson.proofs.WriteDepth.{drafts_within, judged_within}
 use Rattle.fs_writejson.specs.Draft.{drafts_at}
 use Rattle.fs_writejson.specs.Rules.{judged_at}
 use Rattle.fs_writejson.specs.Written.{write_json}

@@ -19,13 +19,16 @@ use Rattle.fs_json.specs.Paths.{document_name_at as name_at}
 use Rattle.fs_json.specs.Walk.{each_at}
 use Rattle.fs_query.specs.Asked.{Asked}
 use Rattle.fs_queryjson.specs.Query.{permitted_at, walked_at}
-use Rattle.fs_queryjson.specs.ValidLaws.{permitted_valid, walked_valid, IsReadBelow, IsWalked}
-use Rattle.fs_valjson.specs.AnswerLaws.{at_last_holds, each_item, either, found_or, in_turn_holds}
-use Rattle.fs_valjson.specs.NameLaws.{database_is, document_name_is, parent_is}
+use Rattle.fs_queryjson.specs.Valid.{IsReadBelow, IsWalked}
+use Rattle.fs_queryjson.proofs.QueryValid.{permitted_valid, walked_valid}
+use Rattle.fs_json.proofs.Readings.{at_last_holds, either, found_or, in_turn_holds}
+use Rattle.fs_json.proofs.Walks.{each_item}
+use Rattle.fs_json.proofs.Named.{database_is, document_name_is, parent_is}
 use Rattle.fs_writejson.specs.Draft.{drafts_at}
 use Rattle.fs_writejson.specs.Rules.{judged_at}
 use Rattle.fs_writejson.specs.Valid.{IsDraftOf, IsWriteOf}
-use Rattle.fs_writejson.specs.ValidLaws.{drafts_valid, judged_valid}
+use Rattle.fs_writejson.proofs.RulesValid.{judged_valid}
+use Rattle.fs_writejson.proofs.WriteValid.{drafts_valid}
 use Rattle.fs_rpc.specs.Requests.{batch_get_at, batch_get_members, commit_at, commit_members, database_at, drafts_in, get_at, get_members, mask_in, names_at, once_after, parent_at, request_at, run_query_at, run_query_members, structured_at, when_at}
 use Rattle.fs_rpc.specs.ValidRequest.{IsRequestOf}
 

@@ -8,10 +8,10 @@ use Rattle.fs_json.specs.Answer.{◌>>=◌}
 use Rattle.fs_json.specs.Members.{is_given, required_at}
 use Rattle.fs_json.specs.declared.bad.Bad.{Bad}
 use Rattle.fs_query.specs.Asked.{Asked}
-use Rattle.fs_queryjson.specs.From.{parent_of as scope_parent}
+use Rattle.fs_path.specs.Scope.{scope_parent}
 use Rattle.fs_queryjson.specs.Query.{permitted_at, query_at, walked_at}
 use Rattle.fs_queryjson.specs.Written.{query_json}
-use Rattle.fs_valjson.specs.Held.{IsTimeHeld}
+use Rattle.fs_json.specs.Time.{IsTimeHeld}
 use Rattle.fs_rpc.specs.Envelope.{envelope_at}
 use Rattle.fs_rpc.specs.Id.{with_id_put}
 use Rattle.fs_rpc.specs.RequestJson.{run_query_json, with_read_time}

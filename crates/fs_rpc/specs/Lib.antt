@@ -1,6 +1,5 @@
 pub mod Methods
 pub mod Id
-pub mod Times
 pub mod Requests
 pub mod Envelope
 pub mod MessageJson

@@ -4,10 +4,9 @@ use Rattle.std.specs.Prelude.{◌≡◌, ℕ, ℤ, List, Ok, codes}
 use Rattle.std.specs.List.{AllByRecursion}
 use Rattle.fs_path.specs.declared.name.Root.{Root}
 use Rattle.serde_json.specs.Data.{Data, object, no_members, put}
-use Rattle.fs_json.specs.Time.{time_json}
+use Rattle.fs_json.specs.Time.{time_json, IsTimeHeld}
 use Rattle.fs_value.specs.declared.document.Document.{Document}
 use Rattle.fs_valjson.specs.Document.{document_at, document_json}
-use Rattle.fs_valjson.specs.Held.{IsTimeHeld}
 use Rattle.fs_valjson.specs.Valid.{IsValid}
 use Rattle.fs_writejson.specs.Results.{IsResultHeld}
 use Rattle.fs_rpc.specs.declared.message.BatchAnswer.{BatchAnswer}

@@ -21,7 +21,7 @@ use Rattle.fs_valjson.specs.Document.{document_at}
 use Rattle.fs_json.specs.Walk.{each_at}
 use Rattle.fs_rpc.specs.Id.{id_at}
 use Rattle.fs_rpc.specs.ReadResults.{results_in, batch_answer_at, query_answer_at, answered}
-use Rattle.fs_rpc.specs.Times.{required_time_at}
+use Rattle.fs_json.specs.Time.{required_time_at}
 use Rattle.fs_rpc.specs.declared.message.Message.{Message}
 use Rattle.fs_rpc.specs.declared.message.Message.TheVariants.{Commit, GetDocument, BatchGetDocuments, RunQuery, Error}
 

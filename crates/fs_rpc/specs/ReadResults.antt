@@ -1,5 +1,5 @@
 -- What a request was answered: the results of writes, and documents that were asked for, as proto3 JSON.
--- (v1 reference: "WriteResult", `BatchGetDocumentsResponse`, `RunQueryResponse`.)
+-- (v1 reference: `CommitResponse`, `BatchGetDocumentsResponse`, `RunQueryResponse`.)
 use Rattle.std.specs.Prelude.{ℕ, ℤ, Bool, ◌&&◌, ◌||◌, ◌==◌, List, [], ◌∷◌, Option, Some, None, Result, Ok, codes, filter_map, is_some, length, option_map, if◌then◌else◌}
 use Rattle.std.specs.List.{list_all}
 use Rattle.std.specs.Option.{option_map_or}
@@ -8,8 +8,8 @@ use Rattle.std.specs.Str.{bytes_eq}
 use Rattle.serde_json.specs.Data as json
 use Rattle.fs_path.specs.Place.{member_place}
 use Rattle.fs_path.specs.declared.name.Root.{Root}
-use Rattle.fs_json.specs.Answer.{◌>>=◌}
-use Rattle.fs_json.specs.Members.{member_at, only_at, one_of_at}
+use Rattle.fs_json.specs.Answer.{◌>>=◌, made}
+use Rattle.fs_json.specs.Members.{member_at, only_at, one_of_at, member_or}
 use Rattle.fs_json.specs.Paths.{document_name_at}
 use Rattle.fs_json.specs.declared.bad.Bad.{Bad}
 use Rattle.fs_valjson.specs.Document.{document_at}
@@ -18,33 +18,16 @@ use Rattle.fs_value.specs.Data.{Data}
 use Rattle.fs_value.specs.declared.document.Document.{Document}
 use Rattle.fs_write.specs.declared.write_result.WriteResult.{WriteResult}
 use Rattle.fs_json.specs.Walk.{all_at}
-use Rattle.fs_rpc.specs.Times.{optional_time_at, required_time_at}
+use Rattle.fs_json.specs.Time.{optional_time_at, required_time_at}
 use Rattle.fs_rpc.specs.declared.message.BatchAnswer.{BatchAnswer}
 use Rattle.fs_rpc.specs.declared.message.BatchAnswer.TheVariants.{Found, Missing}
+use Rattle.fs_writejson.specs.Results.{write_result_at}
 
 -- ---- results of writes
 
--- an absent list has no values
-abbrev pub transforms_in : json.Data → List ℕ → Result (List Data) Bad
-transforms_in d place = member_at (codes "transformResults") d place >>= λ found.
-    option_map_or (λ x. list_at x (member_place place (codes "transformResults"))) found (Ok [])
-
--- the members of a write's result
-abbrev pub write_result_members : List (List ℕ)
-write_result_members = codes "updateTime" ∷ codes "transformResults" ∷ []
-
--- what a write is answered; a delete has no time at which the document was last updated
-unfoldable pub write_result_at : json.Data → List ℕ → Result WriteResult Bad
-write_result_at d place = do
-  _ ← only_at write_result_members d place
-  updated ← optional_time_at (codes "updateTime") d place
-  transforms ← transforms_in d place
-  Ok (record { updated = updated; transforms = transforms })
-
 -- an absent list has no results
 abbrev pub results_in : json.Data → List ℕ → Result (List WriteResult) Bad
-results_in d place = member_at (codes "writeResults") d place >>= λ found.
-    option_map_or (λ x. all_at write_result_at x (member_place place (codes "writeResults"))) found (Ok [])
+results_in d place = member_or [] (all_at write_result_at) (codes "writeResults") d place
 
 -- ---- names that were asked for
 
@@ -89,8 +72,7 @@ query_answer_members = codes "document" ∷ codes "readTime" ∷ []
 
 -- the document of an item, which may be absent
 abbrev pub document_in : Root → json.Data → List ℕ → Result (Option Document) Bad
-document_in root d place = member_at (codes "document") d place >>= λ found.
-    option_map_or (λ x. document_at root x (member_place place (codes "document")) >>= λ document. Ok (Some document)) found (Ok None)
+document_in root d place = member_or None (λ x p. made Some (document_at root x p)) (codes "document") d place
 
 -- one item: its document and the time of the read
 unfoldable pub query_answer_at : Root → json.Data → List ℕ → Result (Option Document × ℤ) Bad
@@ -105,10 +87,10 @@ abbrev pub is_one_answer : ℤ → List (Option Document × ℤ) → Bool
 is_one_answer time items = list_all (λ a. int_eq a.1 time) items && (list_all (λ a. is_some a.0) items || length items == 1)
 
 -- the time of items that are one answer
-abbrev pub time_of : List (Option Document × ℤ) → Option ℤ
-time_of [] = None
-time_of (a ∷ items) = if is_one_answer a.1 (a ∷ items) then Some a.1 else None
+abbrev pub answers_time : List (Option Document × ℤ) → Option ℤ
+answers_time [] = None
+answers_time (a ∷ items) = if is_one_answer a.1 (a ∷ items) then Some a.1 else None
 
 -- its documents, and its time
 abbrev pub answered : List (Option Document × ℤ) → Option (List Document × ℤ)
-answered items = option_map (λ time. (filter_map (λ a. a.0) items, time)) (time_of items)
+answered items = option_map (λ time. (filter_map (λ a. a.0) items, time)) (answers_time items)

@@ -20,7 +20,7 @@ use Rattle.serde_json.specs.Data.{Data, string, array, object, Items, Members, n
 use Rattle.serde_json.specs.View.{items_of}
 use Rattle.fs_json.specs.Time.{time_json}
 use Rattle.fs_query.specs.Asked.{Asked}
-use Rattle.fs_queryjson.specs.From.{parent_of}
+use Rattle.fs_path.specs.Scope.{scope_parent}
 use Rattle.fs_queryjson.specs.Written.{query_json}
 use Rattle.fs_write.specs.declared.write.Write.{Write}
 use Rattle.fs_writejson.specs.Mask.{mask_json}
@@ -61,7 +61,7 @@ with_read_time (Some time) rest = member (codes "readTime") (time_json time) res
 
 -- what the collections of a query stand below: the root's documents, or one of them
 abbrev pub parent_json : Root → Scope → Data
-parent_json database scope = string (document_text (under database (parent_of scope)))
+parent_json database scope = string (document_text (under database (scope_parent scope)))
 
 -- ---- methods
 

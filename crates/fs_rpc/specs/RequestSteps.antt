@@ -6,13 +6,12 @@ use Rattle.fs_path.specs.declared.field.FieldPath.{FieldPath}
 use Rattle.fs_path.specs.declared.name.Root.{Root}
 use Rattle.serde_json.specs.Data.{Members, put}
 use Rattle.serde_json.specs.Written.{has_float}
-use Rattle.fs_json.specs.Time.{time_json}
+use Rattle.fs_json.specs.Time.{time_json, IsTimeHeld}
 use Rattle.fs_query.specs.Asked.{Asked}
-use Rattle.fs_queryjson.specs.From.{parent_of}
+use Rattle.fs_path.specs.Scope.{scope_parent}
 use Rattle.fs_queryjson.specs.Query.{query_at}
 use Rattle.fs_queryjson.specs.Valid.{IsValid}
 use Rattle.fs_queryjson.specs.Written.{query_json}
-use Rattle.fs_valjson.specs.Held.{IsTimeHeld}
 use Rattle.fs_write.specs.declared.write.Write.{Write}
 use Rattle.fs_writejson.specs.Mask.{mask_at, mask_json}
 use Rattle.fs_writejson.specs.Rules.{write_at}
@@ -50,7 +49,7 @@ IsMaskHeld (Some paths) = ArePathsHeld paths
 -- a query
 pub record IsQueryHeld (q : Asked) : Type 0 where
   pub float : has_float (query_json q) ≡ false
-  pub again : (place : List ℕ) → IsValid q → query_at (parent_of q.scope) (query_json q) place ≡ Ok q
+  pub again : (place : List ℕ) → IsValid q → query_at (scope_parent q.scope) (query_json q) place ≡ Ok q
 
 -- the parts of a request
 abbrev pub IsRequestHeld : Request → Type 0

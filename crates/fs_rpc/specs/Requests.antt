@@ -26,7 +26,7 @@ use Rattle.fs_writejson.specs.Mask.{mask_at}
 use Rattle.fs_writejson.specs.Rules.{judged_at}
 use Rattle.fs_json.specs.Walk.{each_at}
 use Rattle.fs_writejson.specs.declared.draft.Draft.{Draft}
-use Rattle.fs_rpc.specs.Times.{optional_time_at}
+use Rattle.fs_json.specs.Time.{optional_time_at}
 use Rattle.fs_rpc.specs.declared.request.Request.{Request}
 use Rattle.fs_rpc.specs.declared.request.Request.TheVariants.{Commit, GetDocument, BatchGetDocuments, RunQuery}
 

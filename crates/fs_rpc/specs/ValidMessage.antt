@@ -2,18 +2,12 @@
 use Rattle.std.specs.List.{AllByRecursion}
 use Rattle.fs_path.specs.Document.{IsDocumentOf}
 use Rattle.fs_path.specs.declared.name.Root.{Root}
-use Rattle.fs_value.specs.Data.{items_of}
 use Rattle.fs_valjson.specs.Valid.{IsValid}
-use Rattle.fs_valjson.specs.Writing.{ItemsHaveNames}
-use Rattle.fs_write.specs.declared.write_result.WriteResult.{WriteResult}
 use Rattle.fs_rpc.specs.declared.message.BatchAnswer.{BatchAnswer}
 use Rattle.fs_rpc.specs.declared.message.BatchAnswer.TheVariants.{Found, Missing}
 use Rattle.fs_rpc.specs.declared.message.Message.{Message}
 use Rattle.fs_rpc.specs.declared.message.Message.TheVariants.{Commit, GetDocument, BatchGetDocuments, RunQuery, Error}
-
--- the references in the results of transforms are names of documents
-abbrev pub HasNames : WriteResult → Type 0
-HasNames r = ItemsHaveNames (items_of r.transforms)
+use Rattle.fs_writejson.specs.Valid.{ResultHasNames}
 
 -- what is told of a name of the root
 abbrev pub IsAnswerOf : Root → BatchAnswer → Type 0
@@ -22,7 +16,7 @@ IsAnswerOf root (Missing name time) = IsDocumentOf root name
 
 -- a message of the root's documents: those that it has, and the names of those that it hasn't found, are the root's
 abbrev pub IsMessageOf : Root → Message → Type 0
-IsMessageOf root (Commit id time results) = AllByRecursion HasNames results
+IsMessageOf root (Commit id time results) = AllByRecursion ResultHasNames results
 IsMessageOf root (GetDocument id document) = IsValid root document
 IsMessageOf root (BatchGetDocuments id answers) = AllByRecursion (IsAnswerOf root) answers
 IsMessageOf root (RunQuery id documents time) = AllByRecursion (IsValid root) documents

@@ -8,7 +8,7 @@ use Rattle.fs_path.specs.NameOrder.{name_eq}
 use Rattle.fs_path.specs.declared.name.DocName.{DocName}
 use Rattle.fs_path.specs.declared.name.Root.{Root}
 use Rattle.fs_query.specs.Asked.{Asked}
-use Rattle.fs_queryjson.specs.From.{parent_of}
+use Rattle.fs_path.specs.Scope.{scope_parent}
 use Rattle.fs_queryjson.specs.Valid.{IsValid}
 use Rattle.fs_write.specs.declared.write.Write.{Write}
 use Rattle.fs_writejson.specs.Valid.{IsWriteOf}
@@ -31,7 +31,7 @@ pub record IsBatchOf (root : Root) (database : Root) (documents : List DocName) 
 -- a query below the root's documents or one of them, which breaks no rule of queries
 pub record IsQueryOf (root : Root) (database : Root) (query : Asked) : Type 0 where
   pub same : database ≡ root
-  pub parent : IsParentOf root (parent_of query.scope)
+  pub parent : IsParentOf root (scope_parent query.scope)
   pub valid : IsValid query
 
 -- a request of the root's documents; any mask and any time of a read may be given

@@ -7,15 +7,14 @@ ghost use Rattle.fs_value.specs.declared.document.Document.{Document};
 ghost use Rattle.serde_json.specs.View.{items_view, view as json};
 ghost use Rattle.fs_json.specs.Answer.{Gives};
 ghost use Rattle.fs_json.specs.Walk.{each_at};
-ghost use Rattle.fs_rpc.specs.ReadResults.{answered, batch_answer_at, document_in, found_at, is_one_answer, missing_at, query_answer_at, time_of};
+ghost use Rattle.fs_rpc.specs.ReadResults.{answered, batch_answer_at, document_in, found_at, is_one_answer, missing_at, query_answer_at, answers_time};
 
 use crate::message::{Answers, BatchAnswer};
 use crate::names::{
     BATCH_ANSWER_MEMBERS, DOCUMENT, FOUND, FOUND_OR_MISSING, MISSING, QUERY_ANSWER_MEMBERS,
     READ_TIME,
 };
-use crate::times::required_time;
-use fs_json::{Bad, document_name, member, one_of, only};
+use fs_json::{Bad, member, one_of, only, read_document_name, read_required_time};
 use fs_path::{Root, Way};
 use fs_time::Micros;
 use fs_valjson::read_document;
@@ -28,14 +27,14 @@ pub(crate) fn read_answers(
     alloc: Global,
     root: &Root,
     items: &[Value],
-    place: &Way<'_>,
+    way: &Way<'_>,
 ) -> Result<Answers, Bad>
     ensures { Gives (λ xs. xs) result
-        (each_at (batch_answer_at root.now) (items_view items.now) 0 (place_of place.now)) }
+        (each_at (batch_answer_at root.now) (items_view items.now) 0 (place_of way.now)) }
 {
     let mut answers = Answers::new(alloc);
     for (i, item) in items.iter().enumerate() {
-        let answer = read_answer(alloc, root, item, &place.item(i as u64))?;
+        let answer = read_answer(alloc, root, item, &way.item(i as u64))?;
         answers.push(answer)?;
     }
     Ok(answers)
@@ -43,41 +42,41 @@ pub(crate) fn read_answers(
 
 /// Reads what was told of one name. (v1 reference, `BatchGetDocumentsResponse`.)
 #[tactic(auto, unfolding(crate::specs::ReadResults::batch_answer_at))]
-fn read_answer(alloc: Global, root: &Root, v: &Value, place: &Way<'_>) -> Result<BatchAnswer, Bad>
-    ensures { Gives (λ a. a) result (batch_answer_at root.now (json v.now) (place_of place.now)) }
+fn read_answer(alloc: Global, root: &Root, v: &Value, way: &Way<'_>) -> Result<BatchAnswer, Bad>
+    ensures { Gives (λ a. a) result (batch_answer_at root.now (json v.now) (place_of way.now)) }
 {
-    only(alloc, v, &BATCH_ANSWER_MEMBERS, place)?;
-    match one_of(alloc, v, &FOUND_OR_MISSING, place)? {
-        (FOUND, content) => found(alloc, root, content, v, place),
-        (_, content) => missing(alloc, root, content, v, place),
+    only(alloc, v, &BATCH_ANSWER_MEMBERS, way)?;
+    match one_of(alloc, v, &FOUND_OR_MISSING, way)? {
+        (FOUND, content) => read_found(alloc, root, content, v, way),
+        (_, content) => read_missing(alloc, root, content, v, way),
     }
 }
 
-fn found(
+fn read_found(
     alloc: Global,
     root: &Root,
     content: &Value,
     v: &Value,
-    place: &Way<'_>,
+    way: &Way<'_>,
 ) -> Result<BatchAnswer, Bad>
-    ensures { Gives (λ a. a) result (found_at root.now (json content.now) (json v.now) (place_of place.now)) }
+    ensures { Gives (λ a. a) result (found_at root.now (json content.now) (json v.now) (place_of way.now)) }
 {
-    let document = read_document(alloc, root, content, &place.member(FOUND))?;
-    let time = required_time(alloc, v, READ_TIME, place)?;
+    let document = read_document(alloc, root, content, &way.member(FOUND))?;
+    let time = read_required_time(alloc, v, READ_TIME, way)?;
     Ok(BatchAnswer::Found(document, time))
 }
 
-fn missing(
+fn read_missing(
     alloc: Global,
     root: &Root,
     content: &Value,
     v: &Value,
-    place: &Way<'_>,
+    way: &Way<'_>,
 ) -> Result<BatchAnswer, Bad>
-    ensures { Gives (λ a. a) result (missing_at root.now (json content.now) (json v.now) (place_of place.now)) }
+    ensures { Gives (λ a. a) result (missing_at root.now (json content.now) (json v.now) (place_of way.now)) }
 {
-    let name = document_name(alloc, root, content, &place.member(MISSING))?;
-    let time = required_time(alloc, v, READ_TIME, place)?;
+    let name = read_document_name(alloc, root, content, &way.member(MISSING))?;
+    let time = read_required_time(alloc, v, READ_TIME, way)?;
     Ok(BatchAnswer::Missing(name, time))
 }
 
@@ -86,14 +85,14 @@ pub(crate) fn read_query_answers(
     alloc: Global,
     root: &Root,
     items: &[Value],
-    place: &Way<'_>,
+    way: &Way<'_>,
 ) -> Result<Vec<(Option<Document>, Micros)>, Bad>
     ensures { Gives {Y = List (Option Document × ℤ)} (λ l. l.items) result
-        (each_at (query_answer_at root.now) (items_view items.now) 0 (place_of place.now)) }
+        (each_at (query_answer_at root.now) (items_view items.now) 0 (place_of way.now)) }
 {
     let mut answers = Vec::new(alloc);
     for (i, item) in items.iter().enumerate() {
-        let answer = read_query_answer(alloc, root, item, &place.item(i as u64))?;
+        let answer = read_query_answer(alloc, root, item, &way.item(i as u64))?;
         answers.push(answer)?;
     }
     Ok(answers)
@@ -105,28 +104,28 @@ fn read_query_answer(
     alloc: Global,
     root: &Root,
     v: &Value,
-    place: &Way<'_>,
+    way: &Way<'_>,
 ) -> Result<(Option<Document>, Micros), Bad>
     ensures { Gives {Y = Option Document × ℤ} (λ a. a) result
-        (query_answer_at root.now (json v.now) (place_of place.now)) }
+        (query_answer_at root.now (json v.now) (place_of way.now)) }
 {
-    only(alloc, v, &QUERY_ANSWER_MEMBERS, place)?;
-    let document = document_in(alloc, root, v, place)?;
-    let time = required_time(alloc, v, READ_TIME, place)?;
+    only(alloc, v, &QUERY_ANSWER_MEMBERS, way)?;
+    let document = read_document_of(alloc, root, v, way)?;
+    let time = read_required_time(alloc, v, READ_TIME, way)?;
     Ok((document, time))
 }
 
-fn document_in(
+fn read_document_of(
     alloc: Global,
     root: &Root,
     v: &Value,
-    place: &Way<'_>,
+    way: &Way<'_>,
 ) -> Result<Option<Document>, Bad>
     ensures { Gives {Y = Option Document} (λ d. d) result
-        (document_in root.now (json v.now) (place_of place.now)) }
+        (document_in root.now (json v.now) (place_of way.now)) }
 {
-    match member(alloc, v, DOCUMENT, place)? {
-        Some(document) => Ok(Some(read_document(alloc, root, document, &place.member(DOCUMENT))?)),
+    match member(alloc, v, DOCUMENT, way)? {
+        Some(document) => Ok(Some(read_document(alloc, root, document, &way.member(DOCUMENT))?)),
         None => Ok(None),
     }
 }
@@ -138,7 +137,7 @@ pub(crate) fn answered(
 ) -> Result<Option<(Documents, Micros)>, AllocError>
     ensures { IfOk result (λ one. one ≡ answered items.items) }
 {
-    match time_of(items.as_slice()) {
+    match answers_time(items.as_slice()) {
         Some(time) => Ok(Some((documents_of(alloc, items)?, time))),
         None => Ok(None),
     }
@@ -156,8 +155,8 @@ fn documents_of(
 }
 
 /// The time of items that are one answer.
-fn time_of(items: &[(Option<Document>, Micros)]) -> Option<Micros>
-    ensures { result ≡ time_of items.now }
+fn answers_time(items: &[(Option<Document>, Micros)]) -> Option<Micros>
+    ensures { result ≡ answers_time items.now }
 {
     match items {
         [] => None,

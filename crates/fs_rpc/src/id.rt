@@ -5,17 +5,17 @@ ghost use Rattle.fs_json.specs.Answer.{Gives};
 ghost use Rattle.fs_rpc.specs.Id.{id_at, with_id_put};
 
 use crate::names::ID;
-use fs_json::{Bad, member, text, write_text};
+use fs_json::{Bad, member, read_text, write_text};
 use fs_path::{Text, Way};
 use serde_json::{Map, Value};
 use std::alloc::{AllocError, Global};
 
 /// The id of a request or of its answer, which may be absent.
-pub(crate) fn id_of(alloc: Global, v: &Value) -> Result<Option<Text>, Bad>
+pub(crate) fn read_id(alloc: Global, v: &Value) -> Result<Option<Text>, Bad>
     ensures { Gives {Y = Option (List ℕ)} (λ id. id) result (id_at (json v.now)) }
 {
     match member(alloc, v, ID, &Way::method(""))? {
-        Some(id) => Ok(Some(text(alloc, id, &Way::method(ID))?)),
+        Some(id) => Ok(Some(read_text(alloc, id, &Way::method(ID))?)),
         None => Ok(None),
     }
 }
@@ -35,7 +35,8 @@ pub(crate) fn put_id(
     }
 }
 
-pub(crate) fn copy_id(alloc: Global, id: &Option<Text>) -> Result<Option<Text>, AllocError>
+/// A copy of an id, where there is one.
+pub fn copy_id(alloc: Global, id: &Option<Text>) -> Result<Option<Text>, AllocError>
     ensures { IfOk result (λ i. i ≡ id.now) }
 {
     match id {

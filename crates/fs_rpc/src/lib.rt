@@ -10,14 +10,13 @@ mod message;
 mod message_read;
 mod message_write;
 mod names;
-mod print;
 mod read;
 mod request;
 mod request_write;
 mod results;
-mod times;
 
 pub use envelope::{SessionRequest, read_envelope, read_request, read_session_request};
+pub use id::copy_id;
 pub use message::{Answers, BatchAnswer, Message};
 pub use message_read::read_message;
 pub use message_write::{error_json, write_message};

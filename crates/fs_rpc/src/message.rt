@@ -1,12 +1,11 @@
 //! Messages: the answers to requests.
 use crate::id::copy_id;
-use fs_path::{DocName, Text};
+use fs_path::{Copied, DocName, List, Text};
 use fs_status::{Code, Refusal, message};
 use fs_time::Micros;
 use fs_value::{Document, Documents};
 use fs_write::WriteResults;
 use std::alloc::{AllocError, Global};
-use std::marker::Model;
 
 /// What a client is answered: one variant for each method that is built, and the error. Each has the id of its request,
 /// where that had one.
@@ -115,58 +114,11 @@ impl BatchAnswer {
     }
 }
 
-/// Answers in their order. Contracts see them as a list.
-#[derive(Drop, Debug)]
-pub struct Answers {
-    items: Vec<BatchAnswer>,
-}
-
-impl Model for Answers {
-    ghost use Rattle.std.specs.Prelude.{List};
-    ghost use Rattle.std.specs.Coded.{coded_list};
-    ghost use Rattle.fs_rpc.specs.contracts.message.BatchAnswer as answer;
-    ghost use Rattle.fs_rpc.specs.declared.message.BatchAnswer.{BatchAnswer};
-
-    ghost Value = { List BatchAnswer };
-
-    ghost coded = { coded_list answer.the_row.coded };
-
-    ghost view = { λ l. l.items.items };
-}
-
-impl Answers {
-    ghost use Rattle.std.specs.Prelude.{◌≡◌, ◌∷◌, ◌++◌, IfOk, OnOk, OnErr, [], length};
-
-    /// No answers. The allocator serves those that are pushed.
-    pub fn new(alloc: Global) -> Answers
-        ensures { result ≡ [] }
-    {
-        Answers {
-            items: Vec::new(alloc),
-        }
-    }
-
-    pub fn as_slice(&self) -> &[BatchAnswer]
-        ensures { result.now ≡ self.now }
-    {
-        self.items.as_slice()
-    }
-
-    /// Adds an answer at the end.
-    pub fn push(&mut self, answer: BatchAnswer) -> Result<(), AllocError>
-        ensures ok { OnOk result (self.new ≡ self.old ++ answer ∷ []) }
-        ensures err { OnErr result (self.new ≡ self.old) }
-    {
-        Ok(self.items.push(answer)?)
-    }
-
-    pub fn copy(&self, alloc: Global) -> Result<Answers, AllocError>
-        ensures { IfOk result (λ l. l ≡ self.now) }
-    {
-        let mut items = Vec::with_capacity(alloc, self.items.len())?;
-        for answer in &self.items {
-            items.push(answer.copy(alloc)?)?;
-        }
-        Ok(Answers { items })
+impl Copied for BatchAnswer {
+    fn copy(&self, alloc: Global) -> Result<BatchAnswer, AllocError> {
+        self.copy(alloc)
     }
 }
+
+/// Answers in their order.
+pub type Answers = List<BatchAnswer>;

@@ -13,15 +13,14 @@ ghost use Rattle.fs_rpc.specs.ReadMessage.{answers_commit, answers_names, code_n
 ghost use Rattle.fs_rpc.specs.ValidMessage.{IsMessageOf};
 
 use crate::answers::{answered, read_answers, read_query_answers};
-use crate::id::id_of;
+use crate::id::read_id;
 use crate::message::Message;
 use crate::names::{
     CODE, COMMIT_RESULT_MEMBERS, COMMIT_TIME, ERROR_MEMBERS, FOUND, MESSAGE, MESSAGE_MEMBERS,
     MISSING, OUTCOMES, RESULT, STATUS,
 };
 use crate::results::read_results;
-use crate::times::required_time;
-use fs_json::{Bad, one_of, only, required, text};
+use fs_json::{Bad, one_of, only, read_required_time, read_text, required};
 use fs_path::{Root, Rule, Text, Way};
 use fs_status::Code;
 use fs_valjson::read_document;
@@ -42,12 +41,12 @@ pub fn read_message(alloc: Global, root: &Root, text: &str) -> Result<Message, B
     // What is written of it nests no deeper than JSON is read.
     ensures nests { IfOk result (λ m. depth (message_json m) ≤ max_depth) }
 {
-    let v = json_of(alloc, text)?;
+    let v = read_json(alloc, text)?;
     read_members(alloc, root, &v)
 }
 
 /// The JSON of a text. One that is none is at fault at the empty place.
-pub(crate) fn json_of(alloc: Global, text: &str) -> Result<Value, Bad>
+pub(crate) fn read_json(alloc: Global, text: &str) -> Result<Value, Bad>
     ensures gives { Gives json result (or_fault G [] (read text.now)) }
     ensures nests { IfOk result (λ v. depth (json v) ≤ max_depth) }
 {
@@ -67,7 +66,7 @@ fn read_members(alloc: Global, root: &Root, v: &Value) -> Result<Message, Bad>
 {
     let here = Way::method("");
     only(alloc, v, &MESSAGE_MEMBERS, &here)?;
-    let id = id_of(alloc, v)?;
+    let id = read_id(alloc, v)?;
     let (name, content) = one_of(alloc, v, &OUTCOMES, &here)?;
     read_outcome(alloc, root, id, name, content)
 }
@@ -88,37 +87,38 @@ fn read_outcome(
 }
 
 /// Reads an error, whose code has to be the number of its status in HTTP.
+/// (docs/DECISIONS.md, "An error's code in JSON has to be that of its status".)
 #[tactic(auto, unfolding(crate::specs::ReadMessage::error_at))]
-fn read_error(alloc: Global, id: Option<Text>, v: &Value, place: &Way<'_>) -> Result<Message, Bad>
-    ensures { Gives (λ m. m) result (error_at id (json v.now) (place_of place.now)) }
+fn read_error(alloc: Global, id: Option<Text>, v: &Value, way: &Way<'_>) -> Result<Message, Bad>
+    ensures { Gives (λ m. m) result (error_at id (json v.now) (place_of way.now)) }
 {
-    only(alloc, v, &ERROR_MEMBERS, place)?;
-    let number = required_integer(alloc, v, CODE, place)?;
-    let message = required_text(alloc, v, MESSAGE, place)?;
-    let status = required_text(alloc, v, STATUS, place)?;
+    only(alloc, v, &ERROR_MEMBERS, way)?;
+    let number = read_required_integer(alloc, v, CODE, way)?;
+    let message = read_required_text(alloc, v, MESSAGE, way)?;
+    let status = read_required_text(alloc, v, STATUS, way)?;
     let Some(named) = code_named(status.as_str()) else {
-        return Err(Bad::at(alloc, Rule::G, &place.member(STATUS)));
+        return Err(Bad::at(alloc, Rule::G, &way.member(STATUS)));
     };
     let Some(code) = if_numbered(number, named) else {
-        return Err(Bad::at(alloc, Rule::G, &place.member(CODE)));
+        return Err(Bad::at(alloc, Rule::G, &way.member(CODE)));
     };
     Ok(Message::Error { id, code, message })
 }
 
-fn required_integer(alloc: Global, v: &Value, name: &str, place: &Way<'_>) -> Result<i64, Bad>
-    ensures { Gives (λ n. n) result (required_integer_at name.now (json v.now) (place_of place.now)) }
+fn read_required_integer(alloc: Global, v: &Value, name: &str, way: &Way<'_>) -> Result<i64, Bad>
+    ensures { Gives (λ n. n) result (required_integer_at name.now (json v.now) (place_of way.now)) }
 {
-    match required(alloc, v, name, place)?.as_i64() {
+    match required(alloc, v, name, way)?.as_i64() {
         Some(number) => Ok(number),
-        None => Err(Bad::at(alloc, Rule::G, &place.member(name))),
+        None => Err(Bad::at(alloc, Rule::G, &way.member(name))),
     }
 }
 
-fn required_text(alloc: Global, v: &Value, name: &str, place: &Way<'_>) -> Result<Text, Bad>
-    ensures { Gives (λ t. t) result (required_text_at name.now (json v.now) (place_of place.now)) }
+fn read_required_text(alloc: Global, v: &Value, name: &str, way: &Way<'_>) -> Result<Text, Bad>
+    ensures { Gives (λ t. t) result (required_text_at name.now (json v.now) (place_of way.now)) }
 {
-    let found = required(alloc, v, name, place)?;
-    text(alloc, found, &place.member(name))
+    let found = required(alloc, v, name, way)?;
+    read_text(alloc, found, &way.member(name))
 }
 
 /// The codes that refusals have.
@@ -164,13 +164,13 @@ fn read_result(
     root: &Root,
     id: Option<Text>,
     v: &Value,
-    place: &Way<'_>,
+    way: &Way<'_>,
 ) -> Result<Message, Bad>
-    ensures { Gives (λ m. m) result (result_at root.now id (json v.now) (place_of place.now)) }
+    ensures { Gives (λ m. m) result (result_at root.now id (json v.now) (place_of way.now)) }
 {
     match v.as_array() {
-        Some(items) => read_list(alloc, root, id, items.as_slice(), place),
-        None => read_object(alloc, root, id, v, place),
+        Some(items) => read_list(alloc, root, id, items.as_slice(), way),
+        None => read_object(alloc, root, id, v, way),
     }
 }
 
@@ -179,14 +179,14 @@ fn read_list(
     root: &Root,
     id: Option<Text>,
     items: &[Value],
-    place: &Way<'_>,
+    way: &Way<'_>,
 ) -> Result<Message, Bad>
-    ensures { Gives (λ m. m) result (list_result_at root.now id (items_view items.now) (place_of place.now)) }
+    ensures { Gives (λ m. m) result (list_result_at root.now id (items_view items.now) (place_of way.now)) }
 {
     if answers_names(items) {
-        read_documents(alloc, root, id, items, place)
+        read_documents(alloc, root, id, items, way)
     } else {
-        read_query(alloc, root, id, items, place)
+        read_query(alloc, root, id, items, way)
     }
 }
 
@@ -195,11 +195,11 @@ fn read_documents(
     root: &Root,
     id: Option<Text>,
     items: &[Value],
-    place: &Way<'_>,
+    way: &Way<'_>,
 ) -> Result<Message, Bad>
-    ensures { Gives (λ m. m) result (documents_result_at root.now id (items_view items.now) (place_of place.now)) }
+    ensures { Gives (λ m. m) result (documents_result_at root.now id (items_view items.now) (place_of way.now)) }
 {
-    let answers = read_answers(alloc, root, items, place)?;
+    let answers = read_answers(alloc, root, items, way)?;
     Ok(Message::BatchGetDocuments { id, answers })
 }
 
@@ -208,18 +208,18 @@ fn read_query(
     root: &Root,
     id: Option<Text>,
     items: &[Value],
-    place: &Way<'_>,
+    way: &Way<'_>,
 ) -> Result<Message, Bad>
-    ensures { Gives (λ m. m) result (query_result_at root.now id (items_view items.now) (place_of place.now)) }
+    ensures { Gives (λ m. m) result (query_result_at root.now id (items_view items.now) (place_of way.now)) }
 {
-    let told = read_query_answers(alloc, root, items, place)?;
+    let told = read_query_answers(alloc, root, items, way)?;
     match answered(alloc, told)? {
         Some((documents, time)) => Ok(Message::RunQuery {
             id,
             documents,
             time,
         }),
-        None => Err(Bad::at(alloc, Rule::G, place)),
+        None => Err(Bad::at(alloc, Rule::G, way)),
     }
 }
 
@@ -228,26 +228,26 @@ fn read_object(
     root: &Root,
     id: Option<Text>,
     v: &Value,
-    place: &Way<'_>,
+    way: &Way<'_>,
 ) -> Result<Message, Bad>
-    ensures { Gives (λ m. m) result (object_result_at root.now id (json v.now) (place_of place.now)) }
+    ensures { Gives (λ m. m) result (object_result_at root.now id (json v.now) (place_of way.now)) }
 {
     if answers_commit(v) {
-        read_commit(alloc, id, v, place)
+        read_commit(alloc, id, v, way)
     } else {
-        let document = read_document(alloc, root, v, place)?;
+        let document = read_document(alloc, root, v, way)?;
         Ok(Message::GetDocument { id, document })
     }
 }
 
 /// Reads what a commit is answered. (v1 reference, `CommitResponse`.)
 #[tactic(auto, unfolding(crate::specs::ReadMessage::commit_result_at))]
-fn read_commit(alloc: Global, id: Option<Text>, v: &Value, place: &Way<'_>) -> Result<Message, Bad>
-    ensures { Gives (λ m. m) result (commit_result_at id (json v.now) (place_of place.now)) }
+fn read_commit(alloc: Global, id: Option<Text>, v: &Value, way: &Way<'_>) -> Result<Message, Bad>
+    ensures { Gives (λ m. m) result (commit_result_at id (json v.now) (place_of way.now)) }
 {
-    only(alloc, v, &COMMIT_RESULT_MEMBERS, place)?;
-    let time = required_time(alloc, v, COMMIT_TIME, place)?;
-    let results = read_results(alloc, v, place)?;
+    only(alloc, v, &COMMIT_RESULT_MEMBERS, way)?;
+    let time = read_required_time(alloc, v, COMMIT_TIME, way)?;
+    let results = read_results(alloc, v, way)?;
     Ok(Message::Commit { id, time, results })
 }
 

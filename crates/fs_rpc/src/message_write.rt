@@ -7,7 +7,7 @@ ghost use Rattle.serde_json.specs.View.{items_of, items_view, members_view, view
 ghost use Rattle.serde_json.specs.Written.{compact_text, has_float};
 ghost use Rattle.fs_path.specs.declared.name.Root.{Root};
 ghost use Rattle.fs_valjson.specs.Document.{document_json};
-ghost use Rattle.fs_valjson.specs.Held.{IsTimeHeld};
+ghost use Rattle.fs_json.specs.Time.{IsTimeHeld};
 ghost use Rattle.fs_writejson.specs.Results.{result_json, IsResultHeld};
 ghost use Rattle.fs_rpc.specs.MessageJson.{batch_answer_json, commit_json, error_json, error_members, message_json, message_members, query_answer_json, query_answers_json, result_members};
 ghost use Rattle.fs_rpc.specs.MessageSteps.{IsAnswerHeld, IsDocumentHeld, IsMessageHeld, timed_put};
@@ -20,7 +20,7 @@ use crate::message::{BatchAnswer, Message};
 use crate::names::{
     COMMIT_TIME, DOCUMENT, ERROR, FOUND, MISSING, READ_TIME, RESULT, WRITE_RESULTS,
 };
-use crate::times::moment;
+use fs_json::write_time;
 use fs_path::{Text, print_document};
 use fs_status::Code;
 use fs_time::Micros;
@@ -119,7 +119,7 @@ fn write_commit(alloc: Global, time: Micros, results: &[WriteResult]) -> Result<
     ensures held { OnOk result (IsTimeHeld time × AllByRecursion IsResultHeld results.now) }
 {
     let mut members = Map::new(alloc);
-    serde_json::put(&mut members, alloc, COMMIT_TIME, moment(alloc, time)?)?;
+    serde_json::put(&mut members, alloc, COMMIT_TIME, write_time(alloc, time)?)?;
     let written = write_results(alloc, results)?;
     put_list(alloc, &mut members, WRITE_RESULTS, written)?;
     Ok(Value::Object(members))
@@ -193,7 +193,7 @@ fn write_none(alloc: Global, time: Micros) -> Result<Vec<Value>, AllocError>
     ensures held { OnOk result (IsTimeHeld time) }
 {
     let mut members = Map::new(alloc);
-    serde_json::put(&mut members, alloc, READ_TIME, moment(alloc, time)?)?;
+    serde_json::put(&mut members, alloc, READ_TIME, write_time(alloc, time)?)?;
     let mut items = Vec::new(alloc);
     items.push(Value::Object(members))?;
     Ok(items)
@@ -223,6 +223,6 @@ fn with_read_time(
 {
     let mut members = Map::new(alloc);
     serde_json::put(&mut members, alloc, name, content)?;
-    serde_json::put(&mut members, alloc, READ_TIME, moment(alloc, time)?)?;
+    serde_json::put(&mut members, alloc, READ_TIME, write_time(alloc, time)?)?;
     Ok(Value::Object(members))
 }

@@ -94,12 +94,6 @@ pub const COMMIT_TIME: &str = "commitTime";
 
 pub const WRITE_RESULTS: &str = "writeResults";
 
-pub const WRITE_RESULT_MEMBERS: [&str; 2] = [UPDATE_TIME, TRANSFORM_RESULTS];
-
-pub const UPDATE_TIME: &str = "updateTime";
-
-pub const TRANSFORM_RESULTS: &str = "transformResults";
-
 pub const BATCH_ANSWER_MEMBERS: [&str; 3] = [FOUND, MISSING, READ_TIME];
 
 pub const FOUND_OR_MISSING: [&str; 2] = [FOUND, MISSING];

@@ -2,7 +2,7 @@
 ghost use Rattle.std.specs.Prelude.{◌≡◌, ℤ, Option};
 ghost use Rattle.fs_query.specs.Asked.{Asked};
 ghost use Rattle.fs_path.specs.Way.{place_of};
-ghost use Rattle.serde_json.specs.View.{view};
+ghost use Rattle.serde_json.specs.View.{view as json};
 ghost use Rattle.fs_json.specs.Answer.{Gives};
 ghost use Rattle.fs_rpc.specs.Requests.{batch_get_at, commit_at, database_at, drafts_in, get_at, mask_in, parent_at, request_at, run_query_at, structured_at, when_at};
 
@@ -13,9 +13,9 @@ use crate::names::{
     STRUCTURED_QUERY, UNBUILT_MEMBERS, WHEN_MEMBERS, WRITES,
 };
 use crate::request::Request;
-use crate::times::optional_time;
 use fs_json::{
-    Bad, at_most_one_of, document_name, member, only, refuse_unbuilt, required, unless_refused,
+    Bad, at_most_one_of, member, only, read_document_name, read_optional_time, refuse_unbuilt,
+    required, unless_refused,
 };
 use fs_path::{Ids, Paths, Root, Rule, Text, Way, check_database, parse_parent};
 use fs_query::Query;
@@ -27,7 +27,7 @@ use std::alloc::Global;
 
 /// What a method asks for by its content. One that isn't built is told by its name, whatever its content.
 pub fn read_method(alloc: Global, root: &Root, method: &str, v: &Value) -> Result<Request, Bad>
-    ensures { Gives (λ r. r) result (request_at root.now method.now (view v.now)) }
+    ensures { Gives (λ r. r) result (request_at root.now method.now (json v.now)) }
 {
     let place = Way::method(method);
     match method {
@@ -41,14 +41,14 @@ pub fn read_method(alloc: Global, root: &Root, method: &str, v: &Value) -> Resul
 
 /// Reads a `CommitRequest`.
 #[tactic(auto, unfolding(crate::specs::Requests::commit_at))]
-fn read_commit(alloc: Global, root: &Root, v: &Value, place: &Way<'_>) -> Result<Request, Bad>
-    ensures { Gives (λ r. r) result (commit_at root.now (view v.now) (place_of place.now)) }
+fn read_commit(alloc: Global, root: &Root, v: &Value, way: &Way<'_>) -> Result<Request, Bad>
+    ensures { Gives (λ r. r) result (commit_at root.now (json v.now) (place_of way.now)) }
 {
-    only(alloc, v, &COMMIT_MEMBERS, place)?;
-    read_database(alloc, root, v, place)?;
-    let drafts = read_drafts_of(alloc, root, v, place)?;
-    refuse_unbuilt(alloc, v, &UNBUILT_MEMBERS, place)?;
-    let writes = judge(alloc, drafts, &place.member(WRITES))?;
+    only(alloc, v, &COMMIT_MEMBERS, way)?;
+    read_database(alloc, root, v, way)?;
+    let drafts = read_drafts_of(alloc, root, v, way)?;
+    refuse_unbuilt(alloc, v, &UNBUILT_MEMBERS, way)?;
+    let writes = judge(alloc, drafts, &way.member(WRITES))?;
     Ok(Request::Commit {
         database: root.copy(alloc)?,
         writes,
@@ -57,14 +57,14 @@ fn read_commit(alloc: Global, root: &Root, v: &Value, place: &Way<'_>) -> Result
 
 /// Reads a `GetDocumentRequest`.
 #[tactic(auto, unfolding(crate::specs::Requests::get_at))]
-fn read_get(alloc: Global, root: &Root, v: &Value, place: &Way<'_>) -> Result<Request, Bad>
-    ensures { Gives (λ r. r) result (get_at root.now (view v.now) (place_of place.now)) }
+fn read_get(alloc: Global, root: &Root, v: &Value, way: &Way<'_>) -> Result<Request, Bad>
+    ensures { Gives (λ r. r) result (get_at root.now (json v.now) (place_of way.now)) }
 {
-    only(alloc, v, &GET_MEMBERS, place)?;
-    let name = required(alloc, v, NAME, place)?;
-    let name = document_name(alloc, root, name, &place.member(NAME))?;
-    let mask = read_mask_of(alloc, v, place)?;
-    let read_time = read_when(alloc, v, place)?;
+    only(alloc, v, &GET_MEMBERS, way)?;
+    let name = required(alloc, v, NAME, way)?;
+    let name = read_document_name(alloc, root, name, &way.member(NAME))?;
+    let mask = read_mask_of(alloc, v, way)?;
+    let read_time = read_when(alloc, v, way)?;
     Ok(Request::GetDocument {
         name,
         mask,
@@ -74,15 +74,15 @@ fn read_get(alloc: Global, root: &Root, v: &Value, place: &Way<'_>) -> Result<Re
 
 /// Reads a `BatchGetDocumentsRequest`. A name that stands twice is asked for once.
 #[tactic(auto, unfolding(crate::specs::Requests::batch_get_at))]
-fn read_batch_get(alloc: Global, root: &Root, v: &Value, place: &Way<'_>) -> Result<Request, Bad>
-    ensures { Gives (λ r. r) result (batch_get_at root.now (view v.now) (place_of place.now)) }
+fn read_batch_get(alloc: Global, root: &Root, v: &Value, way: &Way<'_>) -> Result<Request, Bad>
+    ensures { Gives (λ r. r) result (batch_get_at root.now (json v.now) (place_of way.now)) }
 {
-    only(alloc, v, &BATCH_GET_MEMBERS, place)?;
-    read_database(alloc, root, v, place)?;
-    let names = required(alloc, v, DOCUMENTS, place)?;
-    let documents = read_names(alloc, root, names, &place.member(DOCUMENTS))?;
-    let mask = read_mask_of(alloc, v, place)?;
-    let read_time = read_when(alloc, v, place)?;
+    only(alloc, v, &BATCH_GET_MEMBERS, way)?;
+    read_database(alloc, root, v, way)?;
+    let names = required(alloc, v, DOCUMENTS, way)?;
+    let documents = read_names(alloc, root, names, &way.member(DOCUMENTS))?;
+    let mask = read_mask_of(alloc, v, way)?;
+    let read_time = read_when(alloc, v, way)?;
     Ok(Request::BatchGetDocuments {
         database: root.copy(alloc)?,
         documents,
@@ -93,14 +93,14 @@ fn read_batch_get(alloc: Global, root: &Root, v: &Value, place: &Way<'_>) -> Res
 
 /// Reads a `RunQueryRequest`.
 #[tactic(auto, unfolding(crate::specs::Requests::run_query_at))]
-fn read_run_query(alloc: Global, root: &Root, v: &Value, place: &Way<'_>) -> Result<Request, Bad>
-    ensures { Gives (λ r. r) result (run_query_at root.now (view v.now) (place_of place.now)) }
+fn read_run_query(alloc: Global, root: &Root, v: &Value, way: &Way<'_>) -> Result<Request, Bad>
+    ensures { Gives (λ r. r) result (run_query_at root.now (json v.now) (place_of way.now)) }
 {
-    only(alloc, v, &RUN_QUERY_MEMBERS, place)?;
-    let parent = required(alloc, v, PARENT, place)?;
-    let parent = read_parent(alloc, root, parent, &place.member(PARENT))?;
+    only(alloc, v, &RUN_QUERY_MEMBERS, way)?;
+    let parent = required(alloc, v, PARENT, way)?;
+    let parent = read_parent(alloc, root, parent, &way.member(PARENT))?;
     let database = root.copy(alloc)?;
-    let (query, read_time) = read_structured(alloc, &parent, v, place)?;
+    let (query, read_time) = read_structured(alloc, &parent, v, way)?;
     Ok(Request::RunQuery {
         database,
         query,
@@ -114,69 +114,69 @@ fn read_structured(
     alloc: Global,
     parent: &Ids,
     v: &Value,
-    place: &Way<'_>,
+    way: &Way<'_>,
 ) -> Result<(Query, Option<Micros>), Bad>
     ensures { Gives {Y = Asked × Option ℤ} (λ asked. asked) result
-        (structured_at parent.now (view v.now) (place_of place.now)) }
+        (structured_at parent.now (json v.now) (place_of way.now)) }
 {
-    let structured = required(alloc, v, STRUCTURED_QUERY, place)?;
-    let walked = walk_query(alloc, parent, structured, &place.member(STRUCTURED_QUERY))?;
-    let read_time = match read_when(alloc, v, place) {
+    let structured = required(alloc, v, STRUCTURED_QUERY, way)?;
+    let walked = walk_query(alloc, parent, structured, &way.member(STRUCTURED_QUERY))?;
+    let read_time = match read_when(alloc, v, way) {
         Ok(read_time) => read_time,
         Err(bad) => {
             drop(walked);
             return Err(bad);
         }
     };
-    let query = judge_query(alloc, walked, &place.member(STRUCTURED_QUERY))?;
+    let query = judge_query(alloc, walked, &way.member(STRUCTURED_QUERY))?;
     Ok((query, read_time))
 }
 
 // The database has to be the root's.
-fn read_database(alloc: Global, root: &Root, v: &Value, place: &Way<'_>) -> Result<(), Bad>
-    ensures { Gives (λ u. u) result (database_at root.now (view v.now) (place_of place.now)) }
+fn read_database(alloc: Global, root: &Root, v: &Value, way: &Way<'_>) -> Result<(), Bad>
+    ensures { Gives (λ u. u) result (database_at root.now (json v.now) (place_of way.now)) }
 {
-    let database = required(alloc, v, DATABASE, place)?;
-    let place = place.member(DATABASE);
+    let database = required(alloc, v, DATABASE, way)?;
+    let way = way.member(DATABASE);
     match database.as_str() {
-        Some(text) => unless_refused(alloc, check_database(root, text), &place),
-        None => Err(Bad::at(alloc, Rule::G, &place)),
+        Some(text) => unless_refused(alloc, check_database(root, text), &way),
+        None => Err(Bad::at(alloc, Rule::G, &way)),
     }
 }
 
-fn read_parent(alloc: Global, root: &Root, v: &Value, place: &Way<'_>) -> Result<Ids, Bad>
-    ensures { Gives (λ ids. ids) result (parent_at root.now (view v.now) (place_of place.now)) }
+fn read_parent(alloc: Global, root: &Root, v: &Value, way: &Way<'_>) -> Result<Ids, Bad>
+    ensures { Gives (λ ids. ids) result (parent_at root.now (json v.now) (place_of way.now)) }
 {
     match v.as_str() {
-        Some(text) => unless_refused(alloc, parse_parent(alloc, root, text), place),
-        None => Err(Bad::at(alloc, Rule::G, place)),
+        Some(text) => unless_refused(alloc, parse_parent(alloc, root, text), way),
+        None => Err(Bad::at(alloc, Rule::G, way)),
     }
 }
 
 // The writes of a commit as they are walked, of which there are none where the list is absent.
-fn read_drafts_of(alloc: Global, root: &Root, v: &Value, place: &Way<'_>) -> Result<Drafts, Bad>
-    ensures { Gives (λ ds. ds) result (drafts_in root.now (view v.now) (place_of place.now)) }
+fn read_drafts_of(alloc: Global, root: &Root, v: &Value, way: &Way<'_>) -> Result<Drafts, Bad>
+    ensures { Gives (λ ds. ds) result (drafts_in root.now (json v.now) (place_of way.now)) }
 {
-    match member(alloc, v, WRITES, place)? {
-        Some(list) => read_drafts(alloc, root, list, &place.member(WRITES)),
+    match member(alloc, v, WRITES, way)? {
+        Some(list) => read_drafts(alloc, root, list, &way.member(WRITES)),
         None => Ok(Drafts::new(alloc)),
     }
 }
 
-fn read_mask_of(alloc: Global, v: &Value, place: &Way<'_>) -> Result<Option<Paths>, Bad>
-    ensures { Gives (λ m. m) result (mask_in (view v.now) (place_of place.now)) }
+fn read_mask_of(alloc: Global, v: &Value, way: &Way<'_>) -> Result<Option<Paths>, Bad>
+    ensures { Gives (λ m. m) result (mask_in (json v.now) (place_of way.now)) }
 {
-    match member(alloc, v, MASK, place)? {
-        Some(mask) => Ok(Some(read_mask(alloc, mask, &place.member(MASK))?)),
+    match member(alloc, v, MASK, way)? {
+        Some(mask) => Ok(Some(read_mask(alloc, mask, &way.member(MASK))?)),
         None => Ok(None),
     }
 }
 
 // The time at which documents are read, if it is given. A transaction can't be given yet.
-fn read_when(alloc: Global, v: &Value, place: &Way<'_>) -> Result<Option<Micros>, Bad>
-    ensures { Gives {Y = Option ℤ} (λ t. t) result (when_at (view v.now) (place_of place.now)) }
+fn read_when(alloc: Global, v: &Value, way: &Way<'_>) -> Result<Option<Micros>, Bad>
+    ensures { Gives {Y = Option ℤ} (λ t. t) result (when_at (json v.now) (place_of way.now)) }
 {
-    at_most_one_of(alloc, v, &WHEN_MEMBERS, place)?;
-    refuse_unbuilt(alloc, v, &UNBUILT_MEMBERS, place)?;
-    optional_time(alloc, v, READ_TIME, place)
+    at_most_one_of(alloc, v, &WHEN_MEMBERS, way)?;
+    refuse_unbuilt(alloc, v, &UNBUILT_MEMBERS, way)?;
+    read_optional_time(alloc, v, READ_TIME, way)
 }

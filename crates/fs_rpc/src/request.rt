@@ -9,6 +9,7 @@ use fs_write::Writes;
 use std::alloc::{AllocError, Global};
 
 /// What a request asks for: one variant for each method of `google.firestore.v1.Firestore` that is built.
+/// (docs/DECISIONS.md, "A request holds its database".)
 #[derive(Drop, Debug)]
 pub enum Request {
     /// `commit`: writes that are all made at one time, or not at all. (v1 reference, `CommitRequest`.)

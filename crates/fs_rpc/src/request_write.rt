@@ -4,10 +4,10 @@ ghost use Rattle.std.specs.List.{AllByRecursion};
 ghost use Rattle.fs_path.specs.declared.name.Root.{Root};
 ghost use Rattle.serde_json.specs.Data.{depth};
 ghost use Rattle.serde_json.specs.Read.{max_depth};
-ghost use Rattle.serde_json.specs.View.{items_view, members_view, view};
+ghost use Rattle.serde_json.specs.View.{items_view, members_view, view as json};
 ghost use Rattle.serde_json.specs.Written.{compact_text};
 ghost use Rattle.fs_queryjson.specs.Written.{query_json};
-ghost use Rattle.fs_valjson.specs.Held.{IsTimeHeld};
+ghost use Rattle.fs_json.specs.Time.{IsTimeHeld};
 ghost use Rattle.fs_writejson.specs.Mask.{mask_json};
 ghost use Rattle.fs_writejson.specs.Written.{write_json};
 ghost use Rattle.fs_rpc.specs.Envelope.{request_of};
@@ -21,10 +21,9 @@ use crate::names::{
     BATCH_GET_DOCUMENTS, COMMIT, DATABASE, DOCUMENTS, GET_DOCUMENT, MASK, NAME, PARENT, READ_TIME,
     RUN_QUERY, STRUCTURED_QUERY, WRITES,
 };
-use crate::print::{print_database, print_parent};
 use crate::request::{Envelope, Request};
-use crate::times::moment;
-use fs_path::{DocName, Paths, Root, Scope, Text, print_document};
+use fs_json::write_time;
+use fs_path::{DocName, Paths, Root, Scope, Text, print_database, print_document, print_parent};
 use fs_query::Query;
 use fs_queryjson::write_query;
 use fs_time::Micros;
@@ -71,7 +70,7 @@ fn method_of(request: &Request) -> &'static str
 
 /// What stands under the method.
 fn write_content(alloc: Global, request: &Request) -> Result<Value, AllocError>
-    ensures value { IfOk result (λ v. view v ≡ request_json request.now) }
+    ensures value { IfOk result (λ v. json v ≡ request_json request.now) }
     ensures held { OnOk result (IsRequestHeld request.now) }
 {
     match request {
@@ -97,7 +96,7 @@ fn write_content(alloc: Global, request: &Request) -> Result<Value, AllocError>
 
 /// Writes a `CommitRequest`. Writes that are none are left out.
 fn write_commit(alloc: Global, database: &Root, writes: &[Write]) -> Result<Value, AllocError>
-    ensures value { IfOk result (λ v. view v ≡ commit_json database.now writes.now) }
+    ensures value { IfOk result (λ v. json v ≡ commit_json database.now writes.now) }
     ensures held { OnOk result (AllByRecursion IsWriteHeld writes.now) }
 {
     let mut members = Map::new(alloc);
@@ -124,7 +123,7 @@ fn write_writes(alloc: Global, writes: &[Write]) -> Result<Vec<Value>, AllocErro
 }
 
 fn write_one(alloc: Global, write: &Write) -> Result<Value, AllocError>
-    ensures value { IfOk result (λ v. view v ≡ write_json write.now) }
+    ensures value { IfOk result (λ v. json v ≡ write_json write.now) }
     ensures held { OnOk result (IsWriteHeld write.now) }
 {
     write_write(alloc, write)
@@ -137,7 +136,7 @@ fn write_get(
     mask: &Option<Paths>,
     read_time: Option<Micros>,
 ) -> Result<Value, AllocError>
-    ensures value { IfOk result (λ v. view v ≡ get_json name.now mask.now read_time) }
+    ensures value { IfOk result (λ v. json v ≡ get_json name.now mask.now read_time) }
     ensures held { OnOk result (IsMaskHeld mask.now × IfSome read_time IsTimeHeld) }
 {
     let mut members = Map::new(alloc);
@@ -156,7 +155,7 @@ fn write_batch_get(
     mask: &Option<Paths>,
     read_time: Option<Micros>,
 ) -> Result<Value, AllocError>
-    ensures value { IfOk result (λ v. view v ≡ batch_get_json database.now documents.now mask.now read_time) }
+    ensures value { IfOk result (λ v. json v ≡ batch_get_json database.now documents.now mask.now read_time) }
     ensures held { OnOk result (IsMaskHeld mask.now × IfSome read_time IsTimeHeld) }
 {
     let mut members = Map::new(alloc);
@@ -201,7 +200,7 @@ fn put_mask(
 }
 
 fn mask_value(alloc: Global, paths: &Paths) -> Result<Value, AllocError>
-    ensures value { IfOk result (λ v. view v ≡ mask_json paths.now) }
+    ensures value { IfOk result (λ v. json v ≡ mask_json paths.now) }
     ensures held { OnOk result (ArePathsHeld paths.now) }
 {
     write_mask(alloc, paths)
@@ -218,7 +217,7 @@ fn put_read_time(
     ensures held { OnOk result (IfSome read_time IsTimeHeld) }
 {
     match read_time {
-        Some(time) => serde_json::put(members, alloc, READ_TIME, moment(alloc, time)?),
+        Some(time) => serde_json::put(members, alloc, READ_TIME, write_time(alloc, time)?),
         None => Ok(()),
     }
 }
@@ -230,7 +229,7 @@ fn write_run_query(
     query: &Query,
     read_time: Option<Micros>,
 ) -> Result<Value, AllocError>
-    ensures value { IfOk result (λ v. view v ≡ run_query_json database.now query.now read_time) }
+    ensures value { IfOk result (λ v. json v ≡ run_query_json database.now query.now read_time) }
     ensures held { OnOk result (IsQueryHeld query.now × IfSome read_time IsTimeHeld) }
 {
     let mut members = Map::new(alloc);
@@ -243,7 +242,7 @@ fn write_run_query(
 }
 
 fn query_value(alloc: Global, query: &Query) -> Result<Value, AllocError>
-    ensures value { IfOk result (λ v. view v ≡ query_json query.now) }
+    ensures value { IfOk result (λ v. json v ≡ query_json query.now) }
     ensures held { OnOk result (IsQueryHeld query.now) }
 {
     write_query(alloc, query)
@@ -251,17 +250,14 @@ fn query_value(alloc: Global, query: &Query) -> Result<Value, AllocError>
 
 /// The parent of a query's collections. It isn't part of the query's own JSON.
 fn parent_value(alloc: Global, database: &Root, scope: &Scope) -> Result<Value, AllocError>
-    ensures { IfOk result (λ v. view v ≡ parent_json database.now scope.now) }
+    ensures { IfOk result (λ v. json v ≡ parent_json database.now scope.now) }
 {
-    let parent = match scope {
-        Scope::Collection { parent, .. } => parent,
-        Scope::Group { parent, .. } => parent,
-    };
-    Ok(Value::String(print_parent(alloc, database, parent)?.into_string()))
+    let parent = print_parent(alloc, database, scope.parent())?;
+    Ok(Value::String(parent.into_string()))
 }
 
 fn database_value(alloc: Global, database: &Root) -> Result<Value, AllocError>
-    ensures { IfOk result (λ v. view v ≡ database_json database.now) }
+    ensures { IfOk result (λ v. json v ≡ database_json database.now) }
 {
     Ok(Value::String(print_database(alloc, database)?.into_string()))
 }

@@ -1,19 +1,12 @@
 -- A session's messages, changed where it stands.
-use Rattle.std.proofs.Common.{◌≡◌, ℕ, ◌+◌, suc, Bool, true, false, cond, List, [], ◌∷◌, ◌++◌, get_or, set, Option, Some, None, option_map, refl, sym, ap, ◌∙◌, subst, arith}
+use Rattle.std.proofs.Common.{◌≡◌, ℕ, ◌+◌, Bool, true, false, cond, List, [], ◌∷◌, ◌++◌, get_or, set, Option, Some, None, option_map, refl, sym, ap, ◌∙◌, subst, arith}
 use Rattle.std.specs.Prelude.{◌==◌, remove}
 use Rattle.std.proofs.lemmas.Grind.{common_steps}
 use Rattle.fs_rpc.specs.declared.message.Message.{Message}
-use Rattle.fs_machine.specs.Sessions.{outbox_in, told, with_outbox, without}
+use Rattle.fs_machine.specs.Sessions.{outbox_in, delivered, with_outbox, without}
 use Rattle.fs_machine.specs.declared.session.Session.{Session}
+use Rattle.fs_machine.proofs.Places.{next_place, none_there}
 use Rattle.fs_server.specs.Place.{place_in, taken_back, without_last}
-
-next_place : (o : Option ℕ) (i : ℕ) → option_map (λ place. place + 1) o ≡ Some i → (j : ℕ) × (o ≡ Some j) × (i ≡ suc j)
-next_place None i h = absurd (cc)
-next_place (Some j) i h = (j, refl, let e : Some (j + 1) ≡ Some i = h in let f : j + 1 ≡ i = cc in omega (arith, f))
-
-none_there : (o : Option ℕ) → option_map (λ place. place + 1) o ≡ None → o ≡ None
-none_there None h = refl
-none_there (Some j) h = absurd (cc)
 
 abbrev Changed : (List Message → List Message) → Session → Session
 Changed f s = record s { outbox = f s.outbox }
@@ -91,14 +84,14 @@ module _ (number : ℕ) where
 last_gone : (ms : List Message) (m : Message) → without_last (ms ++ m ∷ []) ≡ ms
 last_gone ms m = grind (arith, common_steps)
 
-back_next : (number : ℕ) (m : Message) (t : Session) (ts : List Session) (b : Bool) → (t.number == number) ≡ b → taken_back number (told number m ts) ≡ ts
-    → with_outbox number without_last (cond b (Changed (λ ms. ms ++ m ∷ []) t ∷ ts) (t ∷ told number m ts)) ≡ t ∷ ts
+back_next : (number : ℕ) (m : Message) (t : Session) (ts : List Session) (b : Bool) → (t.number == number) ≡ b → taken_back number (delivered number m ts) ≡ ts
+    → with_outbox number without_last (cond b (Changed (λ ms. ms ++ m ∷ []) t ∷ ts) (t ∷ delivered number m ts)) ≡ t ∷ ts
 back_next number m t ts true is more = rw is (ap (λ ms. record t { outbox = ms } ∷ ts) (last_gone t.outbox m))
 back_next number m t ts false is more = rw is (ap (λ us. t ∷ us) more)
 
-pub told_and_taken_back : (number : ℕ) (m : Message) (list : List Session) → taken_back number (told number m list) ≡ list
-told_and_taken_back number m [] = refl
-told_and_taken_back number m (t ∷ ts) = back_next number m t ts (t.number == number) refl (told_and_taken_back number m ts)
+pub delivered_and_taken_back : (number : ℕ) (m : Message) (list : List Session) → taken_back number (delivered number m list) ≡ list
+delivered_and_taken_back number m [] = refl
+delivered_and_taken_back number m (t ∷ ts) = back_next number m t ts (t.number == number) refl (delivered_and_taken_back number m ts)
 
 -- ---- the same, as the code has it
 

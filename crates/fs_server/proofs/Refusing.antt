@@ -19,7 +19,7 @@ use Rattle.fs_machine.specs.declared.answer.Answer.TheVariants.{Reply, Refused}
 use Rattle.fs_machine.specs.Commit.{commit_refusal, journal_count, journal_size, next_batch, next_time, outbox_is_full, outbox_refusal, passed, prepared_answer}
 use Rattle.fs_machine.specs.Open.{is_full, open_answer}
 use Rattle.fs_machine.specs.Past.{Past}
-use Rattle.fs_machine.specs.Read.{batch_answers, document_answer, query_answer, time_of, time_refusal, unless_refused}
+use Rattle.fs_machine.specs.Read.{batch_answers, document_answer, query_answer, read_time, time_refusal, unless_refused}
 use Rattle.fs_machine.specs.Request.{request_answer}
 use Rattle.fs_machine.specs.State.{Machine}
 use Rattle.fs_rpc.specs.declared.message.Message.{Message}
@@ -109,14 +109,14 @@ read_other m session t a not =
 
 pub request_not : (m : Machine) (session : ℕ) (id : Option (List ℕ)) (r : Request) → request_answer m session id r ≡ Refused (refusal_of Memory) → ⊥
 request_not m session id (request.Commit database writes) = prepared_other (commit_refusal m session writes) (next_batch m writes) (commit_other m session writes)
-request_not m session id (request.GetDocument name mask read_time) =
-    let t = time_of m.past read_time in
+request_not m session id (request.GetDocument name mask time) =
+    let t = read_time m.past time in
     read_other m session t (document_answer id t mask (get (at m.past.history t) name)) (document_other id t mask (get (at m.past.history t) name))
-request_not m session id (request.BatchGetDocuments database names mask read_time) =
-    let t = time_of m.past read_time in
+request_not m session id (request.BatchGetDocuments database names mask time) =
+    let t = read_time m.past time in
     let reply = message.BatchGetDocuments id (batch_answers (at m.past.history t) t mask names) in
     read_other m session t (Reply reply) (reply_other reply)
-request_not m session id (request.RunQuery database query read_time) =
-    let t = time_of m.past read_time in
+request_not m session id (request.RunQuery database query time) =
+    let t = read_time m.past time in
     let reply = message.RunQuery id (query_answer (at m.past.history t) query) t in
     read_other m session t (Reply reply) (reply_other reply)

@@ -8,7 +8,7 @@ use Rattle.fs_rpc.specs.MessageJson.{refused}
 use Rattle.fs_rpc.specs.declared.message.Message.{Message}
 use Rattle.fs_rpc.specs.declared.message.Message.TheVariants as message
 use Rattle.fs_status.specs.declared.refusal.Refusal.{Refusal}
-use Rattle.fs_write.specs.Batch.{Docs, batch, IsOutcome}
+use Rattle.fs_write.specs.Batch.{Docs, IsOutcome}
 use Rattle.fs_write.specs.declared.change.Change.{Change}
 use Rattle.fs_write.specs.declared.write_result.WriteResult.{WriteResult}
 use Rattle.fs_history.specs.History.{whole}
@@ -17,19 +17,20 @@ use Rattle.fs_machine.specs.declared.answer.Outcome.TheVariants as outcome
 use Rattle.fs_machine.specs.declared.answer.Settled.{Settled}
 use Rattle.fs_machine.specs.declared.answer.Settled.TheVariants.{Released, Waiting, Dropped, Memory}
 use Rattle.fs_machine.specs.declared.unreleased.Unreleased.{Unreleased}
-use Rattle.fs_machine.specs.Alone.{IsAlone, alone_is_found, answer_accepted, answer_rejected, docs_alone, settled_accepted, settled_rejected, with_batch, without_batch}
+use Rattle.fs_machine.specs.Alone.{IsAlone, with_batch, without_batch}
+use Rattle.fs_machine.proofs.Alone.{alone_is_found, answer_accepted, answer_rejected, docs_alone, settled_accepted, settled_rejected}
 use Rattle.fs_machine.specs.Event.{Event}
 use Rattle.fs_machine.specs.Facts.{Facts}
 use Rattle.fs_machine.specs.Laws.{NeverChanged}
 use Rattle.fs_machine.specs.Past.{Past, is_pending}
-use Rattle.fs_machine.specs.Sessions.{Sessions, told}
-use Rattle.fs_machine.specs.Settle.{ComesTo, docs_for, IsOutcomeOf, IsOutcomeOfPending, outcome_of, pending_in, pending_of, Settles}
+use Rattle.fs_machine.specs.Sessions.{Sessions, delivered}
+use Rattle.fs_machine.specs.Settle.{ComesTo, IsOutcomeOf, IsOutcomeOfPending, outcome_of, pending_in, pending_of, Settles, IsOutcomeOn}
 use Rattle.fs_machine.specs.State.{Machine}
 use Rattle.fs_machine.specs.Stays.{Stays}
 use Rattle.fs_machine.specs.UnreleasedRise.{UnreleasedRise}
-use Rattle.fs_past.specs.UnderWay.{ComesToEffects, Gives, IsUnderWay}
-use Rattle.fs_server.specs.Place.{taken_back, told_more}
-use Rattle.fs_server.proofs.Places.{told_and_taken_back}
+use Rattle.fs_past.specs.UnderWay.{AreChangesUnderWay, IsUnderWay}
+use Rattle.fs_server.specs.Place.{taken_back, with_message}
+use Rattle.fs_server.proofs.Places.{delivered_and_taken_back}
 
 -- ---- it is alone
 
@@ -64,39 +65,35 @@ found_pending p (Some u) o comes = refl
 pub comes_pending : (p : Past) (id : ℕ) (o : Outcome) → ComesTo p id o → IsSome (pending_of p id)
 comes_pending p id o comes = found_pending p (pending_of p id) o comes
 
-outcome_alone : (p : Past) (u : Unreleased) (o : Outcome) → docs_for p u ≡ whole p.history → Gives (whole p.history) u.batch.writes u.batch.time o → IsOutcomeOf p u o
-outcome_alone p u (outcome.Effects changes results) docs gives = (subst (λ d. IsOutcome d u.batch.writes u.batch.time changes results) (sym docs) gives.0, gives.1)
-outcome_alone p u (outcome.Refused refusal) docs gives = ap (λ d. batch d u.batch.writes u.batch.time) docs ∙ gives
-
-pub gives_comes : (p : Past) (id : ℕ) (a : IsAlone p id) (o : Outcome) → Gives (whole p.history) a.commit.batch.writes a.commit.batch.time o → ComesTo p id o
+pub gives_comes : (p : Past) (id : ℕ) (a : IsAlone p id) (o : Outcome) → IsOutcomeOn (whole p.history) a.commit.batch.writes a.commit.batch.time o → ComesTo p id o
 gives_comes p id a o gives =
-    subst (λ found. IsOutcomeOfPending p found o) (sym (alone_is_found p id a)) (outcome_alone p a.commit o (docs_alone p id a) gives)
+    subst (λ found. IsOutcomeOfPending p found o) (sym (alone_is_found p id a)) (subst (λ docs. IsOutcomeOn docs a.commit.batch.writes a.commit.batch.time o) (sym (docs_alone p id a)) gives)
 
 pub comes_of : (p : Past) (id : ℕ) (a : IsAlone p id) (o : Outcome) → ComesTo p id o → IsOutcomeOf p a.commit o
 comes_of p id a o comes = subst (λ found. IsOutcomeOfPending p found o) (alone_is_found p id a) comes
 
-pub effects_of : (p : Past) (id : ℕ) (a : IsAlone p id) (changes : List Change) (results : List WriteResult) → ComesTo p id (outcome.Effects changes results) → ComesToEffects p a.commit changes
+pub effects_of : (p : Past) (id : ℕ) (a : IsAlone p id) (changes : List Change) (results : List WriteResult) → ComesTo p id (outcome.Effects changes results) → AreChangesUnderWay p a.commit changes
 effects_of p id a changes results comes =
     let h = comes_of p id a (outcome.Effects changes results) comes in
     ((results, subst (λ d. IsOutcome d a.commit.batch.writes a.commit.batch.time changes results) (docs_alone p id a) h.0), h.1)
 
--- ---- the server with it accepted or dropped, and its session told
+-- ---- the server with it accepted or dropped, and its reply delivered
 
-module _ (m : Machine) (past : Past) (ss : Sessions) (session : ℕ) (tell : Message) (list : ss.list ≡ told session tell m.sessions.list) (given : ss.given ≡ m.sessions.given) where
-  sessions_told : (number : ℕ) (reply : Message) → session ≡ number → tell ≡ reply → ss ≡ told_more number reply m.sessions
-  sessions_told number reply at is =
-      let all : ss.list ≡ told number reply m.sessions.list = list ∙ (λ i. told (at i) (is i) m.sessions.list) in
+module _ (m : Machine) (past : Past) (ss : Sessions) (session : ℕ) (sent : Message) (list : ss.list ≡ delivered session sent m.sessions.list) (given : ss.given ≡ m.sessions.given) where
+  sessions_delivered : (number : ℕ) (reply : Message) → session ≡ number → sent ≡ reply → ss ≡ with_message number reply m.sessions
+  sessions_delivered number reply at is =
+      let all : ss.list ≡ delivered number reply m.sessions.list = list ∙ (λ i. delivered (at i) (is i) m.sessions.list) in
       λ i. record { list = all i; given = given i }
 
-  pub state_told : (then : Past) (number : ℕ) (reply : Message) → past ≡ then → session ≡ number → tell ≡ reply → record m { past = past; sessions = ss } ≡ record m { past = then; sessions = told_more number reply m.sessions }
-  state_told then number reply goes at is =
-      let told_so = sessions_told number reply at is in
-      λ i. record m { past = goes i; sessions = told_so i }
+  pub state_delivered : (then : Past) (number : ℕ) (reply : Message) → past ≡ then → session ≡ number → sent ≡ reply → record m { past = past; sessions = ss } ≡ record m { past = then; sessions = with_message number reply m.sessions }
+  state_delivered then number reply goes at is =
+      let sessions_so = sessions_delivered number reply at is in
+      λ i. record m { past = goes i; sessions = sessions_so i }
 
-  -- the session isn't told after all
+  -- the reply isn't delivered after all
   pub state_as_before : (back : Sessions) → past ≡ m.past → back.list ≡ taken_back session ss.list → back.given ≡ ss.given → record m { past = past; sessions = back } ≡ m
   state_as_before back same without still =
-      let all : back.list ≡ m.sessions.list = without ∙ ap (taken_back session) list ∙ told_and_taken_back session tell m.sessions.list in
+      let all : back.list ≡ m.sessions.list = without ∙ ap (taken_back session) list ∙ delivered_and_taken_back session sent m.sessions.list in
       let count : back.given ≡ m.sessions.given = still ∙ given in
       λ i. record m { past = same i; sessions = record { list = all i; given = count i } }
 
@@ -104,7 +101,7 @@ module _ (m : Machine) (past : Past) (ss : Sessions) (session : ℕ) (tell : Mes
 
 module _ (m n : Machine) (id : ℕ) (a : IsAlone m.past id) where
   pub settles_accepted : (changes : List Change) (results : List WriteResult) (t : ℤ) → UnreleasedRise m.past → ComesTo m.past id (outcome.Effects changes results)
-      → n ≡ record m { past = with_batch m.past a.commit; sessions = told_more a.commit.session (message.Commit a.commit.request a.commit.batch.time results) m.sessions }
+      → n ≡ record m { past = with_batch m.past a.commit; sessions = with_message a.commit.session (message.Commit a.commit.request a.commit.batch.time results) m.sessions }
       → t ≡ a.commit.batch.time → Settles m n id (Released t)
   settles_accepted changes results t above comes is time =
       let h = comes_of m.past id a (outcome.Effects changes results) comes in
@@ -113,7 +110,7 @@ module _ (m n : Machine) (id : ℕ) (a : IsAlone m.past id) where
       (is ∙ sym (settled_accepted m id a done above made), ap Released time ∙ sym (answer_accepted m id a done above made))
 
   pub settles_rejected : (refusal : Refusal) → ComesTo m.past id (outcome.Refused refusal)
-      → n ≡ record m { past = without_batch m.past; sessions = told_more a.commit.session (refused a.commit.request refusal) m.sessions }
+      → n ≡ record m { past = without_batch m.past; sessions = with_message a.commit.session (refused a.commit.request refusal) m.sessions }
       → Settles m n id Dropped
   settles_rejected refusal comes is =
       let made = comes_of m.past id a (outcome.Refused refusal) comes in

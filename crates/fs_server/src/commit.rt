@@ -6,19 +6,10 @@ use crate::server::Server;
 use fs_history::{Batch, Reads, commit_size};
 use fs_machine::{Answer, Unreleased};
 use fs_path::Text;
+use fs_rpc::copy_id;
 use fs_status::{Id, Refusal};
 use fs_write::Writes;
 use std::alloc::{AllocError, Global};
-
-/// The id of a request, for its answer.
-pub(crate) fn copy_id(alloc: Global, id: &Option<Text>) -> Result<Option<Text>, AllocError>
-    ensures { IfOk result (λ i. i ≡ id.now) }
-{
-    match id {
-        Some(text) => Ok(Some(text.copy(alloc)?)),
-        None => Ok(None),
-    }
-}
 
 fn at_limit(alloc: Global, name: &str, number: u64) -> Result<Option<Refusal>, AllocError>
     ensures { IfOk result (λ r. r ≡ Some (at_limit name.now number)) }
@@ -34,6 +25,7 @@ impl Server {
     ghost use Rattle.fs_machine.specs.declared.answer.Answer.TheVariants.{Prepared};
 
     /// A commit of these writes comes.
+    /// (docs/DECISIONS.md, "A commit is copied once, into the journal".)
     pub(crate) fn commit(
         &mut self,
         alloc: Global,

@@ -2,23 +2,22 @@
 ghost use Rattle.std.specs.Prelude.{◌≡◌, ◌≤ℤ◌, IfOk, IfNone, Some, map};
 ghost use Rattle.std.specs.FinMap.{get, values};
 ghost use Rattle.fs_history.specs.History.{at};
-ghost use Rattle.fs_machine.specs.Read.{batch_answers, batch_get_answer, document_answer, get_answer, query_answer, run_answer, shown, time_of, time_refusal, told_of};
+ghost use Rattle.fs_machine.specs.Read.{batch_answers, batch_get_answer, document_answer, get_answer, masked, query_answer, read_time, run_answer, time_refusal, told_of};
 ghost use Rattle.fs_query.specs.AnswerTo.{answer_to};
 
-use crate::commit::copy_id;
 use fs_machine::Answer;
 use fs_past::Past;
 use fs_path::{DocName, Names, Paths, Text};
 use fs_query::{Query, project};
-use fs_rpc::{Answers, BatchAnswer, Message};
+use fs_rpc::{Answers, BatchAnswer, Message, copy_id};
 use fs_status::{Reason, Refusal};
 use fs_time::Micros;
 use fs_value::{Document, Documents};
 use std::alloc::{AllocError, Global};
 
 /// The time of a read: the one that is asked for, or the released one.
-pub(crate) fn time_of(past: &Past, asked: Option<Micros>) -> Micros
-    ensures { result ≡ time_of past.now asked }
+pub(crate) fn read_time(past: &Past, asked: Option<Micros>) -> Micros
+    ensures { result ≡ read_time past.now asked }
 {
     match asked {
         Some(time) => time,
@@ -44,8 +43,8 @@ fn time_refusal(past: &Past, time: Micros) -> Option<Refusal>
 }
 
 // A document with the fields that a mask names, or with all of them where there is none.
-fn shown(alloc: Global, document: &Document, mask: &Option<Paths>) -> Result<Document, AllocError>
-    ensures { IfOk result (λ d. d ≡ shown mask.now document.now) }
+fn masked(alloc: Global, document: &Document, mask: &Option<Paths>) -> Result<Document, AllocError>
+    ensures { IfOk result (λ d. d ≡ masked mask.now document.now) }
 {
     match mask {
         Some(paths) => project(alloc, document, paths),
@@ -87,7 +86,7 @@ fn document_at(
     match past.get(name, time) {
         Some(document) => Ok(Answer::Reply(Message::GetDocument {
             id: copy_id(alloc, id)?,
-            document: shown(alloc, document, mask)?,
+            document: masked(alloc, document, mask)?,
         })),
         None => Ok(Answer::Refused(Refusal::of(Reason::NoDocument(time)))),
     }
@@ -145,7 +144,7 @@ fn one_at(
     ensures { IfOk result (λ a. a ≡ told_of time mask.now name.now (get (at past.now.history time) name.now)) }
 {
     match past.get(name, time) {
-        Some(document) => Ok(BatchAnswer::Found(shown(alloc, document, mask)?, time)),
+        Some(document) => Ok(BatchAnswer::Found(masked(alloc, document, mask)?, time)),
         None => Ok(BatchAnswer::Missing(name.copy(alloc)?, time)),
     }
 }
@@ -192,7 +191,7 @@ fn selected(
     found: Documents,
     select: &Option<Paths>,
 ) -> Result<Documents, AllocError>
-    ensures { IfOk result (λ ds. ds ≡ map (shown select.now) found) }
+    ensures { IfOk result (λ ds. ds ≡ map (masked select.now) found) }
 {
     match select {
         Some(paths) => projected(alloc, &found, paths),
@@ -201,7 +200,7 @@ fn selected(
 }
 
 fn projected(alloc: Global, found: &Documents, paths: &Paths) -> Result<Documents, AllocError>
-    ensures { IfOk result (λ ds. ds ≡ map (shown (Some paths.now)) found.now) }
+    ensures { IfOk result (λ ds. ds ≡ map (masked (Some paths.now)) found.now) }
 {
     let mut documents = Documents::new(alloc);
     for document in found.as_slice() {

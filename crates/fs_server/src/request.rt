@@ -1,5 +1,5 @@
 //! Requests.
-use crate::read::{read_batch, read_document, read_query, time_of};
+use crate::read::{read_batch, read_document, read_query, read_time};
 use crate::server::Server;
 use fs_machine::Answer;
 use fs_path::{DocName, Names, Paths, Text};
@@ -13,7 +13,7 @@ impl Server {
     ghost use Rattle.std.specs.Prelude.{◌≡◌, ◌≢◌, [], IfOk, OnOk, OnErr};
     ghost use Rattle.fs_status.specs.Refusal.{refusal_of};
     ghost use Rattle.fs_status.specs.declared.reason.Reason.TheVariants.{Memory};
-    ghost use Rattle.fs_machine.specs.Read.{batch_get_answer, get_answer, run_answer, time_of};
+    ghost use Rattle.fs_machine.specs.Read.{batch_get_answer, get_answer, read_time, run_answer};
     ghost use Rattle.fs_machine.specs.Request.{answered, asked, read_answer};
     ghost use Rattle.fs_machine.specs.Stays.{Stays};
     ghost use Rattle.fs_machine.specs.declared.answer.Answer.TheVariants.{Refused};
@@ -77,15 +77,15 @@ impl Server {
         id: &Option<Text>,
         name: &DocName,
         mask: &Option<Paths>,
-        read_time: Option<Micros>,
+        asked: Option<Micros>,
     ) -> Result<Answer, AllocError>
         ensures { IfOk result (λ a. a ≡ read_answer self.now session
-            (get_answer self.now.past id.now name.now mask.now (time_of self.now.past read_time))) }
+            (get_answer self.now.past id.now name.now mask.now (read_time self.now.past asked))) }
     {
         match self.outbox_refusal(alloc, session)? {
             Some(refusal) => Ok(Answer::Refused(refusal)),
             None => {
-                let time = time_of(&self.past, read_time);
+                let time = read_time(&self.past, asked);
                 read_document(alloc, &self.past, id, name, mask, time)
             }
         }
@@ -98,15 +98,15 @@ impl Server {
         id: &Option<Text>,
         names: &Names,
         mask: &Option<Paths>,
-        read_time: Option<Micros>,
+        asked: Option<Micros>,
     ) -> Result<Answer, AllocError>
         ensures { IfOk result (λ a. a ≡ read_answer self.now session
-            (batch_get_answer self.now.past id.now names.now mask.now (time_of self.now.past read_time))) }
+            (batch_get_answer self.now.past id.now names.now mask.now (read_time self.now.past asked))) }
     {
         match self.outbox_refusal(alloc, session)? {
             Some(refusal) => Ok(Answer::Refused(refusal)),
             None => {
-                let time = time_of(&self.past, read_time);
+                let time = read_time(&self.past, asked);
                 read_batch(alloc, &self.past, id, names, mask, time)
             }
         }
@@ -118,15 +118,15 @@ impl Server {
         session: u32,
         id: &Option<Text>,
         query: &Query,
-        read_time: Option<Micros>,
+        asked: Option<Micros>,
     ) -> Result<Answer, AllocError>
         ensures { IfOk result (λ a. a ≡ read_answer self.now session
-            (run_answer self.now.past id.now query.now (time_of self.now.past read_time))) }
+            (run_answer self.now.past id.now query.now (read_time self.now.past asked))) }
     {
         match self.outbox_refusal(alloc, session)? {
             Some(refusal) => Ok(Answer::Refused(refusal)),
             None => {
-                let time = time_of(&self.past, read_time);
+                let time = read_time(&self.past, asked);
                 read_query(alloc, &self.past, id, query, time)
             }
         }

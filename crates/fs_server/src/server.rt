@@ -18,6 +18,7 @@ use std::marker::Model;
 ///     outcome and settle of 1   c/a can be read at t1, and session 0 has the reply to take
 ///     request: getDocument      c/a, as of t1
 ///     tick to t9, compact to t5 times from t5 to t9 can be read, and show the same c/a
+/// (docs/DECISIONS.md, "A server's state is cut into groups".)
 #[derive(Drop)]
 pub struct Server {
     pub(crate) config: Config,
@@ -56,7 +57,7 @@ impl Server {
     ghost use Rattle.fs_machine.specs.Compact.{compacted};
     ghost use Rattle.fs_machine.specs.Facts.{Facts};
     ghost use Rattle.fs_machine.specs.Laws.{NeverChanged};
-    ghost use Rattle.fs_machine.specs.Leave.{left};
+    ghost use Rattle.fs_machine.specs.Leave.{departed};
     ghost use Rattle.fs_machine.specs.Limits.{AreAllowed};
     ghost use Rattle.fs_machine.specs.Outbox.{outbox_of, taken};
     ghost use Rattle.fs_machine.specs.State.{started};
@@ -119,7 +120,7 @@ impl Server {
     /// A session ends, if it is open. Messages that it was still to be sent are lost; its pending commit goes on. It takes no
     /// memory.
     pub fn leave(&mut self, session: u32)
-        ensures state { self.new ≡ left self.old session }
+        ensures state { self.new ≡ departed self.old session }
         ensures stays { Stays self.old.past self.new.past }
     {
         self.stand();

@@ -12,6 +12,7 @@ use std::mem;
 ///
 ///     open, open         0 and 1 are open
 ///     leave 0, open      1 and 2
+/// (docs/DECISIONS.md, "Sessions are looked for one after another".)
 #[derive(Drop)]
 pub struct Sessions {
     list: Vec<Session>,
@@ -35,7 +36,7 @@ impl Sessions {
     ghost use Rattle.std.specs.Prelude.{◌≡◌, ◌≢◌, ◌<◌, IfOk, OnOk, OnErr, length};
     ghost use Rattle.fs_machine.specs.Limits.{session_numbers};
     ghost use Rattle.fs_machine.specs.Open.{with_session};
-    ghost use Rattle.fs_machine.specs.Sessions.{no_sessions, outbox_in, told, emptied, without};
+    ghost use Rattle.fs_machine.specs.Sessions.{no_sessions, outbox_in, delivered, emptied, without};
     ghost use Rattle.fs_server.specs.Place.{taken_back};
 
     /// None is open, and none was.
@@ -83,7 +84,7 @@ impl Sessions {
         ensures list { self.new.list ≡ without number self.old.list }
         ensures given { self.new.given ≡ self.old.given }
     {
-        match place_of(&self.list, number) {
+        match place_in(&self.list, number) {
             Some(place) => {
                 let _ = self.list.remove(place);
             }
@@ -95,19 +96,19 @@ impl Sessions {
     pub fn outbox_len(&self, number: u32) -> usize
         ensures { result ≡ length (outbox_in number self.now.list) }
     {
-        match place_of(&self.list, number) {
+        match place_in(&self.list, number) {
             Some(place) => self.list[place].outbox.len(),
             None => 0,
         }
     }
 
     /// A message more for a session, if it is open.
-    pub fn tell(&mut self, number: u32, message: Message) -> Result<(), AllocError>
-        ensures ok { OnOk result (self.new.list ≡ told number message self.old.list) }
+    pub fn deliver(&mut self, number: u32, message: Message) -> Result<(), AllocError>
+        ensures ok { OnOk result (self.new.list ≡ delivered number message self.old.list) }
         ensures given { self.new.given ≡ self.old.given }
         ensures err { OnErr result (self.new ≡ self.old) }
     {
-        match place_of(&self.list, number) {
+        match place_in(&self.list, number) {
             Some(place) => self.list[place].outbox.push(message),
             None => Ok(()),
         }
@@ -118,7 +119,7 @@ impl Sessions {
         ensures list { self.new.list ≡ taken_back number self.old.list }
         ensures given { self.new.given ≡ self.old.given }
     {
-        match place_of(&self.list, number) {
+        match place_in(&self.list, number) {
             Some(place) => self.list[place].outbox.take_back(),
             None => {}
         }
@@ -130,7 +131,7 @@ impl Sessions {
         ensures list { self.new.list ≡ emptied number self.old.list }
         ensures given { self.new.given ≡ self.old.given }
     {
-        match place_of(&self.list, number) {
+        match place_in(&self.list, number) {
             Some(place) => mem::replace(&mut self.list[place].outbox, Messages::new(alloc)),
             None => Messages::new(alloc),
         }
@@ -138,7 +139,7 @@ impl Sessions {
 }
 
 // Where the session of a number stands.
-fn place_of(list: &[Session], number: u32) -> Option<usize>
+fn place_in(list: &[Session], number: u32) -> Option<usize>
     ensures place { result ≡ place_in number list.now }
     ensures within { IfSome result (λ place. place < length list.now) }
 {
@@ -148,7 +149,7 @@ fn place_of(list: &[Session], number: u32) -> Option<usize>
             if session.number == number {
                 return Some(0);
             }
-            let place = place_of(rest, number)?;
+            let place = place_in(rest, number)?;
             Some(place + 1)
         }
     }

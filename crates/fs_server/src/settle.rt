@@ -3,10 +3,9 @@ ghost use Rattle.std.specs.Prelude.{◌≡◌, IfOk};
 ghost use Rattle.fs_rpc.specs.MessageJson.{refused};
 ghost use Rattle.fs_rpc.specs.declared.message.Message.TheVariants.{Commit};
 
-use crate::commit::copy_id;
 use crate::server::Server;
 use fs_machine::{Outcome, Settled, Unreleased};
-use fs_rpc::Message;
+use fs_rpc::{Message, copy_id};
 use fs_status::{Id, Refusal};
 use fs_time::Micros;
 use fs_write::{Changes, WriteResults};
@@ -17,12 +16,6 @@ fn session_of(commit: &Unreleased) -> u32
     ensures { result ≡ commit.now.session }
 {
     commit.session
-}
-
-fn time_of(commit: &Unreleased) -> Micros
-    ensures { result ≡ commit.now.batch.time }
-{
-    commit.batch.time
 }
 
 // What a commit is answered that is accepted with these results.
@@ -55,11 +48,12 @@ impl Server {
     ghost use Rattle.fs_machine.specs.Alone.{IsAlone, with_batch, without_batch};
     ghost use Rattle.fs_machine.specs.Settle.{ComesTo, Settles, pending_of};
     ghost use Rattle.fs_machine.specs.Stays.{Stays};
-    ghost use Rattle.fs_machine.specs.declared.unreleased.Unreleased.{Unreleased as IsCommit};
-    ghost use Rattle.fs_past.specs.UnderWay.{ComesToEffects, IsUnderWay};
-    ghost use Rattle.fs_server.specs.Place.{told_more};
+    ghost use Rattle.fs_machine.specs.declared.unreleased.Unreleased.{Unreleased};
+    ghost use Rattle.fs_past.specs.UnderWay.{AreChangesUnderWay, IsUnderWay};
+    ghost use Rattle.fs_server.specs.Place.{with_message};
 
     /// What the writes of a pending commit come to, on what the commits before it leave. It is never refused for want of memory.
+    /// (docs/DECISIONS.md, "What writes come to doesn't hang on memory".)
     pub fn outcome(&self, alloc: Global, commit: Id) -> Result<Outcome, AllocError>
         requires { IsSome (pending_of self.now.past commit) }
         ensures { IfOk result (λ o. ComesTo self.now.past commit o) }
@@ -70,6 +64,7 @@ impl Server {
 
     /// A pending commit is settled with what its writes come to: it is accepted, or dropped where they are refused; what can be
     /// is released, and the replies go to the outboxes. Where memory runs out, all is as before.
+    /// (docs/DECISIONS.md, "A settling tells the session before the commit is accepted".)
     pub fn settle(&mut self, alloc: Global, commit: Id, outcome: Outcome) -> Settled
         requires { ComesTo self.old.past commit outcome }
         ensures settles { Settles self.old self.new commit result }
@@ -105,20 +100,20 @@ impl Server {
         changes: Changes,
         results: WriteResults,
     ) -> Result<Micros, AllocError>
-        requires { (u : IsCommit) × IsUnderWay self.old.past u × ComesToEffects self.old.past u changes }
-        ensures state { OnOk result ((u : IsCommit) → IsUnderWay self.old.past u → self.new ≡ record self.old {
+        requires { (u : Unreleased) × IsUnderWay self.old.past u × AreChangesUnderWay self.old.past u changes }
+        ensures state { OnOk result ((u : Unreleased) → IsUnderWay self.old.past u → self.new ≡ record self.old {
           past = with_batch self.old.past u;
-          sessions = told_more u.session (Commit u.request u.batch.time results) self.old.sessions;
+          sessions = with_message u.session (Commit u.request u.batch.time results) self.old.sessions;
         }) }
-        ensures time { IfOk result (λ t. (u : IsCommit) → IsUnderWay self.old.past u → t ≡ u.batch.time) }
+        ensures time { IfOk result (λ t. (u : Unreleased) → IsUnderWay self.old.past u → t ≡ u.batch.time) }
         ensures err { OnErr result (self.new ≡ self.old) }
     {
         self.stand();
         let commit = self.under_way();
         let session = session_of(commit);
-        let time = time_of(commit);
+        let time = commit.time();
         let message = acceptance(alloc, commit, results)?;
-        self.sessions.tell(session, message)?;
+        self.sessions.deliver(session, message)?;
         match self.past.accept(alloc, changes) {
             Ok(()) => Ok(time),
             Err(error) => {
@@ -130,17 +125,17 @@ impl Server {
 
     // The commit that is under way is dropped, for this reason.
     fn reject(&mut self, alloc: Global, refusal: &Refusal) -> Result<(), AllocError>
-        requires { (u : IsCommit) × IsUnderWay self.old.past u }
-        ensures state { OnOk result ((u : IsCommit) → IsUnderWay self.old.past u → self.new ≡ record self.old {
+        requires { (u : Unreleased) × IsUnderWay self.old.past u }
+        ensures state { OnOk result ((u : Unreleased) → IsUnderWay self.old.past u → self.new ≡ record self.old {
           past = without_batch self.old.past;
-          sessions = told_more u.session (refused u.request refusal.now) self.old.sessions;
+          sessions = with_message u.session (refused u.request refusal.now) self.old.sessions;
         }) }
         ensures err { OnErr result (self.new ≡ self.old) }
     {
         let commit = self.under_way();
         let session = session_of(commit);
         let message = rejection(alloc, commit, refusal)?;
-        self.sessions.tell(session, message)?;
+        self.sessions.deliver(session, message)?;
         match self.past.reject(alloc) {
             Ok(()) => Ok(()),
             Err(error) => {
@@ -151,8 +146,8 @@ impl Server {
     }
 
     fn under_way(&self) -> &Unreleased
-        requires { (u : IsCommit) × IsUnderWay self.now.past u }
-        ensures { (u : IsCommit) → IsUnderWay self.now.past u → result.now ≡ u }
+        requires { (u : Unreleased) × IsUnderWay self.now.past u }
+        ensures { (u : Unreleased) → IsUnderWay self.now.past u → result.now ≡ u }
     {
         match self.past.under_way() {
             Some(commit) => commit,

@@ -2,12 +2,14 @@
 use Rattle.std.proofs.Common.{◌≡◌, ℕ, zero, suc, ◌+◌, ◌<◌, ◌≤◌, ℤ, ◌≤ℤ◌, ◌<ℤ◌, List, [], ◌∷◌, length, take, drop, get_or, refl, sym, ap, ◌∙◌, subst, arith}
 use Rattle.std.proofs.lemmas.Int.{ints}
 use Rattle.std.proofs.lemmas.List.{drop_all, take_all}
+use Rattle.std.specs.Int.Signed.{≤ℤ_refl}
+use Rattle.fs_time.proofs.Tests.{through}
 use Rattle.fs_write.specs.Batch.{AreChanges}
 use Rattle.fs_write.specs.declared.timed_change.TimedChange.{TimedChange}
 use Rattle.fs_history.specs.History.{EndsBy, whole}
 use Rattle.fs_history.specs.declared.batch.Batch.{Batch}
 use Rattle.fs_versions.specs.Chains.{Chains, HasNoEmptyChain, EndsByLast, IsBefore, installed}
-use Rattle.fs_versions.specs.Laws.{installed_some, installed_ends}
+use Rattle.fs_versions.proofs.Extending.{installed_some, installed_ends}
 use Rattle.fs_versions.specs.Shows.{EndsAt, Shows as VersionsShow}
 use Rattle.fs_store.specs.Brings.{Brings}
 use Rattle.fs_store.specs.Stored.{all_installed}
@@ -18,29 +20,23 @@ use Rattle.fs_store.proofs.Installing.{all_installed-more}
 
 -- ---- times
 
-pub at_most : (a b t : ℤ) → a ≤ℤ b → b ≤ℤ t → a ≤ℤ t
-at_most a b t first second = omega (arith, ints)
-
 below : (a b t : ℤ) → a ≤ℤ b → b <ℤ t → a <ℤ t
 below a b t first second = omega (arith, ints)
 
 low : (a b : ℤ) → a <ℤ b → a ≤ℤ b
 low a b h = omega (arith, ints)
 
-pub itself : (t : ℤ) → t ≤ℤ t
-itself t = omega (arith, ints)
-
 pub from_to : (from to : ℤ) (cs : List TimedChange) → TimesRise from to cs → from ≤ℤ to
 from_to from to [] rise = rise
-from_to from to (c ∷ cs) rise = at_most from c.time to (low from c.time rise.0) (from_to c.time to cs rise.1)
+from_to from to (c ∷ cs) rise = through from c.time to (low from c.time rise.0) (from_to c.time to cs rise.1)
 
 pub floor_all : (v : Chains) (cs : List TimedChange) → (all_installed v cs).floor ≡ v.floor
 floor_all v [] = refl
 floor_all v (c ∷ cs) = floor_all (installed v c.changes c.time) cs
 
 pub last_by : (v : Chains) (from to : ℤ) (cs : List TimedChange) → v.last ≤ℤ from → TimesRise from to cs → (all_installed v cs).last ≤ℤ to
-last_by v from to [] by rise = at_most v.last from to by rise
-last_by v from to (c ∷ cs) by rise = last_by (installed v c.changes c.time) c.time to cs (itself c.time) rise.1
+last_by v from to [] by rise = through v.last from to by rise
+last_by v from to (c ∷ cs) by rise = last_by (installed v c.changes c.time) c.time to cs (≤ℤ_refl c.time) rise.1
 
 pub ends_by : (h : List Batch) (last to : ℤ) → EndsAt h last → last ≤ℤ to → EndsBy h to
 ends_by [] last to ends by = tt
@@ -54,7 +50,7 @@ can_install v from to (c ∷ cs) floor last rise next = (
   below v.floor from c.time floor rise.0,
   below v.last from c.time last rise.0,
   next.0.rise,
-  can_install (installed v c.changes c.time) c.time to cs (low v.floor c.time (below v.floor from c.time floor rise.0)) (itself c.time) rise.1 next.1,
+  can_install (installed v c.changes c.time) c.time to cs (low v.floor c.time (below v.floor from c.time floor rise.0)) (≤ℤ_refl c.time) rise.1 next.1,
 )
 
 pub can_take : (v : Chains) (cs : List TimedChange) (i : ℕ) → CanInstall v cs → CanInstall v (take i cs)

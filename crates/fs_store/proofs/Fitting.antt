@@ -1,6 +1,6 @@
 -- A test of a release, commit by commit and change by change: what is left decides.
 use Rattle.std.proofs.Common.{◌≡◌, ℕ, suc, ◌+◌, ◌<◌, ◌≤◌, ℤ, ◌≤ℤ◌, ◌<ℤ◌, ◌-◌, Bool, true, false, List, [], ◌∷◌, ◌++◌, length, take, drop, get_or, refl, sym, ap, ◌∙◌, subst, arith, add-one, drop-cons}
-use Rattle.std.specs.Prelude.{IsTrue, ◌&&◌, ◌↔◌}
+use Rattle.std.specs.Prelude.{IsTrue, ◌↔◌}
 use Rattle.std.specs.Cmp.{first_so, second_so}
 use Rattle.std.specs.FinMap.{find, is_sorted}
 use Rattle.std.specs.FinMap.Entries.{below_all}
@@ -10,18 +10,20 @@ use Rattle.std.proofs.lemmas.Int.{ints}
 use Rattle.std.proofs.lemmas.List.{drop_all}
 use Rattle.std.proofs.lemmas.List.Elements.{All-append, All-cons, All-nil}
 use Rattle.std.proofs.lemmas.List.{take_more}
+use Rattle.std.proofs.lemmas.Bool.{and_from}
 use Rattle.fs_path.specs.NameOrder.{name_cmp, name_cmp_total}
 use Rattle.fs_path.specs.declared.name.DocName.{DocName}
-use Rattle.fs_value.specs.Rising.{less_is}
+use Rattle.fs_path.proofs.Orders.{less_is}
 use Rattle.fs_write.specs.Batch.{changes_by_name, changed_to}
 use Rattle.fs_write.specs.declared.change.Change.{Change}
 use Rattle.fs_write.specs.declared.timed_change.TimedChange.{TimedChange}
 use Rattle.fs_versions.specs.Chain.{last_document}
 use Rattle.fs_versions.specs.Chains.{Chains, chain_of}
+use Rattle.fs_versions.proofs.TreeLaws.{Rise}
 use Rattle.fs_store.specs.Stored.{all_installed}
 use Rattle.fs_store.specs.Fits.{AreAllNext, AreNext, TimesRise}
 use Rattle.fs_store.specs.Held.{NamesRise}
-use Rattle.fs_store.proofs.Installing.{Rise, all_installed-more, chain_installed, last_extended}
+use Rattle.fs_store.proofs.Installing.{all_installed-more, chain_installed, last_extended}
 
 -- ---- answers
 
@@ -96,22 +98,18 @@ next_end v w all i past so = so.1 (subst (AreNext w) (sym (drop_all i all past))
 
 -- ---- names that rise
 
-both_so : (a b : Bool) → IsTrue a → IsTrue b → IsTrue (a && b)
-both_so true b p q = q
-both_so false b p q = absurd (cc)
-
 below_through : (x y : DocName) (cs : List Change) → name_cmp x y ≡ Less → IsTrue (below_all name_cmp y (changes_by_name cs)) → IsTrue (below_all name_cmp x (changes_by_name cs))
 below_through x y [] less below = refl
 below_through x y (c ∷ cs) less below =
-    both_so (is_lt (name_cmp x c.name)) _
+    and_from (is_lt (name_cmp x c.name)) _
     (ap is_lt (name_cmp_total.trans x y c.name less (less_is _ (first_so _ (below_all name_cmp y (changes_by_name cs)) below))))
     (below_through x y cs less (second_so (is_lt (name_cmp y c.name)) _ below))
 
 -- one more in front
 pub rise_cons : (a b : Change) (cs : List Change) → name_cmp a.name b.name ≡ Less → Rise (b ∷ cs) ↔ Rise (a ∷ b ∷ cs)
 rise_cons a b cs less = (
-  λ rise. both_so (below_all name_cmp a.name (changes_by_name (b ∷ cs))) _
-      (both_so (is_lt (name_cmp a.name b.name)) _ (ap is_lt less) (below_through a.name b.name cs less (first_so _ (is_sorted name_cmp (changes_by_name cs)) rise)))
+  λ rise. and_from (below_all name_cmp a.name (changes_by_name (b ∷ cs))) _
+      (and_from (is_lt (name_cmp a.name b.name)) _ (ap is_lt less) (below_through a.name b.name cs less (first_so _ (is_sorted name_cmp (changes_by_name cs)) rise)))
       rise,
   λ rise. second_so (below_all name_cmp a.name (changes_by_name (b ∷ cs))) _ rise,
 )

@@ -1,6 +1,8 @@
 -- A store holds together: its times are in order, and its documents bear their names.
 use Rattle.std.proofs.Common.{◌≡◌, ℤ, ◌≤ℤ◌, List, sym, subst}
 use Rattle.std.specs.FinMap.{empty}
+use Rattle.std.specs.Int.Signed.{≤ℤ_refl}
+use Rattle.fs_time.proofs.Tests.{through}
 use Rattle.fs_history.specs.declared.batch.Batch.{Batch}
 use Rattle.fs_versions.specs.Chains.{Chains, Compacts}
 use Rattle.fs_versions.specs.Shows.{Shows as VersionsShow}
@@ -9,13 +11,13 @@ use Rattle.fs_store.specs.Fits.{Fits}
 use Rattle.fs_store.specs.Shows.{Shows}
 use Rattle.fs_store.specs.Held.{IsHeld, CanInstall}
 use Rattle.fs_store.specs.declared.release.Release.{Release}
-use Rattle.fs_store.proofs.Absorbing.{at_most, itself, from_to, floor_all, last_by, ends_by, can_install}
+use Rattle.fs_store.proofs.Absorbing.{from_to, floor_all, last_by, ends_by, can_install}
 use Rattle.fs_store.proofs.Named.{named_all, named_cut, named_empty}
 
 pub held_empty : (v : Chains) (floor : ℤ) → v.by_name ≡ empty → v.floor ≡ floor → v.last ≡ floor → IsHeld v floor
 held_empty v floor none first last = record {
-  floor = subst (λ t. t ≤ℤ floor) (sym first) (itself floor);
-  last = subst (λ t. t ≤ℤ floor) (sym last) (itself floor);
+  floor = subst (λ t. t ≤ℤ floor) (sym first) (≤ℤ_refl floor);
+  last = subst (λ t. t ≤ℤ floor) (sym last) (≤ℤ_refl floor);
   named = named_empty v none;
 }
 
@@ -40,7 +42,7 @@ module _ (s : Stored) (release : Release) (held : IsHeld s.chains s.absorbed) (f
   pub held_absorbed : IsHeld (all_installed s.chains release.changes) release.to
   held_absorbed = record {
     floor = subst (λ t. t ≤ℤ release.to) (sym (floor_all s.chains release.changes))
-        (at_most s.chains.floor release.from release.to (from s.chains.floor held.floor) (from_to release.from release.to release.changes fits.times));
+        (through s.chains.floor release.from release.to (from s.chains.floor held.floor) (from_to release.from release.to release.changes fits.times));
     last = last_to;
     named = named_all s.chains release.changes fits.next held.named;
   }

@@ -1,7 +1,6 @@
 -- What versions are after the changes of a commit, and after several.
 use Rattle.std.proofs.Common.{◌≡◌, ℕ, ◌+◌, ◌<◌, ℤ, List, [], ◌∷◌, ◌++◌, Option, Some, None, length, take, get_or, refl, sym, ap, ◌∙◌}
-use Rattle.std.specs.Prelude.{IsTrue}
-use Rattle.std.specs.FinMap.{find, is_sorted}
+use Rattle.std.specs.FinMap.{find}
 use Rattle.std.specs.List.{All}
 use Rattle.std.proofs.lemmas.List.{reverse-append, take_more}
 use Rattle.std.proofs.lemmas.List.Elements.{All-append, All-cons, All-nil}
@@ -14,13 +13,11 @@ use Rattle.fs_history.specs.Versions.{newest}
 use Rattle.fs_history.specs.declared.version.Version.{Version}
 use Rattle.fs_versions.specs.Chain.{extended, last_document}
 use Rattle.fs_versions.specs.Chains.{Chains, chain_of, installed}
-use Rattle.fs_versions.specs.Laws.{installs}
+use Rattle.fs_versions.proofs.Extending.{installs}
+use Rattle.fs_versions.proofs.TreeLaws.{Rise}
 use Rattle.fs_store.specs.Stored.{all_installed}
 
 -- ---- one commit
-
-abbrev pub Rise : List Change → Type 0
-Rise cs = IsTrue (is_sorted name_cmp (changes_by_name cs))
 
 pub chain_installed : (v : Chains) (cs : List Change) (t : ℤ) (q : DocName) → Rise cs
     → chain_of (installed v cs t) q ≡ extended t (find name_cmp q (changes_by_name cs)) (chain_of v q)

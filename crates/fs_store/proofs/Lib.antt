@@ -1,6 +1,5 @@
 pub mod Absorbing
 pub mod Alike
-pub mod Cutting
 pub mod Fitting
 pub mod Holding
 pub mod Installing

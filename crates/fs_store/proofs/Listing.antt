@@ -1,18 +1,19 @@
 -- The documents in the scope of a query: their names rise, and the query's answer over them is its answer over all.
 use Rattle.std.proofs.Common.{◌≡◌, ℤ, Bool, true, false, cond, List, [], ◌∷◌, ◌++◌, Option, Some, None, inl, inr, refl, sym, ap, ◌∙◌, subst}
-use Rattle.std.specs.Prelude.{IsTrue, T, ⊤, ◌&&◌, int_le, reverse, unwrap_or}
-use Rattle.std.specs.Cmp.{Equal-is, first_so, second_so}
+use Rattle.std.specs.Prelude.{IsTrue, ⊤, ◌&&◌, int_le, reverse, unwrap_or}
+use Rattle.std.specs.Cmp.{first_so, second_so}
 use Rattle.std.specs.FinMap.{entries, entries_sorted, find, get-entries, is_sorted}
 use Rattle.std.specs.FinMap.Entries.{below_all, is_sorted-where_key}
 use Rattle.std.specs.List.{All, Contains, filter, list_all}
 use Rattle.std.specs.Option.{option_to_list}
 use Rattle.std.specs.Ordering.{eq_by_cmp, is_lt}
-use Rattle.std.proofs.lemmas.Cmp.{tied_itself}
 use Rattle.std.proofs.lemmas.List.Elements.{All-nil, All-cons, All-contains, All-head, All-tail, Contains-append_left, Contains-append_right, Contains-append_cases}
-use Rattle.fs_path.specs.NameOrder.{name_cmp, name_cmp_total, name_same}
+use Rattle.std.proofs.lemmas.Bool.{and_from}
+use Rattle.fs_path.specs.NameOrder.{name_cmp, name_is, name_itself}
 use Rattle.fs_path.specs.Scope.{covers}
 use Rattle.fs_path.specs.declared.name.DocName.{DocName}
 use Rattle.fs_path.specs.declared.scope.Scope.{Scope}
+use Rattle.fs_path.proofs.Bools.{to_true}
 use Rattle.fs_value.specs.Named.{by_name}
 use Rattle.fs_value.specs.declared.document.Document.{Document}
 use Rattle.fs_write.specs.Batch.{Bears}
@@ -22,26 +23,15 @@ use Rattle.fs_query.specs.Fits.{has_field, meets}
 use Rattle.fs_query.specs.Normal.{whole_order}
 use Rattle.fs_history.specs.Versions.{shown}
 use Rattle.fs_history.specs.declared.version.Version.{Version}
+use Rattle.fs_history.proofs.Names.{none_below}
 use Rattle.fs_versions.specs.Chain.{shown_at}
 use Rattle.fs_versions.specs.Chains.{Chains}
-use Rattle.fs_versions.specs.Laws.{none_below}
 use Rattle.fs_versions.specs.Listed.{all_shown, documents_at, documents_in}
+use Rattle.fs_versions.proofs.Cutting.{all_reverse}
 use Rattle.fs_store.specs.Held.{AreNamed}
-use Rattle.fs_store.proofs.Cutting.{all_reverse}
 
 abbrev Tree : Type 0
 Tree = List (DocName × List Version)
-
-from_T : (b : Bool) → T b → IsTrue b
-from_T true h = refl
-from_T false h = absurd h
-
-to_T : (b : Bool) → IsTrue b → T b
-to_T b h = subst T (sym h) tt
-
-both_so : (a b : Bool) → IsTrue a → IsTrue b → IsTrue (a && b)
-both_so true b p q = q
-both_so false b p q = absurd (cc)
 
 -- ---- the document that an entry shows bears its name
 
@@ -66,7 +56,7 @@ NamedAt es = (q : DocName) → All (λ w. Bears w.after q) (chain_at q es)
 
 first_named : (e : DocName × List Version) (es : Tree) → NamedAt (e ∷ es) → All (λ w. Bears w.after e.0) e.1
 first_named e es named =
-    subst (All (λ w. Bears w.after e.0)) (ap (λ b. unwrap_or (cond b (Some e.1) (find name_cmp e.0 es)) []) ((Equal-is _).1 (tied_itself name_cmp_total e.0))) (named e.0)
+    subst (All (λ w. Bears w.after e.0)) (ap (λ b. unwrap_or (cond b (Some e.1) (find name_cmp e.0 es)) []) (name_itself e.0)) (named e.0)
 
 rest_at : (e : DocName × List Version) (es : Tree) (q : DocName) (b : Bool) → (b ≡ true → find name_cmp q es ≡ None)
     → All (λ w. Bears w.after q) (unwrap_or (cond b (Some e.1) (find name_cmp q es)) []) → All (λ w. Bears w.after q) (chain_at q es)
@@ -76,7 +66,7 @@ rest_at e es q false none named = named
 rest_named : (e : DocName × List Version) (es : Tree) → IsTrue (below_all name_cmp e.0 es) → NamedAt (e ∷ es) → NamedAt es
 rest_named e es below named q =
     rest_at e es q (eq_by_cmp name_cmp q e.0)
-    (λ ties. ap (λ n. find name_cmp n es) (name_same q e.0 ((Equal-is _).0 ties)) ∙ none_below e.0 es below) (named q)
+    (λ ties. ap (λ n. find name_cmp n es) (name_is q e.0 ties) ∙ none_below e.0 es below) (named q)
 
 shows_named : (t : ℤ) (es : Tree) → IsTrue (is_sorted name_cmp es) → NamedAt es → ShowsNamed t es
 shows_named t [] rise named = tt
@@ -87,7 +77,7 @@ shows_named t (e ∷ es) rise named = (
 
 module _ (v : Chains) (t : ℤ) (named : AreNamed v) where
   entries_rise : IsTrue (is_sorted name_cmp (entries v.by_name))
-  entries_rise = from_T _ (entries_sorted v.by_name)
+  entries_rise = to_true _ (entries_sorted v.by_name)
 
   entries_named : ShowsNamed t (entries v.by_name)
   entries_named =
@@ -99,7 +89,7 @@ module _ (v : Chains) (t : ℤ) (named : AreNamed v) where
 below_with : (k name : DocName) (o : Option Document) (ds : List Document) → Bears o name → IsTrue (is_lt (name_cmp k name)) → IsTrue (below_all name_cmp k (by_name ds)) → IsTrue (below_all name_cmp k (by_name (option_to_list o ++ ds)))
 below_with k name None ds bears less more = more
 below_with k name (Some d) ds bears less more =
-    both_so (is_lt (name_cmp k d.name)) _ (subst (λ n. IsTrue (is_lt (name_cmp k n))) (sym bears) less) more
+    and_from (is_lt (name_cmp k d.name)) _ (subst (λ n. IsTrue (is_lt (name_cmp k n))) (sym bears) less) more
 
 below_shown : (t : ℤ) (k : DocName) (es : Tree) → ShowsNamed t es → IsTrue (below_all name_cmp k es) → IsTrue (below_all name_cmp k (by_name (all_shown t es)))
 below_shown t k [] named below = refl
@@ -109,7 +99,7 @@ below_shown t k (e ∷ es) named below =
 rise_with : (name : DocName) (o : Option Document) (ds : List Document) → Bears o name → IsTrue (below_all name_cmp name (by_name ds)) → IsTrue (is_sorted name_cmp (by_name ds)) → IsTrue (is_sorted name_cmp (by_name (option_to_list o ++ ds)))
 rise_with name None ds bears below rise = rise
 rise_with name (Some d) ds bears below rise =
-    both_so (below_all name_cmp d.name (by_name ds)) _ (subst (λ n. IsTrue (below_all name_cmp n (by_name ds))) (sym bears) below) rise
+    and_from (below_all name_cmp d.name (by_name ds)) _ (subst (λ n. IsTrue (below_all name_cmp n (by_name ds))) (sym bears) below) rise
 
 shown_rise : (t : ℤ) (es : Tree) → ShowsNamed t es → IsTrue (is_sorted name_cmp es) → IsTrue (is_sorted name_cmp (by_name (all_shown t es)))
 shown_rise t [] named rise = refl
@@ -130,7 +120,7 @@ pub rise_in_scope : (v : Chains) (t : ℤ) (scope : Scope) → AreNamed v → Is
 rise_in_scope v t scope named =
     let es = entries v.by_name in
     shown_rise t (filter (λ e. covers scope e.0) es) (named_among t scope es (entries_named v t named))
-    (from_T _ (is_sorted-where_key name_cmp (covers scope) es (entries_sorted v.by_name)))
+    (to_true _ (is_sorted-where_key name_cmp (covers scope) es (entries_sorted v.by_name)))
 
 -- ---- the answer
 

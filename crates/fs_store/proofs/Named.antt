@@ -1,22 +1,21 @@
 -- The documents of a store bear the names of their chains.
 use Rattle.std.proofs.Common.{◌≡◌, ℤ, Bool, true, false, cond, List, [], ◌∷◌, Option, Some, None, refl, sym, ap, ◌∙◌, subst}
 use Rattle.std.specs.Prelude.{⊤, unwrap_or}
-use Rattle.std.specs.Cmp.{Equal-is}
 use Rattle.std.specs.FinMap.{empty, find, get, get-empty}
 use Rattle.std.specs.List.{All}
 use Rattle.std.specs.Ordering.{eq_by_cmp}
 use Rattle.std.proofs.lemmas.List.Elements.{All-nil, All-head, All-tail}
-use Rattle.fs_path.specs.NameOrder.{name_cmp, name_same}
+use Rattle.fs_path.specs.NameOrder.{name_cmp, name_is}
 use Rattle.fs_path.specs.declared.name.DocName.{DocName}
 use Rattle.fs_write.specs.Batch.{Bears, IsNamed, changes_by_name}
 use Rattle.fs_write.specs.declared.change.Change.{Change}
 use Rattle.fs_write.specs.declared.timed_change.TimedChange.{TimedChange}
 use Rattle.fs_versions.specs.Chains.{Chains, chain_of, installed, Compacts}
+use Rattle.fs_versions.proofs.Cutting.{all_left}
 use Rattle.fs_store.specs.Stored.{all_installed}
 use Rattle.fs_store.specs.Fits.{IsNext, AreAllNext, AreNext}
 use Rattle.fs_store.specs.Held.{AreNamed}
 use Rattle.fs_store.proofs.Installing.{chain_installed, all_extended}
-use Rattle.fs_store.proofs.Cutting.{all_cut}
 
 abbrev BearsAfter : DocName → Option Change → Type 0
 BearsAfter q None = ⊤
@@ -29,7 +28,7 @@ bears_next q c found false same named more = more
 bears_found : (v : Chains) (cs : List Change) (q : DocName) → All (IsNext v) cs → BearsAfter q (find name_cmp q (changes_by_name cs))
 bears_found v [] q next = tt
 bears_found v (c ∷ cs) q next =
-    bears_next q c (find name_cmp q (changes_by_name cs)) (eq_by_cmp name_cmp q c.name) (λ ties. name_same q c.name ((Equal-is _).0 ties))
+    bears_next q c (find name_cmp q (changes_by_name cs)) (eq_by_cmp name_cmp q c.name) (name_is q c.name)
     (All-head (IsNext v) c cs next).named (bears_found v cs q (All-tail (IsNext v) c cs next))
 
 pub named_installed : (v : Chains) (cs : List Change) (t : ℤ) → AreAllNext v cs → AreNamed v → AreNamed (installed v cs t)
@@ -44,7 +43,7 @@ named_all v (c ∷ cs) next named = named_all (installed v c.changes c.time) cs 
 
 pub named_cut : (old new : Chains) (floor : ℤ) → Compacts old new floor → AreNamed old → AreNamed new
 named_cut old new floor done named q =
-    subst (All (λ w. Bears w.after q)) (sym (done.chains q)) (all_cut (λ w. Bears w.after q) floor (chain_of old q) (named q))
+    subst (All (λ w. Bears w.after q)) (sym (done.chains q)) (all_left (λ w. Bears w.after q) floor (chain_of old q) (named q))
 
 pub named_empty : (v : Chains) → v.by_name ≡ empty → AreNamed v
 named_empty v none q =

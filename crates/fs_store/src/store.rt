@@ -99,6 +99,7 @@ impl Store {
 
     /// The answer to a query at a time that can be read. It looks at the documents in the query's scope, and copies only
     /// those that it answers, which share their fields with those here.
+    /// (docs/DECISIONS.md, "A collection is one range of the names".)
     pub fn run<L: Ledger>(
         &self,
         alloc: Global,
@@ -126,6 +127,7 @@ impl Store {
 
     /// Whether a release is the next one: it begins where the last one ended, its times rise, and each of its changes goes
     /// on from the newest document of its name. It takes no memory.
+    /// (docs/DECISIONS.md, "A store tests a release without memory".)
     pub fn fits(&self, release: &Release) -> bool
         ensures { IsTrue result ↔ Fits self.now release.now }
     {
@@ -139,6 +141,7 @@ impl Store {
     /// nothing is changed.
     ///
     /// A store that shows a history shows it with the commits of the release afterwards.
+    /// (docs/DECISIONS.md, "A release is absorbed commit by commit".)
     pub fn absorb(&mut self, alloc: Global, release: &Release) -> Result<(), AllocError>
         requires { Fits self.old release.now }
         ensures ok { OnOk result (self.new ≡ absorbed self.old release.now) }

@@ -12,7 +12,7 @@ use Rattle.jiff_core.specs.declared.civil.datetime.DateTime.{DateTime}
 use Rattle.std.proofs.lemmas.Option.{none-some, same_Some}
 use Rattle.jiff_core.proofs.SignedLemmas.{signed_arith}
 use Rattle.fs_time.specs.Pieces.{Fit}
-use Rattle.fs_time.specs.Shown.{Shown, most_decimals, form, numbers, clock_nanos, is_on_calendar}
+use Rattle.fs_time.specs.Stamp.{Stamp, most_decimals, form, numbers, clock_nanos, is_on_calendar}
 
 -- decimals are less than a second
 pub fraction_below : (k n : ℕ) → k ≤ 9 → n < 10 ^ k → n * 10 ^ (9 - k) < 1_000_000_000
@@ -21,14 +21,14 @@ fraction_below k n few small =
     let some : 1 ≤ 10 ^ (9 - k) = pow-le-pow_right {n = 10} (omega arith) {i = 0} {j = 9 - k} (omega arith) in
     omega (arith, whole, mul-lt-mul_of_pos_right {k = 10 ^ (9 - k)} small some)
 
--- a shown time, less its offset
-pub less_offset : (on fine : Bool) (shown minutes s m r : ℤ) → Some s ≡ cond on (Some shown) None → Some m ≡ cond fine (Some minutes) None → r ≡ s -ℤ (m *ℤ pos 60_000_000_000) → Some r ≡ cond (on && fine) (Some (shown -ℤ (minutes *ℤ pos 60_000_000_000))) None
-less_offset true true shown minutes s m r e f g =
-    let same : s ≡ shown = same_Some s shown e in
+-- a clock's time, less its offset
+pub less_offset : (on fine : Bool) (clock minutes s m r : ℤ) → Some s ≡ cond on (Some clock) None → Some m ≡ cond fine (Some minutes) None → r ≡ s -ℤ (m *ℤ pos 60_000_000_000) → Some r ≡ cond (on && fine) (Some (clock -ℤ (minutes *ℤ pos 60_000_000_000))) None
+less_offset true true clock minutes s m r e f g =
+    let same : s ≡ clock = same_Some s clock e in
     let also : m ≡ minutes = same_Some m minutes f in
     ap Some g ∙ rw (same, also) refl
-less_offset false fine shown minutes s m r e f g = absurd (none-some s (sym e))
-less_offset true false shown minutes s m r e f g = absurd (none-some m (sym f))
+less_offset false fine clock minutes s m r e f g = absurd (none-some s (sym e))
+less_offset true false clock minutes s m r e f g = absurd (none-some m (sym f))
 
 -- ---- what jiff's calendar and clock ask
 
@@ -47,7 +47,7 @@ ranges_of month day last hour minute second e = (grind (arith, nat_tests), grind
 within : (low high n : ℕ) → low ≤ n → n ≤ high → (pos low ≤ℤ pos n) × (pos n ≤ℤ pos high)
 within low high n least most = (omega (arith, signed_arith), omega (arith, signed_arith))
 
-on_calendar : (p : Shown) (subsec : ℕ) → p.year < 10_000 → subsec < 1_000_000_000 → is_on_calendar p ≡ true → IsDate (pos p.year) (pos p.month) (pos p.day) × IsTime (pos p.hour) (pos p.minute) (pos p.second) (pos subsec)
+on_calendar : (p : Stamp) (subsec : ℕ) → p.year < 10_000 → subsec < 1_000_000_000 → is_on_calendar p ≡ true → IsDate (pos p.year) (pos p.month) (pos p.day) × IsTime (pos p.hour) (pos p.minute) (pos p.second) (pos subsec)
 on_calendar p subsec year below e =
     let (m, m', d, d', h, i, s) = ranges_of p.month p.day (days_in_month (pos p.year) p.month) p.hour p.minute p.second e in
     (((omega (arith, signed_arith), omega (arith, signed_arith)), within 1 12 p.month m m', within 1 (days_in_month (pos p.year) p.month) p.day d d'), (within 0 23 p.hour (omega arith) (omega arith), within 0 59 p.minute (omega arith) (omega arith), within 0 59 p.second (omega arith) (omega arith), within 0 999_999_999 subsec (omega arith) (omega arith)))
@@ -55,18 +55,18 @@ on_calendar p subsec year below e =
 -- ---- the numbers as jiff is given them, in signed types
 
 -- what jiff's calendar and clock ask of them
-abbrev pub OnCast : Shown → ℕ → Type 0
+abbrev pub OnCast : Stamp → ℕ → Type 0
 OnCast p subsec =
     IsDate (to_z w16 p.year) (to_z w8 p.month) (to_z w8 p.day)
     × IsTime (to_z w8 p.hour) (to_z w8 p.minute) (to_z w8 p.second) (to_z w32 subsec)
 
 -- what jiff says of the date and time
-abbrev pub IsCast : Shown → ℕ → DateTime → Type 0
+abbrev pub IsCast : Stamp → ℕ → DateTime → Type 0
 IsCast p subsec dt =
     IsYmd (to_z w16 p.year) (to_z w8 p.month) (to_z w8 p.day) dt.date
     × IsHms (to_z w8 p.hour) (to_z w8 p.minute) (to_z w8 p.second) (to_z w32 subsec) dt.time
 
-module _ (p : Shown) (subsec : ℕ) (fit : Fit (form p.places p.offset.sign) (numbers p)) (below : subsec < 1_000_000_000) where
+module _ (p : Stamp) (subsec : ℕ) (fit : Fit (form p.places p.offset.sign) (numbers p)) (below : subsec < 1_000_000_000) where
   year : to_z w16 p.year ≡ pos p.year
   year = omega (arith, ints, fit.0)
 

@@ -58,11 +58,11 @@ number_at-sound zero text read e =
     (let none : 0 ≡ read.0 = λ i. (is i).0 in omega arith, λ i. (is i).1)
 number_at-sound (suc k) text read e =
     then_some (λ (front : ℕ × List ℕ). digit_more front.0 front.1) (number_at k text) read e λ front led got.
-    let (below, shown) = number_at-sound k text front led in
+    let (below, front_is) = number_at-sound k text front led in
     let (d, small, next, value) = digit_more-sound front.0 front.1 read got in
     let high : read.0 / 10 ≡ front.0 = omega arith in
     let low : read.0 % 10 ≡ d = omega arith in
-    (omega (arith, pow-suc 10 k), rw (high, low, append_assoc) (shown ∙ ap (λ t. digits k front.0 ++ t) next))
+    (omega (arith, pow-suc 10 k), rw (high, low, append_assoc) (front_is ∙ ap (λ t. digits k front.0 ++ t) next))
 
 pub number_at-digits : (k n : ℕ) (rest : List ℕ) → n < 10 ^ k → number_at k (digits k n ++ rest) ≡ Some (n, rest)
 unfolding number_at digits

@@ -8,4 +8,5 @@ pub mod Pieces
 pub mod Printed
 pub mod RoundTrip
 pub mod Rounding
-pub mod Shown
+pub mod Stamp
+pub mod Tests

@@ -6,29 +6,29 @@ use Rattle.std.specs.Int.{int_div_euclid}
 use Rattle.fs_time.specs.declared.error.TimeError.{TimeError}
 use Rattle.fs_time.specs.declared.error.TimeError.TheVariants.{BadText, OutOfRange, Memory}
 use Rattle.fs_time.specs.Moment.{is_moment, IsMoment}
-use Rattle.fs_time.specs.Shown.{Shown, nanos_of, is_on_calendar, is_offset, IsTimeText, IsRoundedDown}
-use Rattle.fs_time.specs.Rfc3339.{time_text, time_of, shown_in, micros_in, moment_of, nanos_if_time, IsMemory, ShowsMoment}
+use Rattle.fs_time.specs.Stamp.{Stamp, nanos_of, is_on_calendar, is_offset, IsTimeText, IsRoundedDown}
+use Rattle.fs_time.specs.Rfc3339.{time_text, time_of, stamp_in, micros_in, moment_of, nanos_if_time, IsMemory, IsTextOfMoment}
 use Rattle.fs_time.proofs.Chains.{cond_some, then_some, map_some}
 use Rattle.fs_time.proofs.Rounding.{div_down, div_only}
-use Rattle.fs_time.proofs.RoundTrip.{shown_once}
-use Rattle.fs_time.proofs.Shown.{shown_in-sound, shown_in-text}
+use Rattle.fs_time.proofs.RoundTrip.{stamp_once}
+use Rattle.fs_time.proofs.Stamp.{stamp_in-sound, stamp_in-text}
 
 -- ---- what is read shows the time that it is read as
 
-micros_of-text : (text : List ℕ) (p : Shown) → IsTimeText text p → micros_in text ≡ Some (int_div_euclid (nanos_of p) (pos 1000))
+micros_of-text : (text : List ℕ) (p : Stamp) → IsTimeText text p → micros_in text ≡ Some (int_div_euclid (nanos_of p) (pos 1000))
 unfolding micros_in
-micros_of-text text p h = rw (h.shown, shown_in-text p h.fit h.places, h.calendar, h.offset)
+micros_of-text text p h = rw (h.stamped, stamp_in-text p h.fit h.places, h.calendar, h.offset)
 
-micros_in-shows : (text : List ℕ) (z : ℤ) → micros_in text ≡ Some z → (p : Shown) × IsTimeText text p × IsRoundedDown p z
+micros_in-shows : (text : List ℕ) (z : ℤ) → micros_in text ≡ Some z → (p : Stamp) × IsTimeText text p × IsRoundedDown p z
 unfolding micros_in
 micros_in-shows text z e =
-    map_some _ (option_and_then nanos_if_time (shown_in text)) z e λ n led same.
-    then_some nanos_if_time (shown_in text) n led λ p read led₁.
+    map_some _ (option_and_then nanos_if_time (stamp_in text)) z e λ n led same.
+    then_some nanos_if_time (stamp_in text) n led λ p read led₁.
     let (time, same₁) = cond_some (is_on_calendar p && is_offset p.offset) (nanos_of p) n led₁ in
-    let (fit, few, shown) = shown_in-sound text p read in
+    let (fit, few, stamped) = stamp_in-sound text p read in
     let is : int_div_euclid (nanos_of p) (pos 1000) ≡ z = rw same₁ same in
     let (calendar, offset) = both_true (is_on_calendar p) (is_offset p.offset) time in
-    (p, record { shown = shown; fit = fit; places = few; calendar = calendar; offset = offset }, subst (IsRoundedDown p) is (div_down (nanos_of p)))
+    (p, record { stamped = stamped; fit = fit; places = few; calendar = calendar; offset = offset }, subst (IsRoundedDown p) is (div_down (nanos_of p)))
   where
     both_true : (a b : Bool) → (a && b) ≡ true → (a ≡ true) × (b ≡ true)
     both_true true true e = (refl, refl)
@@ -38,12 +38,12 @@ micros_in-shows text z e =
 -- ---- when each answer comes
 
 abbrev pub IsOutside : List ℕ → Type 0
-IsOutside text = (p : Shown) × (z : ℤ) × IsTimeText text p × IsRoundedDown p z × ¬ (IsMoment z)
+IsOutside text = (p : Stamp) × (z : ℤ) × IsTimeText text p × IsRoundedDown p z × ¬ (IsMoment z)
 
 -- what is known of each answer
 abbrev pub Means : List ℕ → Result ℤ TimeError → Type 0
-Means text (Ok z) = (p : Shown) × IsTimeText text p × IsRoundedDown p z × IsMoment z
-Means text (Err BadText) = (p : Shown) → ¬ (IsTimeText text p)
+Means text (Ok z) = (p : Stamp) × IsTimeText text p × IsRoundedDown p z × IsMoment z
+Means text (Err BadText) = (p : Stamp) → ¬ (IsTimeText text p)
 Means text (Err OutOfRange) = IsOutside text
 Means text (Err (Memory e)) = ⊥
 
@@ -79,7 +79,7 @@ outside_is text (p, z, shows, rounded, outside) =
 pub means : (text : List ℕ) (r : Result ℤ TimeError) → r ≡ time_of text → Means text r
 means text r e = subst (Means text) (sym e) (time_of-means text)
 
-pub found : (text : List ℕ) (r : Result ℤ TimeError) → Means text r → IfOk r (λ z. (p : Shown) × IsTimeText text p × IsRoundedDown p z)
+pub found : (text : List ℕ) (r : Result ℤ TimeError) → Means text r → IfOk r (λ z. (p : Stamp) × IsTimeText text p × IsRoundedDown p z)
 found text (Ok z) (p, shows, rounded, moment) = (p, shows, rounded)
 found text (Err e) m = tt
 
@@ -89,7 +89,7 @@ no_memory text (Err BadText) m = λ h. h
 no_memory text (Err OutOfRange) m = λ h. h
 no_memory text (Err (Memory e)) m = absurd m
 
-pub bad_text : (text : List ℕ) (r : Result ℤ TimeError) → Means text r → ((p : Shown) → ¬ (IsTimeText text p)) → r ≡ Err BadText
+pub bad_text : (text : List ℕ) (r : Result ℤ TimeError) → Means text r → ((p : Stamp) → ¬ (IsTimeText text p)) → r ≡ Err BadText
 bad_text text (Ok z) (p, shows, rounded, moment) none = absurd (none p shows)
 bad_text text (Err BadText) m none = refl
 bad_text text (Err OutOfRange) (p, z, shows, rounded, outside) none = absurd (none p shows)
@@ -98,6 +98,6 @@ bad_text text (Err (Memory e)) m none = absurd m
 pub out_of_range : (text : List ℕ) (r : Result ℤ TimeError) → r ≡ time_of text → IsOutside text → r ≡ Err OutOfRange
 out_of_range text r e outside = e ∙ outside_is text outside
 
-pub one_text : (text : List ℕ) (r : Result ℤ TimeError) → Means text r → IfOk r (λ z. ShowsMoment z text → text ≡ time_text z)
-one_text text (Ok z) (p, shows, rounded, moment) = shown_once z text moment
+pub one_text : (text : List ℕ) (r : Result ℤ TimeError) → Means text r → IfOk r (λ z. IsTextOfMoment z text → text ≡ time_text z)
+one_text text (Ok z) (p, shows, rounded, moment) = stamp_once z text moment
 one_text text (Err e) m = tt

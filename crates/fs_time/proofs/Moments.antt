@@ -10,8 +10,8 @@ use Rattle.jiff_core.specs.DateTime.{civil_nanos}
 use Rattle.jiff_core.proofs.SignedLemmas.{signed_arith}
 use Rattle.jiff_core.proofs.DateTimeLemmas.{civil_nanos-parts, time_nanos_bound}
 use Rattle.fs_time.specs.Moment.{first_moment, last_moment, IsMoment}
-use Rattle.fs_time.specs.Shown.{utc}
-use Rattle.fs_time.specs.Rfc3339.{decimals, shown_at, shown_of_civil, IsLeastExact}
+use Rattle.fs_time.specs.Stamp.{utc}
+use Rattle.fs_time.specs.Rfc3339.{decimals, stamp_at, stamp_of_civil, IsLeastExact}
 use Rattle.fs_time.proofs.Calendar.{same_day}
 
 -- the microseconds since 0001-01-01T00:00:00Z
@@ -40,8 +40,8 @@ split_days z dt h e = omega (arith, signed_arith, since_first-parts z h, civil_n
 split_time : (t : Time) (n : ℕ) → time_nanos t ≡ n % 86_400_000_000 * 1000 → (t.hour ≡ n / 3_600_000_000 % 24) × (t.minute ≡ n / 60_000_000 % 60) × (t.second ≡ n / 1_000_000 % 60) × (t.subsec_nanosecond / 1000 ≡ n % 1_000_000)
 split_time t n e = omega arith
 
-pub shown_of_civil-is : (z : ℤ) (dt : DateTime) → IsMoment z → civil_nanos dt ≡ z *ℤ pos 1000 → shown_of_civil dt (decimals (dt.time.subsec_nanosecond / 1000)) ≡ shown_at z
-shown_of_civil-is z dt h e =
+pub stamp_of_civil-is : (z : ℤ) (dt : DateTime) → IsMoment z → civil_nanos dt ≡ z *ℤ pos 1000 → stamp_of_civil dt (decimals (dt.time.subsec_nanosecond / 1000)) ≡ stamp_at z
+stamp_of_civil-is z dt h e =
     let days = split_days z dt h e in
     let date = same_day dt.date (since_first z / 86_400_000_000) (omega (arith, since_first-bound z h)) days.0 in
     let time = split_time dt.time (since_first z) days.1 in

@@ -1,8 +1,8 @@
 -- What holds of every printed text: it is ASCII, and short.
 use Rattle.std.proofs.Common.{ℕ, ◌<◌, ◌≤◌, ◌%◌, ◌==◌, Bool, true, false, cond, [], ◌∷◌, All, length, length-append, arith, ℤ}
 use Rattle.std.proofs.lemmas.List.Elements.{All-nil, All-cons}
-use Rattle.fs_time.specs.Shown.{utc, decimals_piece, form, numbers}
-use Rattle.fs_time.specs.Rfc3339.{decimals, shown_at, time_text, longest_text}
+use Rattle.fs_time.specs.Stamp.{utc, decimals_piece, form, numbers}
+use Rattle.fs_time.specs.Rfc3339.{decimals, stamp_at, time_text, longest_text}
 use Rattle.fs_time.proofs.Digits.{IsAsciiText, length-digits}
 use Rattle.fs_time.proofs.Pieces.{printed-ascii}
 use Rattle.fs_time.proofs.Moments.{since_first, decimals_most}
@@ -24,7 +24,7 @@ point places = go (places == 0)
 pub time_text-ascii : (z : ℤ) → All (λ b. b < 128) (time_text z)
 unfolding time_text
 time_text-ascii z =
-    let p = shown_at z in
+    let p = stamp_at z in
     let dash = one 45 (omega arith) in
     let colon = one 58 (omega arith) in
     printed-ascii (form p.places utc) (numbers p) (none, (dash, (dash, (one 84 (omega arith), (colon, (colon, (point p.places, (one 90 (omega arith), (none, tt)))))))))

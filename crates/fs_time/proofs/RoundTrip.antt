@@ -7,12 +7,12 @@ use Rattle.jiff_core.proofs.CalendarLemmas.{days_in_month_bounds}
 use Rattle.fs_time.specs.Moment.{IsMoment}
 use Rattle.fs_time.specs.Calendar.{day_after_first}
 use Rattle.fs_time.specs.Pieces.{Fit}
-use Rattle.fs_time.specs.Shown.{form, numbers, text_of, clock_nanos, nanos_of, is_on_calendar, most_decimals}
-use Rattle.fs_time.specs.Rfc3339.{decimals, shown_at, shown_of_civil, time_text, time_of, micros_in, IsLeastExact, ShowsMoment}
+use Rattle.fs_time.specs.Stamp.{form, numbers, text_of, clock_nanos, nanos_of, is_on_calendar, most_decimals}
+use Rattle.fs_time.specs.Rfc3339.{decimals, stamp_at, stamp_of_civil, time_text, time_of, micros_in, IsLeastExact, IsTextOfMoment}
 use Rattle.fs_time.proofs.Calendar.{day_after_first_nth, year_bound}
 use Rattle.fs_time.proofs.Rounding.{div_only}
-use Rattle.fs_time.proofs.Shown.{fitting, shown_in-text}
-use Rattle.fs_time.proofs.Moments.{since_first, since_first-parts, since_first-bound, shown_of_civil-is, decimals_fit, decimals_most, decimals-least}
+use Rattle.fs_time.proofs.Stamp.{fitting, stamp_in-text}
+use Rattle.fs_time.proofs.Moments.{since_first, since_first-parts, since_first-bound, stamp_of_civil-is, decimals_fit, decimals_most, decimals-least}
 
 -- ---- what is printed of a moment
 
@@ -23,22 +23,22 @@ module _ (z : ℤ) (h : IsMoment z) where
   below : since_first z / 86_400_000_000 < 3_652_059
   below = omega (arith, since_first-bound z h)
 
-  pub shown_at-fit : Fit (form (shown_at z).places (shown_at z).offset.sign) (numbers (shown_at z))
-  shown_at-fit =
+  pub stamp_at-fit : Fit (form (stamp_at z).places (stamp_at z).offset.sign) (numbers (stamp_at z))
+  stamp_at-fit =
       let d = day_after_first (since_first z / 86_400_000_000) in
       let nth = day_after_first_nth (since_first z / 86_400_000_000) in
       let day : d.day < 100 = omega (arith, nth.day.1, days_in_month_bounds (pos d.year) d.month) in
       let fraction = (decimals_fit (since_first z % 1_000_000) (omega arith)).0 in
-      fitting (shown_at z) (omega (arith, year_bound _ d nth below)) (omega (arith, nth.month.1)) day (omega arith) (omega arith) (omega arith) fraction (omega arith, (omega arith, tt))
+      fitting (stamp_at z) (omega (arith, year_bound _ d nth below)) (omega (arith, nth.month.1)) day (omega arith) (omega arith) (omega arith) fraction (omega arith, (omega arith, tt))
 
-  shown_at-calendar : is_on_calendar (shown_at z) ≡ true
-  shown_at-calendar =
+  stamp_at-calendar : is_on_calendar (stamp_at z) ≡ true
+  stamp_at-calendar =
       let nth = day_after_first_nth (since_first z / 86_400_000_000) in
       grind (arith, nat_tests, nth.month, nth.day)
 
-  shown_at-nanos : nanos_of (shown_at z) ≡ z *ℤ pos 1000
+  stamp_at-nanos : nanos_of (stamp_at z) ≡ z *ℤ pos 1000
   unfolding clock_nanos
-  shown_at-nanos =
+  stamp_at-nanos =
       let nth = day_after_first_nth (since_first z / 86_400_000_000) in
       let value = (decimals_fit (since_first z % 1_000_000) (omega arith)).1 in
       omega (arith, signed_arith, nth.number, value, since_first-parts z h)
@@ -48,10 +48,10 @@ module _ (z : ℤ) (h : IsMoment z) where
 micros_again : (z : ℤ) → IsMoment z → micros_in (time_text z) ≡ Some z
 unfolding micros_in time_text
 micros_again z h =
-    let nanos = shown_at-nanos z h in
+    let nanos = stamp_at-nanos z h in
     let exact : int_div_euclid (z *ℤ pos 1000) (pos 1000) ≡ z = div_only (z *ℤ pos 1000) z (omega (arith, signed_arith)) (omega (arith, signed_arith)) in
     let few : decimals (since_first z % 1_000_000) ≤ most_decimals = omega (arith, decimals_most (since_first z % 1_000_000)) in
-    rw (shown_in-text (shown_at z) (shown_at-fit z h) few, shown_at-calendar z h) (rw (nanos, exact))
+    rw (stamp_in-text (stamp_at z) (stamp_at-fit z h) few, stamp_at-calendar z h) (rw (nanos, exact))
 
 -- reading what was printed gives the same time
 pub time_of-time_text : (z : ℤ) → IsMoment z → time_of (time_text z) ≡ Ok z
@@ -63,9 +63,9 @@ time_of-time_text z h = rw (micros_again z h, h)
 same_places : (m a b : ℕ) → IsLeastExact m a → IsLeastExact m b → a ≡ b
 same_places m a b (which, exact, least) (which', exact', least') = omega (arith, least b which' exact', least' a which exact)
 
-pub shown_once : (z : ℤ) (text : List ℕ) → IsMoment z → ShowsMoment z text → text ≡ time_text z
+pub stamp_once : (z : ℤ) (text : List ℕ) → IsMoment z → IsTextOfMoment z text → text ≡ time_text z
 unfolding time_text
-shown_once z text h (dt, places, e, least, shown) =
+stamp_once z text h (dt, places, e, least, stamped) =
     let micros = dt.time.subsec_nanosecond / 1000 in
     let same : places ≡ decimals micros = same_places micros places (decimals micros) least (decimals-least micros (omega (arith, dt.time.subsec_in))) in
-    shown ∙ ap (λ (k : ℕ). text_of (shown_of_civil dt k)) same ∙ ap text_of (shown_of_civil-is z dt h e)
+    stamped ∙ ap (λ (k : ℕ). text_of (stamp_of_civil dt k)) same ∙ ap text_of (stamp_of_civil-is z dt h e)

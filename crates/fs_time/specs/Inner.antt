@@ -5,8 +5,8 @@ use Rattle.fs_time.specs.declared.parts.Parts.{Parts}
 use Rattle.fs_time.specs.declared.parts.Offset as code
 use Rattle.fs_time.specs.declared.parts.Offset.TheVariants.{Utc, Ahead, Behind}
 use Rattle.fs_time.specs.Pieces.{Numbers, Read, ◌>>=◌, read, printed, Fit}
-use Rattle.fs_time.specs.Shown as Shown
-use Rattle.fs_time.specs.Shown.{utc, ahead, behind, Offset, Shown, most_decimals, form, numbers, decimals_piece, offset_pieces}
+use Rattle.fs_time.specs.Stamp as Stamp
+use Rattle.fs_time.specs.Stamp.{utc, ahead, behind, Offset, Stamp, most_decimals, form, numbers, decimals_piece, offset_pieces}
 use Rattle.fs_time.specs.Rfc3339 as Rfc3339
 
 abbrev pub offset_by : code.Offset → Offset
@@ -14,8 +14,8 @@ offset_by Utc = record { sign = utc; hours = 0; minutes = 0 }
 offset_by (Ahead hours minutes) = record { sign = ahead; hours = hours; minutes = minutes }
 offset_by (Behind hours minutes) = record { sign = behind; hours = hours; minutes = minutes }
 
-abbrev pub shown_by : Parts → Shown
-shown_by p =
+abbrev pub stamp_by : Parts → Stamp
+stamp_by p =
     record {
       year = p.year;
       month = p.month;
@@ -44,12 +44,12 @@ offset_at text = do
   Some (record { sign = sign; hours = offset.0.0; minutes = offset.0.1.0 }, offset.1)
 
 -- the numbers of the date and the time of day
-abbrev pub date_time : Parts → Numbers Shown.date_time
+abbrev pub date_time : Parts → Numbers Stamp.date_time
 date_time p = (p.year, (p.month, (p.day, (p.hour, (p.minute, (p.second, tt))))))
 
 -- the text of the date and the time of day
 abbrev pub date_time_text : Parts → List ℕ
-date_time_text p = printed Shown.date_time (date_time p)
+date_time_text p = printed Stamp.date_time (date_time p)
 
 -- the text of the decimals
 abbrev pub decimals_text : Parts → List ℕ
@@ -58,5 +58,5 @@ decimals_text p = printed (decimals_piece p.places ∷ []) (p.fraction, tt)
 -- the numbers have no more digits than their pieces
 abbrev pub AreRead : Parts → Type 0
 AreRead p =
-    let s = shown_by p in
+    let s = stamp_by p in
     Fit (form s.places s.offset.sign) (numbers s) × (s.places ≤ most_decimals)

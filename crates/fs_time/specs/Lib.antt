@@ -3,4 +3,4 @@ pub mod Inner
 pub mod Moment
 pub mod Pieces
 pub mod Rfc3339
-pub mod Shown
+pub mod Stamp

@@ -10,7 +10,7 @@ use Rattle.fs_time.specs.declared.error.TimeError.TheVariants.{BadText, OutOfRan
 use Rattle.fs_time.specs.Moment.{first_moment, is_moment}
 use Rattle.fs_time.specs.Calendar.{day_after_first}
 use Rattle.fs_time.specs.Pieces.{Numbers, ◌>>=◌, read}
-use Rattle.fs_time.specs.Shown.{Sign, utc, ahead, behind, Shown, date_time, decimals_piece, offset_pieces, most_decimals, text_of, is_on_calendar, is_offset, nanos_of}
+use Rattle.fs_time.specs.Stamp.{Sign, utc, ahead, behind, Stamp, date_time, decimals_piece, offset_pieces, most_decimals, text_of, is_on_calendar, is_offset, nanos_of}
 
 -- ---- reading
 
@@ -28,9 +28,9 @@ sign_at (b ∷ rest) =
     else (if b == 45 then Some behind
     else None))
 
--- what numbers show, with so many decimals and that sign
-abbrev pub shown_by_numbers : (places : ℕ) (sign : Sign) → Numbers date_time → Numbers (decimals_piece places ∷ []) → Numbers (offset_pieces sign) → Shown
-shown_by_numbers places sign (year, (month, (day, (hour, (minute, (second, end)))))) (fraction, end') (hours, (minutes, end'')) =
+-- the stamp of numbers, with so many decimals and that sign
+abbrev pub stamp_by_numbers : (places : ℕ) (sign : Sign) → Numbers date_time → Numbers (decimals_piece places ∷ []) → Numbers (offset_pieces sign) → Stamp
+stamp_by_numbers places sign (year, (month, (day, (hour, (minute, (second, end)))))) (fraction, end') (hours, (minutes, end'')) =
     record {
       year = year;
       month = month;
@@ -43,23 +43,23 @@ shown_by_numbers places sign (year, (month, (day, (hour, (minute, (second, end))
       offset = record { sign = sign; hours = hours; minutes = minutes };
     }
 
--- what a text shows, all of it
-unfoldable pub shown_in : List ℕ → Option Shown
-shown_in text = do
+-- the stamp that all of a text is
+unfoldable pub stamp_in : List ℕ → Option Stamp
+stamp_in text = do
   front ← read date_time text
   let places = places_at front.1
   decimals ← read (decimals_piece places ∷ []) front.1
   sign ← sign_at decimals.1
   offset ← read (offset_pieces sign) decimals.1
-  if length offset.1 == 0 then Some (shown_by_numbers places sign front.0 decimals.0 offset.0) else None
+  if length offset.1 == 0 then Some (stamp_by_numbers places sign front.0 decimals.0 offset.0) else None
 
 -- the nanoseconds since 1970-01-01T00:00:00Z, if there is such a day and such a time of day
-abbrev pub nanos_if_time : Shown → Option ℤ
+abbrev pub nanos_if_time : Stamp → Option ℤ
 nanos_if_time p = if is_on_calendar p && is_offset p.offset then Some (nanos_of p) else None
 
 -- the microseconds that a text shows, rounded down, if it shows a time
 unfoldable pub micros_in : List ℕ → Option ℤ
-micros_in text = option_map (λ n. int_div_euclid n (pos 1000)) (shown_in text >>= nanos_if_time)
+micros_in text = option_map (λ n. int_div_euclid n (pos 1000)) (stamp_in text >>= nanos_if_time)
 
 -- the moment of microseconds, where Firestore has it
 abbrev pub moment_of : Option ℤ → Result ℤ TimeError
@@ -82,9 +82,9 @@ IsMemory (Memory e) = Unit {0}
 abbrev pub decimals : ℕ → ℕ
 decimals micros = if micros == 0 then 0 else (if micros % 1000 == 0 then 3 else 6)
 
--- what is shown of the moment so many microseconds after the first
-abbrev pub shown_after_first : ℕ → Shown
-shown_after_first n =
+-- the stamp of the moment so many microseconds after the first
+abbrev pub stamp_after_first : ℕ → Stamp
+stamp_after_first n =
     let date = day_after_first (n / 86_400_000_000) in
     let micros = n % 1_000_000 in
     record {
@@ -99,13 +99,13 @@ shown_after_first n =
       offset = record { sign = utc; hours = 0; minutes = 0 };
     }
 
--- what is shown of a moment
-abbrev pub shown_at : ℤ → Shown
-shown_at z = shown_after_first (unsigned_abs (z -ℤ first_moment))
+-- the stamp of a moment
+abbrev pub stamp_at : ℤ → Stamp
+stamp_at z = stamp_after_first (unsigned_abs (z -ℤ first_moment))
 
 -- the printed text of a moment
 unfoldable pub time_text : ℤ → List ℕ
-time_text z = text_of (shown_at z)
+time_text z = text_of (stamp_at z)
 
 -- the most bytes that a printed text has, as `2024-01-01T00:00:00.000001Z`
 abbrev pub longest_text : ℕ
@@ -124,8 +124,8 @@ IsLeastExact micros places =
     × ((other : ℕ) → (other ≡ 0) ⊎ ((other ≡ 3) ⊎ (other ≡ 6)) → IsExact micros other → places ≤ other)
 
 -- a date and time of the calendar, in UTC, with so many decimals
-abbrev pub shown_of_civil : DateTime → ℕ → Shown
-shown_of_civil dt places =
+abbrev pub stamp_of_civil : DateTime → ℕ → Stamp
+stamp_of_civil dt places =
     record {
       year = unsigned_abs dt.date.year;
       month = dt.date.month;
@@ -139,7 +139,7 @@ shown_of_civil dt places =
     }
 
 -- The text shows the date and time that the moment is in UTC, with the least decimals that are exact.
-abbrev pub ShowsMoment : ℤ → List ℕ → Type 0
-ShowsMoment z text =
+abbrev pub IsTextOfMoment : ℤ → List ℕ → Type 0
+IsTextOfMoment z text =
     (dt : DateTime) × (places : ℕ) × (civil_nanos dt ≡ z *ℤ pos 1000)
-    × IsLeastExact (dt.time.subsec_nanosecond / 1000) places × (text ≡ text_of (shown_of_civil dt places))
+    × IsLeastExact (dt.time.subsec_nanosecond / 1000) places × (text ≡ text_of (stamp_of_civil dt places))

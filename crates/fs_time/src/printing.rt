@@ -3,8 +3,8 @@
 ghost use Rattle.std.specs.Prelude.{◌≡◌, ◌-◌, ◌/◌, ◌^◌, ◌++◌, ◌<◌, ◌≤◌, All, length, IfOk, OnOk, Ok, string_bytes};
 ghost use Rattle.fs_time.specs.Moment.{IsMoment};
 ghost use Rattle.fs_time.specs.Pieces.{digits};
-ghost use Rattle.fs_time.specs.Shown.{text_of};
-ghost use Rattle.fs_time.specs.Rfc3339.{time_of, time_text, shown_at, decimals, longest_text, ShowsMoment};
+ghost use Rattle.fs_time.specs.Stamp.{text_of};
+ghost use Rattle.fs_time.specs.Rfc3339.{time_of, time_text, stamp_at, decimals, longest_text, IsTextOfMoment};
 ghost use Rattle.fs_time.specs.Inner as Inner;
 
 use crate::micros::Micros;
@@ -19,7 +19,7 @@ pub const LONGEST_TEXT: usize = 27;
 /// decimals, the least that are exact. The moment 1,704,067,200,120,000 prints as `2024-01-01T00:00:00.120Z`.
 pub fn print(alloc: Global, t: Micros) -> Result<String, AllocError>
     ensures text { IfOk result (λ s. string_bytes s ≡ time_text t) }
-    ensures shows { IfOk result (λ s. ShowsMoment t (string_bytes s)) }
+    ensures shows { IfOk result (λ s. IsTextOfMoment t (string_bytes s)) }
     ensures again { IfOk result (λ s. time_of (string_bytes s) ≡ Ok t) }
     ensures ascii { IfOk result (λ s. All (λ b. b < 128) (string_bytes s)) }
     ensures longest { IfOk result (λ s. length (string_bytes s) ≤ longest_text) }
@@ -30,7 +30,7 @@ pub fn print(alloc: Global, t: Micros) -> Result<String, AllocError>
 
 fn utc_text(alloc: Global, parts: Parts) -> Result<String, AllocError>
     requires { parts.offset ≡ Offset.Utc }
-    ensures { IfOk result (λ s. string_bytes s ≡ text_of (Inner.shown_by parts)) }
+    ensures { IfOk result (λ s. string_bytes s ≡ text_of (Inner.stamp_by parts)) }
 {
     let mut text = String::with_capacity(alloc, LONGEST_TEXT)?;
     push_date_time(&mut text, parts)?;
@@ -41,8 +41,8 @@ fn utc_text(alloc: Global, parts: Parts) -> Result<String, AllocError>
 
 // What a moment shows in UTC.
 fn parts_at(t: Micros) -> Parts
-    ensures value { Inner.shown_by result ≡ shown_at t }
-    ensures shows { ShowsMoment t (text_of (Inner.shown_by result)) }
+    ensures value { Inner.stamp_by result ≡ stamp_at t }
+    ensures shows { IsTextOfMoment t (text_of (Inner.stamp_by result)) }
     ensures utc { result.offset ≡ Offset.Utc }
     ensures range { IsMoment t }
 {

@@ -7,9 +7,9 @@ ghost use Rattle.jiff_core.specs.Calendar.{IsWithin};
 ghost use Rattle.jiff_core.specs.DateTime.{IsCivilNanos};
 ghost use Rattle.fs_time.specs.Moment.{IsMoment};
 ghost use Rattle.fs_time.specs.Pieces as Pieces;
-ghost use Rattle.fs_time.specs.Shown as Shown;
-ghost use Rattle.fs_time.specs.Shown.{IsTimeText, IsRoundedDown, clock_nanos, is_on_calendar, is_offset, minutes_ahead, most_decimals};
-ghost use Rattle.fs_time.specs.Rfc3339.{time_of, time_text, shown_in, micros_in, nanos_if_time, IsMemory, ShowsMoment};
+ghost use Rattle.fs_time.specs.Stamp as Stamp;
+ghost use Rattle.fs_time.specs.Stamp.{IsTimeText, IsRoundedDown, clock_nanos, is_on_calendar, is_offset, minutes_ahead, most_decimals};
+ghost use Rattle.fs_time.specs.Rfc3339.{time_of, time_text, stamp_in, micros_in, nanos_if_time, IsMemory, IsTextOfMoment};
 ghost use Rattle.fs_time.specs.Inner as Inner;
 
 use crate::error::TimeError;
@@ -26,20 +26,21 @@ const MOST_DECIMALS: usize = 9;
 ///
 /// `2024-01-01T01:00:00.1234567+01:00` reads as 1,704,067,200,123,456. `BadText` is for what isn't such a text, and for a
 /// day or a time of day that doesn't exist; `OutOfRange` is for a time before the first moment or after the last.
+/// (docs/DECISIONS.md, "The grammar of times is ours, and the calendar is `jiff`'s".)
 pub fn read_rfc3339(_alloc: Global, text: &str) -> Result<Micros, TimeError>
     ensures ok { IfOk result (λ t. time_of text.now ≡ Ok t) }
     ensures err { IfErr result (λ e. ¬ IsMemory e → time_of text.now ≡ Err e) }
     ensures memory { IfErr result (λ e. ¬ IsMemory e) }
 
     // The text shows that time, rounded down.
-    ensures found { IfOk result (λ t. (p : Shown.Shown) × IsTimeText text.now p × IsRoundedDown p t) }
-    ensures bad_text { IsErrOf result TimeError.BadText ↔ ((p : Shown.Shown) → ¬ (IsTimeText text.now p)) }
+    ensures found { IfOk result (λ t. (p : Stamp.Stamp) × IsTimeText text.now p × IsRoundedDown p t) }
+    ensures bad_text { IsErrOf result TimeError.BadText ↔ ((p : Stamp.Stamp) → ¬ (IsTimeText text.now p)) }
     ensures out_of_range { IsErrOf result TimeError.OutOfRange
-        ↔ ((p : Shown.Shown) × (z : ℤ) × IsTimeText text.now p × IsRoundedDown p z × ¬ (IsMoment z)) }
+        ↔ ((p : Stamp.Stamp) × (z : ℤ) × IsTimeText text.now p × IsRoundedDown p z × ¬ (IsMoment z)) }
 
     // What was printed is read again, and no other text of its form shows that time.
     ensures again { (z : ℤ) → IsMoment z → time_of (time_text z) ≡ Ok z }
-    ensures one_text { IfOk result (λ t. ShowsMoment t text.now → text.now ≡ time_text t) }
+    ensures one_text { IfOk result (λ t. IsTextOfMoment t text.now → text.now ≡ time_text t) }
 {
     moment_in(text.as_bytes())
 }
@@ -58,6 +59,7 @@ fn moment_in(text: &[u8]) -> Result<Micros, TimeError>
 }
 
 // The microseconds since 1970-01-01T00:00:00Z, rounded down.
+// (docs/DECISIONS.md, "Times are rounded down before their range is tested".)
 #[tactic(auto, unfolding(crate::specs::Rfc3339::micros_in))]
 fn micros_in(text: &[u8]) -> Option<i64>
     ensures { result ≡ micros_in text.now }
@@ -69,18 +71,18 @@ fn micros_in(text: &[u8]) -> Option<i64>
 // The nanoseconds since 1970-01-01T00:00:00Z, if there is such a day and such a time of day.
 fn nanos_of(parts: Parts) -> Option<i128>
     requires { Inner.AreRead parts }
-    ensures value { result ≡ nanos_if_time (Inner.shown_by parts) }
+    ensures value { result ≡ nanos_if_time (Inner.stamp_by parts) }
     ensures range { IfSome result (IsWithin (10 ^ 21)) }
 {
-    let shown = clock_nanos(parts)?;
+    let clock = clock_nanos(parts)?;
     let minutes = minutes_ahead(parts.offset)?;
-    Some(shown - minutes as i128 * 60_000_000_000)
+    Some(clock - minutes as i128 * 60_000_000_000)
 }
 
-// The same on the clock that is shown.
+// The same on the clock of the stamp.
 fn clock_nanos(parts: Parts) -> Option<i128>
     requires { Inner.AreRead parts }
-    ensures value { result ≡ (if is_on_calendar (Inner.shown_by parts) then Some (clock_nanos (Inner.shown_by parts)) else None) }
+    ensures value { result ≡ (if is_on_calendar (Inner.stamp_by parts) then Some (clock_nanos (Inner.stamp_by parts)) else None) }
     ensures range { IfSome result IsCivilNanos }
 {
     let subsec = subsec_of(parts) as i32;
@@ -93,7 +95,7 @@ fn clock_nanos(parts: Parts) -> Option<i128>
         parts.second as i8,
         subsec,
     ) {
-        Ok(shown) => Some(shown.to_plain().to_nanosecond()),
+        Ok(clock) => Some(clock.to_plain().to_nanosecond()),
         Err(_) => None,
     }
 }
@@ -132,9 +134,9 @@ fn minutes_of(hours: u8, minutes: u8) -> Option<i32>
 }
 
 // What all of a text shows, as `2024-01-01T00:00:00.000001Z`.
-#[tactic(auto, unfolding(crate::specs::Rfc3339::shown_in))]
+#[tactic(auto, unfolding(crate::specs::Rfc3339::stamp_in))]
 fn parts_in(text: &[u8]) -> Option<Parts>
-    ensures value { option_map Inner.shown_by result ≡ shown_in text.now }
+    ensures value { option_map Inner.stamp_by result ≡ stamp_in text.now }
 {
     let (whole, rest) = date_time_at(text)?;
     let ((places, fraction), rest) = decimals_at(rest)?;
@@ -152,7 +154,7 @@ fn parts_in(text: &[u8]) -> Option<Parts>
 
 // `2024-01-01T00:00:00`, as it is without decimals and in UTC.
 fn date_time_at(text: &[u8]) -> Option<(Parts, &[u8])>
-    ensures { Inner.read_by Inner.date_time result ≡ Pieces.read Shown.date_time text.now }
+    ensures { Inner.read_by Inner.date_time result ≡ Pieces.read Stamp.date_time text.now }
 {
     let (year, rest) = number_at(text, 4)?;
     let (month, rest) = number_after(b'-', rest)?;
@@ -214,7 +216,7 @@ fn offset_at(text: &[u8]) -> Option<(Offset, &[u8])>
 
 // `01:00`
 fn hours_and_minutes_at(text: &[u8]) -> Option<((u8, u8), &[u8])>
-    ensures { Inner.read_by (λ read. (read.0, (read.1, tt))) result ≡ Pieces.read (Shown.piece [] 2 ∷ Shown.piece (58 ∷ []) 2 ∷ []) text.now }
+    ensures { Inner.read_by (λ read. (read.0, (read.1, tt))) result ≡ Pieces.read (Stamp.piece [] 2 ∷ Stamp.piece (58 ∷ []) 2 ∷ []) text.now }
 {
     let (hours, rest) = number_at(text, 2)?;
     let (minutes, rest) = number_after(b':', rest)?;
@@ -223,7 +225,7 @@ fn hours_and_minutes_at(text: &[u8]) -> Option<((u8, u8), &[u8])>
 
 // This byte, and then a number of two digits.
 fn number_after(byte: u8, text: &[u8]) -> Option<(u8, &[u8])>
-    ensures { Inner.read_by (λ n. n) result ≡ Pieces.piece_at (Shown.piece (byte ∷ []) 2) text.now }
+    ensures { Inner.read_by (λ n. n) result ≡ Pieces.piece_at (Stamp.piece (byte ∷ []) 2) text.now }
 {
     let (number, rest) = number_at(after(byte, text)?, 2)?;
     Some((number as u8, rest))

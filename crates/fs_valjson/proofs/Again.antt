@@ -7,11 +7,13 @@ use Rattle.fs_path.specs.Place.{member_place, item_place}
 use Rattle.serde_json.specs.View.{view as json_view}
 use Rattle.serde_json.specs.declared.value.Value as written
 use Rattle.fs_value.specs.Data.{Data, null, boolean, integer, timestamp, string, bytes, reference, array, object, Items, no_items, item, Members, no_members, member, list_of, items_of, members_of, fields_of}
-use Rattle.fs_value.specs.DataLaws.{fields_of-members_of, items_of-list_of, members_of-fields_of}
+use Rattle.fs_value.specs.DataLaws.{fields_of-members_of, items_of-list_of, list_of-items_of, members_of-fields_of}
 use Rattle.fs_valjson.specs.Document.{document_at, document_json, update_json, untimed}
 use Rattle.fs_value.specs.FieldPaths.{map_of}
-use Rattle.fs_valjson.specs.Reading.{value_at, items_at, entries_at, list_at, array_at, made, array_of}
-use Rattle.fs_valjson.specs.Held.{IsHeld, ItemsAreHeld, MembersAreHeld, IsTimeHeld}
+use Rattle.fs_valjson.specs.Reading.{value_at, items_at, entries_at, list_at, array_at, array_of}
+use Rattle.fs_json.specs.Answer.{made}
+use Rattle.fs_json.specs.Time.{IsTimeHeld}
+use Rattle.fs_valjson.specs.Held.{IsHeld, ItemsAreHeld, MembersAreHeld}
 use Rattle.fs_valjson.specs.Writing.{value_json, items_json, members_json, array_json, list_json, HasNames, ItemsHaveNames, MembersHaveNames}
 
 mutual
@@ -40,10 +42,6 @@ mutual
   entries_again no_members place h n = refl
   entries_again (member k d ms) place h n = rw (value_again d (member_place place k) h.0 n.0, entries_again ms place h.1 n.1) refl
 
-list_of-items_of : (ds : List Data) → list_of (items_of ds) ≡ ds
-list_of-items_of [] = refl
-list_of-items_of (d ∷ ds) = ap (λ xs. d ∷ xs) (list_of-items_of ds)
-
 pub list_again : (ds : List Data) (place : List ℕ) → ItemsAreHeld (items_of ds) → ItemsHaveNames (items_of ds) → list_at (list_json ds) place ≡ Ok ds
 list_again ds place h n = items_again (items_of ds) 0 place h n ∙ ap Ok (list_of-items_of ds)
 
@@ -61,11 +59,6 @@ pub array_reads_back : {E : Type 0} (r : Result written.Value E) (ds : List Data
     → IfOk r (λ j. (place : List ℕ) → ItemsHaveNames (items_of ds) → array_at (json_view j) place ≡ Ok ds)
 array_reads_back (Ok j) ds is held = λ place names. ap (λ x. array_at x place) is ∙ array_again ds place held names
 array_reads_back (Err e) ds is held = record {}
-
--- a fact that holds anyhow
-pub on_ok_always : {T E P : Type 0} (r : Result T E) → P → OnOk r P
-on_ok_always (Ok x) p = p
-on_ok_always (Err e) p = record {}
 
 -- What is written of a document is read as the same document.
 pub document_again : (root : Root) (name : DocName) (fields : List (List ℕ × Data)) (created updated : ℤ) (place : List ℕ) → document_of root (document_text name) ≡ Ok name

@@ -5,12 +5,12 @@ use Rattle.std.proofs.lemmas.Slice.Eq.{bytes_eq-Decides}
 use Rattle.fs_path.specs.Place.{member_place}
 use Rattle.fs_path.specs.declared.place.Rule.TheVariants.{G}
 use Rattle.serde_json.specs.Data as json
-use Rattle.fs_json.specs.Answer.{◌>>=◌}
-use Rattle.fs_json.specs.Members.{at_most_one_at, chosen, one_of_at, only_at}
+use Rattle.fs_json.specs.Answer.{◌>>=◌, made}
+use Rattle.fs_json.specs.Members.{at_most_one_at, chosen, one_of_at, only_at, the_one}
 use Rattle.fs_json.specs.declared.bad.Bad.TheVariants.{At}
 use Rattle.fs_value.specs.FieldPaths.{map_of}
-use Rattle.fs_valjson.specs.ChoiceLaws.{one_more, the_one-map, in_turn, one_or_fault}
-use Rattle.fs_valjson.specs.Reading.{kinds, array_members, map_members, array_of, made, the_one, plain_at, value_at, kinds_in, kind_at, lists_in, list_at, array_at, maps_in, fields_at, map_at}
+use Rattle.fs_json.proofs.Choices.{one_more, the_one-map, in_turn, one_or_fault}
+use Rattle.fs_valjson.specs.Reading.{kinds, array_members, map_members, array_of, plain_at, value_at, kinds_in, kind_at, lists_in, list_at, array_at, maps_in, fields_at, map_at}
 use Rattle.fs_valjson.specs.Steps.{the_content, the_kind}
 
 lists_in-chosen : (ms : json.Members) (place : List ℕ) → lists_in ms place ≡ map (λ one. list_at one.1 (member_place place one.0)) (chosen array_members ms)

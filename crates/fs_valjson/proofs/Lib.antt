@@ -1,6 +1,11 @@
 pub mod Again
 pub mod Chosen
+pub mod Depths
+pub mod Floats
 pub mod Lists
+pub mod Plain
 pub mod Rising
 pub mod Pushed
+pub mod Tokens
+pub mod Valid
 pub mod Written

@@ -3,7 +3,7 @@ use Rattle.std.proofs.Common.{◌≡◌, ℕ, ◌+◌, List, [], ◌∷◌, ◌+
 use Rattle.fs_path.specs.Place.{member_place, item_place}
 use Rattle.serde_json.specs.Data as json
 use Rattle.fs_value.specs.Data.{Data}
-use Rattle.fs_json.specs.WalkLaws.{behind, behind-more}
+use Rattle.fs_json.proofs.Walks.{behind, behind-more}
 use Rattle.fs_valjson.specs.Reading.{value_at, items_at, entries_at}
 
 pub next_item : (front : List Data) (d : json.Data) (ds : json.Items) (i : ℕ) (place : List ℕ) (x : Data)

@@ -5,7 +5,7 @@ use Rattle.json.specs.Token.{Token, key}
 use Rattle.serde_json.specs.Data as json
 use Rattle.fs_value.specs.Data.{Data, items_of, members_of}
 use Rattle.fs_valjson.specs.Document.{with_fields}
-use Rattle.fs_valjson.specs.TokenLaws.{behind_both}
+use Rattle.fs_valjson.proofs.Tokens.{behind_both}
 use Rattle.fs_valjson.specs.Steps.{values_member}
 use Rattle.fs_valjson.specs.Tokens.{member_tokens, tokens_of}
 use Rattle.fs_valjson.specs.Writing.{items_json, members_json}

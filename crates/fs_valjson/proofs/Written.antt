@@ -1,30 +1,28 @@
 -- What is written so far, with one more value or field.
-use Rattle.std.proofs.Common.{◌≡◌, ℕ, ◌+◌, ◌<◌, List, [], ◌∷◌, ◌++◌, map, take, length, get_or, Bool, true, false, ◌&&◌, Ordering, Less, Equal, Greater, String, Vec, BTreeMap, Global, codes, zero, suc, refl, sym, ap, ◌∙◌}
+use Rattle.std.proofs.Common.{◌≡◌, ℕ, List, [], ◌∷◌, ◌++◌, map, take, length, Less, Greater, String, Vec, BTreeMap, Global, codes, zero, suc, refl, ap, ◌∙◌}
 use Rattle.std.specs.Prelude.{IsTrue}
-use Rattle.std.specs.Ordering.{ordering_reverse, is_lt}
+use Rattle.std.specs.Ordering.{ordering_reverse}
 use Rattle.std.specs.FinMap.{is_sorted}
 use Rattle.std.specs.FinMap.Entries.{below_all}
+use Rattle.std.proofs.lemmas.Bool.{and_from, and_parts}
 use Rattle.std.proofs.lemmas.Cmp.{nat_list_cmp_total}
-use Rattle.std.proofs.lemmas.List.{map_more}
 use Rattle.std.proofs.Math.Seq.{take-nil}
 use Rattle.serde_json.specs.Data as json
 use Rattle.serde_json.specs.View.{view as json_view, items_view, members_view}
 use Rattle.serde_json.specs.declared.value.Value as written
 use Rattle.serde_json.proofs.Views.{Entry, view-Array, view-Object}
 use Rattle.fs_path.specs.TextOrder.{text_cmp}
+use Rattle.fs_path.proofs.Orders.{less_is}
 use Rattle.fs_value.specs.Data.{Data, items_of, members_of}
-use Rattle.fs_value.specs.View.{view, field_view}
-use Rattle.fs_value.specs.declared.value.Value.{Value}
+use Rattle.fs_value.specs.View.{field_view}
 use Rattle.fs_value.specs.declared.fields.Field.{Field}
 use Rattle.fs_valjson.specs.Document.{with_fields}
 use Rattle.fs_valjson.specs.Steps.{with_fields_put}
 use Rattle.fs_valjson.specs.Held.{IsHeld, ItemsAreHeld, MembersAreHeld}
-use Rattle.fs_valjson.specs.Writing.{value_json, items_json, members_json, list_content, fields_content, with_one}
+use Rattle.fs_valjson.specs.Writing.{value_json, items_json, members_json, list_content, fields_content}
+use Rattle.fs_json.specs.Members.{with_one}
 
 -- ---- values
-
-pub one_value : (vs : List Value) (i : ℕ) (v : Value) → i < length vs → v ≡ get_or vs i v → map view (take (i + 1) vs) ≡ map view (take i vs) ++ view v ∷ []
-one_value vs i v within is = map_more view vs i v within ∙ ap (λ w. map view (take i vs) ++ view w ∷ []) (sym is)
 
 pub items_push : (js : List written.Value) (j : written.Value) (ds : List Data) (d : Data) → items_view js ≡ items_json (items_of ds) → json_view j ≡ value_json d
     → items_view (js ++ j ∷ []) ≡ items_json (items_of (ds ++ d ∷ []))
@@ -42,33 +40,17 @@ held_push (e ∷ ds) d h one = (h.0, held_push ds d h.1 one)
 
 -- ---- fields
 
-pub one_field : (fs : List Field) (i : ℕ) (f : Field) → i < length fs → f ≡ get_or fs i f → map field_view (take (i + 1) fs) ≡ map field_view (take i fs) ++ field_view f ∷ []
-one_field fs i f within is = map_more field_view fs i f within ∙ ap (λ g. map field_view (take i fs) ++ field_view g ∷ []) (sym is)
-
-both : (a b : Bool) → IsTrue (a && b) → IsTrue a × IsTrue b
-both true b h = (refl, h)
-both false b h = cc
-
-together : (a b : Bool) → IsTrue a → IsTrue b → IsTrue (a && b)
-together true b h g = g
-together false b h g = cc
-
-less : (o : Ordering) → IsTrue (is_lt o) → o ≡ Less
-less Less h = refl
-less Equal h = cc
-less Greater h = cc
-
 below_last : (k : List ℕ) (fs : List (List ℕ × Data)) (f : List ℕ × Data) → IsTrue (below_all text_cmp k (fs ++ f ∷ [])) → text_cmp k f.0 ≡ Less
-below_last k [] f h = less _ (both _ _ h).0
-below_last k (g ∷ fs) f h = below_last k fs f (both _ _ h).1
+below_last k [] f h = less_is _ (and_parts _ _ h).0
+below_last k (g ∷ fs) f h = below_last k fs f (and_parts _ _ h).1
 
 -- a key above those before it goes last
 pub put_last : (fs : List (List ℕ × Data)) (k : List ℕ) (d : Data) → IsTrue (is_sorted text_cmp (fs ++ (k, d) ∷ []))
     → json.put k (value_json d) (members_json (members_of fs)) ≡ members_json (members_of (fs ++ (k, d) ∷ []))
 put_last [] k d h = refl
 put_last (f ∷ fs) k d h =
-    let above : text_cmp k f.0 ≡ Greater = nat_list_cmp_total.antisymm k f.0 ∙ ap ordering_reverse (below_last f.0 fs (k, d) (both _ _ h).0) in
-    rw above (ap (json.member f.0 (value_json f.1)) (put_last fs k d (both _ _ h).1))
+    let above : text_cmp k f.0 ≡ Greater = nat_list_cmp_total.antisymm k f.0 ∙ ap ordering_reverse (below_last f.0 fs (k, d) (and_parts _ _ h).0) in
+    rw above (ap (json.member f.0 (value_json f.1)) (put_last fs k d (and_parts _ _ h).1))
 
 pub members_held_push : (fs : List (List ℕ × Data)) (k : List ℕ) (d : Data) → MembersAreHeld (members_of fs) → IsHeld d → MembersAreHeld (members_of (fs ++ (k, d) ∷ []))
 members_held_push [] k d h one = (one, tt)
@@ -77,13 +59,13 @@ members_held_push (e ∷ fs) k d h one = (h.0, members_held_push fs k d h.1 one)
 below_taken : (k : List ℕ) (n : ℕ) (fs : List Field) → IsTrue (below_all text_cmp k (map field_view fs)) → IsTrue (below_all text_cmp k (map field_view (take n fs)))
 below_taken k n [] h = rw take-nil refl
 below_taken k zero (f ∷ fs) h = refl
-below_taken k (suc n) (f ∷ fs) h = together _ _ (both _ _ h).0 (below_taken k n fs (both _ _ h).1)
+below_taken k (suc n) (f ∷ fs) h = and_from _ _ (and_parts _ _ h).0 (below_taken k n fs (and_parts _ _ h).1)
 
 -- the first fields rise too
 pub rising_taken : (n : ℕ) (fs : List Field) → IsTrue (is_sorted text_cmp (map field_view fs)) → IsTrue (is_sorted text_cmp (map field_view (take n fs)))
 rising_taken n [] h = rw take-nil refl
 rising_taken zero (f ∷ fs) h = refl
-rising_taken (suc n) (f ∷ fs) h = together _ _ (below_taken f.key n fs (both _ _ h).0) (rising_taken n fs (both _ _ h).1)
+rising_taken (suc n) (f ∷ fs) h = and_from _ _ (below_taken f.key n fs (and_parts _ _ h).0) (rising_taken n fs (and_parts _ _ h).1)
 
 -- ---- lists that aren't empty
 

@@ -1,6 +1,6 @@
 -- The JSON of a document, read and written. (v1 reference, "Document".)
-use Rattle.std.specs.Prelude.{ℕ, ℤ, pos, List, [], ◌∷◌, Result, Ok, codes}
-use Rattle.std.specs.Option.{option_map_or}
+use Rattle.std.specs.Prelude.{ℕ, ℤ, pos, List, [], ◌∷◌, Option, Result, Ok, codes}
+use Rattle.std.specs.Option.{unwrap_or}
 use Rattle.fs_path.specs.Document.{document_text}
 use Rattle.fs_path.specs.Place.{member_place}
 use Rattle.fs_path.specs.declared.name.DocName.{DocName}
@@ -8,10 +8,10 @@ use Rattle.fs_path.specs.declared.name.Root.{Root}
 use Rattle.serde_json.specs.Data as json
 use Rattle.fs_value.specs.Data.{Data, members_of}
 use Rattle.fs_value.specs.declared.document.Document.{Document}
-use Rattle.fs_json.specs.Answer.{◌>>=◌}
-use Rattle.fs_json.specs.Members.{member_at, only_at, required_at}
+use Rattle.fs_json.specs.Answer.{made, ◌>>=◌}
+use Rattle.fs_json.specs.Members.{member_or, only_at, required_at}
 use Rattle.fs_json.specs.Paths.{document_name_at}
-use Rattle.fs_json.specs.Time.{time_at, time_json}
+use Rattle.fs_json.specs.Time.{optional_time_at, time_json}
 use Rattle.fs_json.specs.declared.bad.Bad.{Bad}
 use Rattle.fs_valjson.specs.Reading.{fields_at}
 use Rattle.fs_valjson.specs.Writing.{members_json}
@@ -21,11 +21,14 @@ document_members = codes "name" ∷ codes "fields" ∷ codes "createTime" ∷ co
 
 -- fields that are absent are none
 abbrev pub fields_in : json.Data → List ℕ → Result (List (List ℕ × Data)) Bad
-fields_in d place = member_at (codes "fields") d place >>= λ found. option_map_or (λ x. fields_at x (member_place place (codes "fields"))) found (Ok [])
+fields_in d place = member_or [] fields_at (codes "fields") d place
 
 -- a time that is absent is the one of an empty `google.protobuf.Timestamp`, 1970-01-01T00:00:00Z
+abbrev pub or_first : Option ℤ → ℤ
+or_first time = unwrap_or time (pos 0)
+
 abbrev pub time_in : List ℕ → json.Data → List ℕ → Result ℤ Bad
-time_in name d place = member_at name d place >>= λ found. option_map_or (λ x. time_at x (member_place place name)) found (Ok (pos 0))
+time_in name d place = made or_first (optional_time_at name d place)
 
 -- what a document has beside its name
 pub record Content : Type 0 where

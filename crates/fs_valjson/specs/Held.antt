@@ -1,15 +1,11 @@
--- What only private clauses, and clauses of other crates on what they write, cite: that the integers, times, bytes and names in
--- a value, as they are written, are read back. The types of a value hold no others.
-use Rattle.std.specs.Prelude.{◌≡◌, ℕ, ℤ, List, Some, Ok}
+-- What only private clauses cite: that the integers, times, bytes and names in a value, as they are written, are read back.
+-- The types of a value hold no others.
+use Rattle.std.specs.Prelude.{◌≡◌, Some, Ok}
 use Rattle.fs_path.specs.Document.{document_text, reference_of, IsDocument}
 use Rattle.fs_value.specs.Data.{Data, integer, timestamp, bytes, reference, array, object, Items, no_items, item, Members, no_members, member}
 use Rattle.fs_json.specs.Base64.{bytes_json, bytes_of}
 use Rattle.fs_json.specs.Integer.{integer_json, integer_of}
-use Rattle.fs_json.specs.Time.{time_at, time_json}
-
--- a time's text is read back, at any place
-abbrev pub IsTimeHeld : ℤ → Type 0
-IsTimeHeld t = (place : List ℕ) → time_at (time_json t) place ≡ Ok t
+use Rattle.fs_json.specs.Time.{IsTimeHeld}
 
 -- the integers, times, bytes and names inside are those that a value's types hold, so their texts are read back
 abbrev mutual

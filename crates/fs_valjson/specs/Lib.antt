@@ -4,11 +4,4 @@ pub mod Steps
 pub mod Writing
 pub mod Valid
 pub mod Held
-pub mod FloatLaws
-pub mod ChoiceLaws
-pub mod AnswerLaws
-pub mod NameLaws
-pub mod ValidLaws
-pub mod DepthLaws
 pub mod Tokens
-pub mod TokenLaws

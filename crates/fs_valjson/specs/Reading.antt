@@ -8,10 +8,10 @@ use Rattle.serde_json.specs.Data as json
 use Rattle.serde_json.specs.Find.{as_bool, as_str}
 use Rattle.fs_value.specs.Data.{Data, null, boolean, integer, timestamp, string, bytes, reference, array, items_of}
 use Rattle.fs_value.specs.FieldPaths.{map_of}
-use Rattle.fs_json.specs.Answer.{or_fault, ◌>>=◌}
+use Rattle.fs_json.specs.Answer.{made, or_fault, ◌>>=◌}
 use Rattle.fs_json.specs.Base64.{bytes_of}
 use Rattle.fs_json.specs.Integer.{integer_of}
-use Rattle.fs_json.specs.Members.{if_chosen, only_at}
+use Rattle.fs_json.specs.Members.{if_chosen, only_at, the_one}
 use Rattle.fs_json.specs.Paths.{reference_at}
 use Rattle.fs_json.specs.Time.{time_at}
 use Rattle.fs_json.specs.declared.bad.Bad.{Bad}
@@ -31,10 +31,6 @@ map_members = codes "fields" ∷ []
 abbrev pub array_of : List Data → Data
 array_of ds = array (items_of ds)
 
--- what was read, made into a value
-abbrev pub made : {A B : Type 0} → (A → B) → Result A Bad → Result B Bad
-made make read = read >>= λ x. Ok (make x)
-
 -- null, or the name of the one value of `google.protobuf.NullValue`
 abbrev pub null_of : json.Data → Option Data
 null_of json.null = Some null
@@ -52,12 +48,6 @@ plain_at name d place =
     else if bytes_eq name (codes "bytesValue") then made bytes (or_fault G place (bytes_of d))
     else if bytes_eq name (codes "referenceValue") then made reference (reference_at d place)
     else Err (At G place)
-
--- of the readings of members of which one may be there: that one, or this where there is none
-abbrev pub the_one : {A : Type 0} → List ℕ → Result A Bad → List (Result A Bad) → Result A Bad
-the_one place absent [] = absent
-the_one place absent (reading ∷ []) = reading
-the_one place absent (first ∷ second ∷ rest) = Err (At G place)
 
 -- the content of an array or a map: no member is there but this, and what is read of it, or nothing where it is absent
 abbrev pub content_at : {A : Type 0} → List (List ℕ) → json.Data → List ℕ → List (Result (List A) Bad) → Result (List A) Bad

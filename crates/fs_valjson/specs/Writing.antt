@@ -1,15 +1,12 @@
 -- The JSON of a value. (proto3 JSON of the v1 reference, "Value": 64-bit integers and bytes are strings.)
-use Rattle.std.specs.Prelude.{ℕ, List, codes}
+use Rattle.std.specs.Prelude.{List, codes}
 use Rattle.fs_path.specs.Document.{document_text, IsDocument}
 use Rattle.serde_json.specs.Data as json
 use Rattle.fs_value.specs.Data.{Data, null, boolean, integer, timestamp, string, bytes, reference, array, object, Items, no_items, item, Members, no_members, member, items_of}
 use Rattle.fs_json.specs.Base64.{bytes_json}
 use Rattle.fs_json.specs.Integer.{integer_json}
+use Rattle.fs_json.specs.Members.{with_one}
 use Rattle.fs_json.specs.Time.{time_json}
-
--- an object of one member
-abbrev pub with_one : List ℕ → json.Data → json.Data
-with_one name content = json.object (json.member name content json.no_members)
 
 -- an empty list of values or of fields is left out
 abbrev pub list_content : json.Items → json.Data

@@ -15,7 +15,7 @@ ghost use Rattle.fs_valjson.specs.Writing.{MembersHaveNames};
 use crate::names::{CREATE_TIME, DOCUMENT_MEMBERS, FIELDS, NAME, UPDATE_TIME};
 use crate::read::read_fields;
 use crate::write::write_members;
-use fs_json::{Bad, document_name, member, only, required, time, write_time};
+use fs_json::{Bad, member, only, read_document_name, read_optional_time, required, write_time};
 use fs_path::{DocName, Root, Way, print_document};
 use fs_time::Micros;
 use fs_value::{Document, Fields, SharedFields};
@@ -25,21 +25,16 @@ use std::alloc::{AllocError, Global};
 /// Reads a document of this root. Fields that are absent are none, and a time that is absent is 1970-01-01T00:00:00Z,
 /// as `google.protobuf.Timestamp` has it: a document in a write has no times.
 #[tactic(auto, unfolding(crate::specs::Document::document_at))]
-pub fn read_document(
-    alloc: Global,
-    root: &Root,
-    v: &Value,
-    place: &Way<'_>,
-) -> Result<Document, Bad>
-    ensures gives { Gives (λ d. d) result (document_at root.now (json v.now) (place_of place.now)) }
+pub fn read_document(alloc: Global, root: &Root, v: &Value, way: &Way<'_>) -> Result<Document, Bad>
+    ensures gives { Gives (λ d. d) result (document_at root.now (json v.now) (place_of way.now)) }
 
     // It is a document of the root, and its references are names of documents.
     ensures valid { IfOk result (λ d. IsValid root.now d) }
 {
-    only(alloc, v, &DOCUMENT_MEMBERS, place)?;
-    let name = required(alloc, v, NAME, place)?;
-    let name = document_name(alloc, root, name, &place.member(NAME))?;
-    match read_content(alloc, v, place) {
+    only(alloc, v, &DOCUMENT_MEMBERS, way)?;
+    let name = required(alloc, v, NAME, way)?;
+    let name = read_document_name(alloc, root, name, &way.member(NAME))?;
+    match read_content(alloc, v, way) {
         Ok(content) => Ok(Document {
             name,
             fields: content.fields,
@@ -61,14 +56,14 @@ struct Content {
     updated: Micros,
 }
 
-fn read_content(alloc: Global, v: &Value, place: &Way<'_>) -> Result<Content, Bad>
+fn read_content(alloc: Global, v: &Value, way: &Way<'_>) -> Result<Content, Bad>
     ensures { Gives {Y = Told} (λ c. record { fields = c.fields; created = c.created; updated = c.updated }) result
-        (content_at (json v.now) (place_of place.now)) }
+        (content_at (json v.now) (place_of way.now)) }
 {
-    let fields = fields_in(alloc, v, place)?;
+    let fields = read_fields_of(alloc, v, way)?;
     let fields = SharedFields::of(alloc, fields)?;
-    let created = time_in(alloc, v, CREATE_TIME, place)?;
-    let updated = time_in(alloc, v, UPDATE_TIME, place)?;
+    let created = read_time_of(alloc, v, CREATE_TIME, way)?;
+    let updated = read_time_of(alloc, v, UPDATE_TIME, way)?;
     Ok(Content {
         fields,
         created,
@@ -76,20 +71,20 @@ fn read_content(alloc: Global, v: &Value, place: &Way<'_>) -> Result<Content, Ba
     })
 }
 
-fn fields_in(alloc: Global, v: &Value, place: &Way<'_>) -> Result<Fields, Bad>
-    ensures { Gives (λ fs. fs) result (fields_in (json v.now) (place_of place.now)) }
+fn read_fields_of(alloc: Global, v: &Value, way: &Way<'_>) -> Result<Fields, Bad>
+    ensures { Gives (λ fs. fs) result (fields_in (json v.now) (place_of way.now)) }
 {
-    match member(alloc, v, FIELDS, place)? {
-        Some(fields) => read_fields(alloc, fields, &place.member(FIELDS)),
+    match member(alloc, v, FIELDS, way)? {
+        Some(fields) => read_fields(alloc, fields, &way.member(FIELDS)),
         None => Ok(Fields::new(alloc)),
     }
 }
 
-fn time_in(alloc: Global, v: &Value, name: &str, place: &Way<'_>) -> Result<Micros, Bad>
-    ensures { Gives (λ t. t) result (time_in name.now (json v.now) (place_of place.now)) }
+fn read_time_of(alloc: Global, v: &Value, name: &str, way: &Way<'_>) -> Result<Micros, Bad>
+    ensures { Gives (λ t. t) result (time_in name.now (json v.now) (place_of way.now)) }
 {
-    match member(alloc, v, name, place)? {
-        Some(moment) => time(alloc, moment, &place.member(name)),
+    match read_optional_time(alloc, v, name, way)? {
+        Some(time) => Ok(time),
         None => Ok(Micros::new(0).unwrap()),
     }
 }

@@ -7,7 +7,8 @@ ghost use Rattle.fs_value.specs.View.{view};
 ghost use Rattle.fs_valjson.specs.Document.{document_json, with_fields};
 ghost use Rattle.fs_valjson.specs.Steps.{values_member};
 ghost use Rattle.fs_valjson.specs.Tokens.{member_tokens, text_member, tokens_of};
-ghost use Rattle.fs_valjson.specs.Writing.{fields_content, items_json, list_content, list_json, members_json, value_json, with_one};
+ghost use Rattle.fs_valjson.specs.Writing.{fields_content, items_json, list_content, list_json, members_json, value_json};
+ghost use Rattle.fs_json.specs.Members.{with_one};
 
 use crate::names::{
     ARRAY_VALUE, BOOLEAN_VALUE, BYTES_VALUE, CREATE_TIME, FIELDS, INTEGER_VALUE, MAP_VALUE, NAME,

@@ -15,7 +15,8 @@ use crate::names::{
     MAP_VALUE, NULL, NULL_VALUE, REFERENCE_VALUE, STRING_VALUE, TIMESTAMP_VALUE,
 };
 use fs_json::{
-    Bad, at_most_one_of, bytes, integer, list, one_of, only, reference, text, time, truth,
+    Bad, at_most_one_of, one_of, only, read_bytes, read_integer, read_json_list, read_reference,
+    read_text, read_time, read_truth,
 };
 use fs_path::{Rule, Text, Way};
 use fs_value::{Fields, Value, Values};
@@ -28,72 +29,67 @@ use std::alloc::Global;
 /// by `x.mapValue`, `x.mapValue.fields` and `x.mapValue.fields.a` to
 /// `x.mapValue.fields.a.arrayValue.values[0].integerValue`, where it refuses.
 #[cycle(read)]
-pub fn read_value(alloc: Global, v: &serde_json::Value, place: &Way<'_>) -> Result<Value, Bad>
-    ensures gives { Gives view result (value_at (json v.now) (place_of place.now)) }
+pub fn read_value(alloc: Global, v: &serde_json::Value, way: &Way<'_>) -> Result<Value, Bad>
+    ensures gives { Gives view result (value_at (json v.now) (place_of way.now)) }
 
     // Its references are names of documents.
     ensures valid { IfOk result (λ x. HasNames (view x)) }
 {
-    let (name, content) = the_kind(alloc, v, place)?;
-    read_kind(alloc, name, content, &(*place).member(name))
+    let (name, content) = the_kind(alloc, v, way)?;
+    read_kind(alloc, name, content, &(*way).member(name))
 }
 
 #[cycle(read)]
-fn read_kind(
-    alloc: Global,
-    name: &str,
-    v: &serde_json::Value,
-    place: &Way<'_>,
-) -> Result<Value, Bad>
-    ensures { Gives view result (kind_at (json v.now) name.now (place_of place.now)) }
+fn read_kind(alloc: Global, name: &str, v: &serde_json::Value, way: &Way<'_>) -> Result<Value, Bad>
+    ensures { Gives view result (kind_at (json v.now) name.now (place_of way.now)) }
 {
     match name {
-        ARRAY_VALUE => Ok(Value::Array(read_array(alloc, v, place)?)),
-        MAP_VALUE => Ok(Value::Map(read_map(alloc, v, place)?)),
-        _ => read_plain(alloc, name, v, place),
+        ARRAY_VALUE => Ok(Value::Array(read_array(alloc, v, way)?)),
+        MAP_VALUE => Ok(Value::Map(read_map(alloc, v, way)?)),
+        _ => read_plain(alloc, name, v, way),
     }
 }
 
 /// Reads the content of an array: an object whose member `values` is a list of values, or is absent.
 #[cycle(read)]
-pub fn read_array(alloc: Global, v: &serde_json::Value, place: &Way<'_>) -> Result<Values, Bad>
-    ensures gives { Gives (λ vs. vs) result (array_at (json v.now) (place_of place.now)) }
+pub fn read_array(alloc: Global, v: &serde_json::Value, way: &Way<'_>) -> Result<Values, Bad>
+    ensures gives { Gives (λ vs. vs) result (array_at (json v.now) (place_of way.now)) }
     ensures valid { IfOk result (λ vs. ItemsHaveNames (items_of vs)) }
 {
-    match the_content(alloc, v, &ARRAY_MEMBERS, place)? {
-        Some((name, content)) => read_list(alloc, content, &(*place).member(name)),
+    match the_content(alloc, v, &ARRAY_MEMBERS, way)? {
+        Some((name, content)) => read_list(alloc, content, &(*way).member(name)),
         None => Ok(Values::new(alloc)),
     }
 }
 
 /// Reads a list of values.
 #[cycle(read)]
-pub fn read_list(alloc: Global, v: &serde_json::Value, place: &Way<'_>) -> Result<Values, Bad>
-    ensures gives { Gives (λ vs. vs) result (list_at (json v.now) (place_of place.now)) }
+pub fn read_list(alloc: Global, v: &serde_json::Value, way: &Way<'_>) -> Result<Values, Bad>
+    ensures gives { Gives (λ vs. vs) result (list_at (json v.now) (place_of way.now)) }
     ensures valid { IfOk result (λ vs. ItemsHaveNames (items_of vs)) }
 {
-    let items = list(alloc, v, place)?;
-    read_items(alloc, items, place)
+    let items = read_json_list(alloc, v, way)?;
+    read_items(alloc, items, way)
 }
 
 #[cycle(read)]
-fn read_items(alloc: Global, items: &[serde_json::Value], place: &Way<'_>) -> Result<Values, Bad>
-    ensures { Gives (λ vs. vs) result (items_at (items_view items.now) 0 (place_of place.now)) }
+fn read_items(alloc: Global, items: &[serde_json::Value], way: &Way<'_>) -> Result<Values, Bad>
+    ensures { Gives (λ vs. vs) result (items_at (items_view items.now) 0 (place_of way.now)) }
 {
     let mut values = Values::with_capacity(alloc, items.len())?;
     for (i, item) in items.iter().enumerate() {
-        let value = read_value(alloc, item, &(*place).item(i as u64))?;
+        let value = read_value(alloc, item, &(*way).item(i as u64))?;
         values.push(value)?;
     }
     Ok(values)
 }
 
 #[cycle(read)]
-fn read_map(alloc: Global, v: &serde_json::Value, place: &Way<'_>) -> Result<Fields, Bad>
-    ensures { Gives (λ fs. fs) result (map_at (json v.now) (place_of place.now)) }
+fn read_map(alloc: Global, v: &serde_json::Value, way: &Way<'_>) -> Result<Fields, Bad>
+    ensures { Gives (λ fs. fs) result (map_at (json v.now) (place_of way.now)) }
 {
-    match the_content(alloc, v, &MAP_MEMBERS, place)? {
-        Some((name, content)) => read_fields(alloc, content, &(*place).member(name)),
+    match the_content(alloc, v, &MAP_MEMBERS, way)? {
+        Some((name, content)) => read_fields(alloc, content, &(*way).member(name)),
         None => Ok(Fields::new(alloc)),
     }
 }
@@ -103,13 +99,13 @@ fn read_map(alloc: Global, v: &serde_json::Value, place: &Way<'_>) -> Result<Fie
 pub(crate) fn read_fields(
     alloc: Global,
     v: &serde_json::Value,
-    place: &Way<'_>,
+    way: &Way<'_>,
 ) -> Result<Fields, Bad>
-    ensures { Gives (λ fs. fs) result (fields_at (json v.now) (place_of place.now)) }
+    ensures { Gives (λ fs. fs) result (fields_at (json v.now) (place_of way.now)) }
 {
     match v {
-        serde_json::Value::Object(members) => read_entries(alloc, members, place),
-        _ => Err(Bad::at(alloc, Rule::G, place)),
+        serde_json::Value::Object(members) => read_entries(alloc, members, way),
+        _ => Err(Bad::at(alloc, Rule::G, way)),
     }
 }
 
@@ -117,13 +113,13 @@ pub(crate) fn read_fields(
 fn read_entries(
     alloc: Global,
     members: &Map<String, serde_json::Value>,
-    place: &Way<'_>,
+    way: &Way<'_>,
 ) -> Result<Fields, Bad>
-    ensures { Gives (λ fs. fs) result (entries_at (members_view members.now.entries) (place_of place.now)) }
+    ensures { Gives (λ fs. fs) result (entries_at (members_view members.now.entries) (place_of way.now)) }
 {
     let mut fields = Fields::with_capacity(alloc, members.len())?;
     for (key, content) in members.iter() {
-        let value = read_value(alloc, content, &(*place).member(key.as_str()))?;
+        let value = read_value(alloc, content, &(*way).member(key.as_str()))?;
         let key = Text::from_str(alloc, key.as_str())?;
         fields.push_last(key, value)?;
     }
@@ -134,13 +130,13 @@ fn read_entries(
 fn the_kind<'a>(
     alloc: Global,
     v: &'a serde_json::Value,
-    place: &Way<'_>,
+    way: &Way<'_>,
 ) -> Result<(&'static str, &'a serde_json::Value), Bad>
     ensures { Gives {Y = List ℕ × Data} (λ one. (one.0.now, json one.1.now)) result
-        (the_kind (json v.now) (place_of place.now)) }
+        (the_kind (json v.now) (place_of way.now)) }
 {
-    only(alloc, v, &KINDS, place)?;
-    one_of(alloc, v, &KINDS, place)
+    only(alloc, v, &KINDS, way)?;
+    one_of(alloc, v, &KINDS, way)
 }
 
 /// The member that is there of these names, if any is, where no other is.
@@ -148,44 +144,39 @@ fn the_content<'a>(
     alloc: Global,
     v: &'a serde_json::Value,
     names: &[&'static str],
-    place: &Way<'_>,
+    way: &Way<'_>,
 ) -> Result<Option<(&'static str, &'a serde_json::Value)>, Bad>
     ensures { Gives {Y = Option (List ℕ × Data)}
         (λ found. option_map (λ one. (one.0.now, json one.1.now)) found) result
-        (the_content (map (λ n. n.now) names.now) (json v.now) (place_of place.now)) }
+        (the_content (map (λ n. n.now) names.now) (json v.now) (place_of way.now)) }
 {
-    only(alloc, v, names, place)?;
-    at_most_one_of(alloc, v, names, place)
+    only(alloc, v, names, way)?;
+    at_most_one_of(alloc, v, names, way)
 }
 
 /// The content of a member that holds no values.
-fn read_plain(
-    alloc: Global,
-    name: &str,
-    v: &serde_json::Value,
-    place: &Way<'_>,
-) -> Result<Value, Bad>
-    ensures { Gives view result (plain_at name.now (json v.now) (place_of place.now)) }
+fn read_plain(alloc: Global, name: &str, v: &serde_json::Value, way: &Way<'_>) -> Result<Value, Bad>
+    ensures { Gives view result (plain_at name.now (json v.now) (place_of way.now)) }
 {
     match name {
-        NULL_VALUE => read_null(alloc, v, place),
-        BOOLEAN_VALUE => Ok(Value::Boolean(truth(alloc, v, place)?)),
-        INTEGER_VALUE => Ok(Value::Integer(integer(alloc, v, place)?)),
-        TIMESTAMP_VALUE => Ok(Value::Timestamp(time(alloc, v, place)?)),
-        STRING_VALUE => Ok(Value::String(text(alloc, v, place)?)),
-        BYTES_VALUE => Ok(Value::Bytes(bytes(alloc, v, place)?)),
-        REFERENCE_VALUE => Ok(Value::Reference(reference(alloc, v, place)?)),
-        _ => Err(Bad::at(alloc, Rule::G, place)),
+        NULL_VALUE => read_null(alloc, v, way),
+        BOOLEAN_VALUE => Ok(Value::Boolean(read_truth(alloc, v, way)?)),
+        INTEGER_VALUE => Ok(Value::Integer(read_integer(alloc, v, way)?)),
+        TIMESTAMP_VALUE => Ok(Value::Timestamp(read_time(alloc, v, way)?)),
+        STRING_VALUE => Ok(Value::String(read_text(alloc, v, way)?)),
+        BYTES_VALUE => Ok(Value::Bytes(read_bytes(alloc, v, way)?)),
+        REFERENCE_VALUE => Ok(Value::Reference(read_reference(alloc, v, way)?)),
+        _ => Err(Bad::at(alloc, Rule::G, way)),
     }
 }
 
 /// Null, or the name of the one value of `google.protobuf.NullValue`.
-fn read_null(alloc: Global, v: &serde_json::Value, place: &Way<'_>) -> Result<Value, Bad>
-    ensures { Gives view result (plain_at (codes "nullValue") (json v.now) (place_of place.now)) }
+fn read_null(alloc: Global, v: &serde_json::Value, way: &Way<'_>) -> Result<Value, Bad>
+    ensures { Gives view result (plain_at (codes "nullValue") (json v.now) (place_of way.now)) }
 {
     match v {
         serde_json::Value::Null => Ok(Value::Null),
         serde_json::Value::String(name) if name.as_str() == NULL => Ok(Value::Null),
-        _ => Err(Bad::at(alloc, Rule::G, place)),
+        _ => Err(Bad::at(alloc, Rule::G, way)),
     }
 }

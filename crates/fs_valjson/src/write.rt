@@ -6,13 +6,14 @@ ghost use Rattle.serde_json.specs.Written.{has_float};
 ghost use Rattle.serde_json.specs.View.{view as json, items_view, members_view};
 ghost use Rattle.fs_valjson.specs.Reading.{array_at, list_at, value_at};
 ghost use Rattle.fs_valjson.specs.Held.{IsHeld, ItemsAreHeld, MembersAreHeld};
-ghost use Rattle.fs_valjson.specs.Writing.{value_json, items_json, members_json, list_content, fields_content, array_json, list_json, with_one, HasNames, ItemsHaveNames};
+ghost use Rattle.fs_valjson.specs.Writing.{value_json, items_json, members_json, list_content, fields_content, array_json, list_json, HasNames, ItemsHaveNames};
+ghost use Rattle.fs_json.specs.Members.{with_one};
 
 use crate::names::{
     ARRAY_VALUE, BOOLEAN_VALUE, BYTES_VALUE, FIELDS, INTEGER_VALUE, MAP_VALUE, NULL_VALUE,
     REFERENCE_VALUE, STRING_VALUE, TIMESTAMP_VALUE, VALUES,
 };
-use fs_json::{write_bytes, write_integer, write_text, write_time};
+use fs_json::{with_one, write_bytes, write_integer, write_text, write_time};
 use fs_path::print_document;
 use fs_value::{Fields, Value, Values};
 use serde_json::Map;
@@ -149,17 +150,4 @@ fn fields_content(
         return Ok(serde_json::Value::Object(members));
     }
     with_one(alloc, FIELDS, serde_json::Value::Object(members))
-}
-
-/// An object of one member.
-fn with_one(
-    alloc: Global,
-    name: &str,
-    content: serde_json::Value,
-) -> Result<serde_json::Value, AllocError>
-    ensures { IfOk result (λ j. json j ≡ with_one name.now (json content)) }
-{
-    let mut members = Map::new(alloc);
-    serde_json::put(&mut members, alloc, name, content)?;
-    Ok(serde_json::Value::Object(members))
 }

@@ -7,7 +7,7 @@ use Rattle.std.proofs.lemmas.List.{append-nil}
 use Rattle.fs_path.specs.declared.name.DocName.{DocName}
 use Rattle.fs_path.specs.NameOrder.{name_cmp, name_cmp_total}
 use Rattle.fs_value.specs.declared.document.Document.{Document}
-use Rattle.fs_value.specs.Tree.{insert_last}
+use Rattle.fs_value.proofs.Tree.{insert_last}
 
 -- the copies of a tree's entries, in their order: one more
 pub copied_more : (done rest next whole new : List (DocName × Document)) (k l : DocName) (v w : Document) → IsStrictlySortedBy name_cmp (keys_of whole)

@@ -1,20 +1,21 @@
 -- Fields whose value at a key's place is changed or taken out, told by key: `put` and `without` of the key. Their keys rise
 -- still.
 use Rattle.std.proofs.Common.{◌≡◌, ℕ, zero, suc, ◌<◌, Bool, true, false, cond, not, List, [], ◌∷◌, Option, Some, None, map, length, get_or, set, Less, refl, sym, ap, ◌∙◌, subst, arith}
-use Rattle.std.specs.Prelude.{IsTrue, T}
+use Rattle.std.specs.Prelude.{IsTrue}
 use Rattle.std.specs.List.{remove}
 use Rattle.std.specs.Ordering.{ordering_reverse, is_lt, is_eq, eq_by_cmp}
 use Rattle.std.specs.Cmp.{first_so, second_so}
 use Rattle.std.specs.FinMap.{find, put, is_sorted}
-use Rattle.std.specs.FinMap.Entries.{below_all, is_sorted-where_key}
+use Rattle.std.specs.FinMap.Entries.{below_all, find-put, is_sorted-put, is_sorted-where_key, same_entries}
 use Rattle.std.proofs.lemmas.Cmp.{tied_itself}
 use Rattle.std.proofs.lemmas.List.{get_or-map, length-map, map-set}
 use Rattle.std.proofs.Math.Seq.{map-set_same}
-use Rattle.fs_path.specs.TextOrder.{text_cmp, text_cmp_total}
+use Rattle.fs_path.specs.TextOrder.{text_alike, text_cmp, text_cmp_total, text_same}
 use Rattle.fs_value.specs.Data.{Data}
 use Rattle.fs_value.specs.FieldPaths.{without}
 use Rattle.fs_value.specs.FieldPlace.{IsFoundAt}
-use Rattle.fs_value.specs.Rising.{less_is}
+use Rattle.fs_path.proofs.Bools.{from_true, to_true}
+use Rattle.fs_path.proofs.Orders.{less_is}
 use Rattle.fs_value.specs.View.{view, field_view}
 use Rattle.fs_value.specs.declared.value.Value.{Value}
 use Rattle.fs_value.specs.declared.fields.Field.{Field}
@@ -38,6 +39,17 @@ replaced key fs i r v at is =
 -- a value that is as it was
 pub kept : (fs : List Field) (i : ℕ) (r : Field) (v : Value) → r ≡ get_or fs i r → view v ≡ view r.value → map field_view (set fs i (record { key = r.key; value = v })) ≡ map field_view fs
 kept fs i r v is same = map-set_same field_view fs i (record { key = r.key; value = v }) r (ap (λ d. (r.key, d)) same ∙ ap field_view is)
+
+-- a value that stands there already
+pub put_same : (key : List ℕ) (d : Data) (fs : List (List ℕ × Data)) → IsTrue (is_sorted text_cmp fs) → find text_cmp key fs ≡ Some d → put text_cmp key d fs ≡ fs
+put_same key d fs rise is =
+    let sorted = from_true (is_sorted text_cmp fs) rise in
+    same_entries text_cmp text_cmp_total text_same (put text_cmp key d fs) fs (is_sorted-put text_cmp text_cmp_total key d fs sorted) sorted
+    (λ q. find-put text_cmp text_cmp_total q key d fs
+    ∙ elim (eq_by_cmp text_cmp q key) as (λ b. eq_by_cmp text_cmp q key ≡ b → cond b (Some d) (find text_cmp q fs) ≡ find text_cmp q fs) [
+      | true ↦ λ e. sym is ∙ ap (λ x. find text_cmp x fs) (sym (text_alike q key e))
+      | false ↦ λ e. refl
+    ] refl)
 
 pub put_rises : (key : List ℕ) (d : Data) (fs gs : List (List ℕ × Data)) → IsTrue (is_sorted text_cmp fs) → gs ≡ put text_cmp key d fs → IsTrue (is_sorted text_cmp gs)
 put_rises key d fs gs rise is = subst (λ es. IsTrue (is_sorted text_cmp es)) (sym is) (put_sorted text_cmp text_cmp_total key d fs rise)
@@ -94,9 +106,5 @@ map-remove (f ∷ fs) (suc i) = ap (λ es. field_view f ∷ es) (map-remove fs i
 pub removed : (key : List ℕ) (fs : List Field) (i : ℕ) → IsTrue (is_sorted text_cmp (map field_view fs)) → IsFoundAt key (map field_view fs) i → map field_view (remove fs i) ≡ without key (map field_view fs)
 removed key fs i rise at = map-remove fs i ∙ sym (without_at key (map field_view fs) i rise at.within at.same)
 
-to_true : (b : Bool) → T b → IsTrue b
-to_true true h = refl
-to_true false h = absurd h
-
 pub without_rises : (key : List ℕ) (fs gs : List (List ℕ × Data)) → IsTrue (is_sorted text_cmp fs) → gs ≡ without key fs → IsTrue (is_sorted text_cmp gs)
-without_rises key fs gs rise is = subst (λ es. IsTrue (is_sorted text_cmp es)) (sym is) (to_true _ (is_sorted-where_key text_cmp (λ x. not (eq_by_cmp text_cmp key x)) fs (subst T (sym rise) tt)))
+without_rises key fs gs rise is = subst (λ es. IsTrue (is_sorted text_cmp es)) (sym is) (to_true _ (is_sorted-where_key text_cmp (λ x. not (eq_by_cmp text_cmp key x)) fs (from_true _ rise)))

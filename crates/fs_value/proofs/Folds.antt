@@ -1,5 +1,5 @@
 -- One more element, or one more field: its depth and its size join those before it.
-use Rattle.std.proofs.Common.{◌≡◌, ℕ, ◌+◌, ◌<◌, List, [], ◌∷◌, ◌++◌, map, take, length, get_or, refl, sym, ap, ◌∙◌, arith}
+use Rattle.std.proofs.Common.{◌≡◌, ℕ, ◌+◌, ◌<◌, List, [], ◌∷◌, ◌++◌, map, take, length, get_or, sym, ap, ◌∙◌, arith}
 use Rattle.std.specs.Prelude.{max, min}
 use Rattle.std.proofs.lemmas.List.{map_more}
 use Rattle.fs_value.specs.Data.{Data, items_of, members_of, depth, items_depth, members_depth}
@@ -8,10 +8,12 @@ use Rattle.fs_value.specs.View.{view, field_view}
 use Rattle.fs_value.specs.declared.value.Value.{Value}
 use Rattle.fs_value.specs.declared.fields.Field.{Field}
 
-one_item : (vs : List Value) (i : ℕ) (v : Value) → i < length vs → v ≡ get_or vs i v → map view (take (i + 1) vs) ≡ map view (take i vs) ++ view v ∷ []
-one_item vs i v within is = map_more view vs i v within ∙ ap (λ w. map view (take i vs) ++ view w ∷ []) (sym is)
+-- ---- one more of a list, seen
 
-one_field : (fs : List Field) (i : ℕ) (f : Field) → i < length fs → f ≡ get_or fs i f → map field_view (take (i + 1) fs) ≡ map field_view (take i fs) ++ field_view f ∷ []
+pub one_value : (vs : List Value) (i : ℕ) (v : Value) → i < length vs → v ≡ get_or vs i v → map view (take (i + 1) vs) ≡ map view (take i vs) ++ view v ∷ []
+one_value vs i v within is = map_more view vs i v within ∙ ap (λ w. map view (take i vs) ++ view w ∷ []) (sym is)
+
+pub one_field : (fs : List Field) (i : ℕ) (f : Field) → i < length fs → f ≡ get_or fs i f → map field_view (take (i + 1) fs) ≡ map field_view (take i fs) ++ field_view f ∷ []
 one_field fs i f within is = map_more field_view fs i f within ∙ ap (λ g. map field_view (take i fs) ++ field_view g ∷ []) (sym is)
 
 -- ---- depth
@@ -40,13 +42,13 @@ module _ (vs : List Value) (i : ℕ) (v : Value) (within : i < length vs) (is : 
   pub items_depth_more : (before one told : ℕ) → before ≡ min (items_depth (items_of (map view (take i vs)))) 4294967295 → one ≡ min (depth (view v)) 4294967295 → told ≡ max one before
       → told ≡ min (items_depth (items_of (map view (take (i + 1) vs)))) 4294967295
   items_depth_more before one told h j k =
-      let now = ap (λ ds. items_depth (items_of ds)) (one_item vs i v within is) ∙ items_depth-push (map view (take i vs)) (view v) in
+      let now = ap (λ ds. items_depth (items_of ds)) (one_value vs i v within is) ∙ items_depth-push (map view (take i vs)) (view v) in
       omega (arith, now)
 
   pub items_size_more : (before one told : ℕ) → before ≡ min (items_size (items_of (map view (take i vs)))) 340282366920938463463374607431768211455 → one ≡ min (value_size (view v)) 340282366920938463463374607431768211455
       → told ≡ min (before + one) 340282366920938463463374607431768211455 → told ≡ min (items_size (items_of (map view (take (i + 1) vs)))) 340282366920938463463374607431768211455
   items_size_more before one told h j k =
-      let now = ap (λ ds. items_size (items_of ds)) (one_item vs i v within is) ∙ items_size-push (map view (take i vs)) (view v) in
+      let now = ap (λ ds. items_size (items_of ds)) (one_value vs i v within is) ∙ items_size-push (map view (take i vs)) (view v) in
       omega (arith, now)
 
 module _ (fs : List Field) (i : ℕ) (f : Field) (within : i < length fs) (is : f ≡ get_or fs i f) where

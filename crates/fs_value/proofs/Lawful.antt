@@ -10,7 +10,7 @@ use Rattle.fs_path.specs.TextOrder.{text_cmp}
 use Rattle.fs_value.specs.Data.{Data, items_of, members_of}
 use Rattle.fs_value.specs.ValueOrder.{value_cmp, items_cmp, members_cmp}
 use Rattle.fs_value.specs.ValueOrderLaws.{value_cmp_total, value_same}
-use Rattle.fs_value.specs.Numbers.{then_assoc}
+use Rattle.fs_path.proofs.Orders.{then_assoc}
 
 -- arrays go as lists of values do, and maps as lists of fields, by key and then by value
 

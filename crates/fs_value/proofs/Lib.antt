@@ -1,3 +1,6 @@
+pub mod Rising
+pub mod Tree
+pub mod Search
 pub mod Weights
 pub mod Places
 pub mod Named

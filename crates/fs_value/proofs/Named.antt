@@ -11,7 +11,7 @@ use Rattle.fs_path.specs.declared.name.DocName.{DocName}
 use Rattle.fs_path.specs.NameOrder.{name_cmp, name_cmp_total, name_same}
 use Rattle.fs_value.specs.Named.{by_name, StandAtNames}
 use Rattle.fs_value.specs.declared.document.Document.{Document}
-use Rattle.fs_value.specs.Tree.{entries_rising}
+use Rattle.fs_value.proofs.Tree.{entries_rising}
 
 -- a document that is put at its own name
 inserted_at : (r : Ordering) (k : DocName) (d : Document) (e : DocName × Document) (es rest : List (DocName × Document)) → d.name ≡ k → (r ≡ Equal → k ≡ e.0)

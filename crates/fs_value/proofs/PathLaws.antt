@@ -1,20 +1,19 @@
 -- The laws of setting and taking out at a path.
-use Rattle.std.proofs.Common.{◌≡◌, ◌≢◌, ℕ, ◌<◌, true, false, cond, not, ◌&&◌, List, [], ◌∷◌, ◌++◌, Option, Some, None, length, Less, Equal, Greater, refl, sym, ap, ◌∙◌, subst, arith}
-use Rattle.std.specs.Prelude.{IsTrue, T, option_map, option_and_then, unwrap_or}
+use Rattle.std.proofs.Common.{◌≡◌, ◌≢◌, ℕ, ◌<◌, true, false, cond, not, ◌&&◌, List, [], ◌∷◌, ◌++◌, Option, Some, None, length, Equal, refl, sym, ap, ◌∙◌, subst, arith}
+use Rattle.std.specs.Prelude.{IsTrue, option_map, option_and_then, unwrap_or}
 use Rattle.std.specs.Option.{option_map_or}
 use Rattle.std.specs.List.{starts_with}
-use Rattle.std.specs.Ordering.{is_eq, eq_by_cmp}
+use Rattle.std.specs.Ordering.{eq_by_cmp}
 use Rattle.std.specs.Cmp.{first_so, second_so}
 use Rattle.std.specs.FinMap.{find, put, is_sorted}
-use Rattle.std.specs.FinMap.Entries.{find-put, find-where_key, is_sorted-put, same_entries}
+use Rattle.std.specs.FinMap.Entries.{find-put, find-where_key}
 use Rattle.std.proofs.lemmas.Bool.{false≢true}
-use Rattle.std.proofs.lemmas.Cmp.{tied_itself}
-use Rattle.fs_path.specs.TextOrder.{text_cmp, text_eq, text_cmp_total, text_same, text_ties}
+use Rattle.fs_path.specs.TextOrder.{text_alike, text_cmp, text_eq, text_cmp_total, text_itself, text_same, text_ties}
 use Rattle.fs_value.specs.Data.{Data, object, members_of, fields_of}
 use Rattle.fs_value.specs.Ordered.{is_ordered, members_ordered}
 use Rattle.fs_value.specs.DataLaws.{fields_of-members_of, members_of-fields_of}
 use Rattle.fs_value.specs.FieldPaths.{map_of, map_fields, fields_under, fields_below, get_fields, set_fields, without, unset_fields, unset_below, IsApart}
-use Rattle.fs_value.proofs.FieldPlaces.{without_missing}
+use Rattle.fs_value.proofs.FieldPlaces.{put_same, without_missing}
 use Rattle.fs_value.proofs.PathSteps.{get_nothing}
 
 -- the fields below a key
@@ -23,25 +22,14 @@ fields_at k fs = fields_below (find text_cmp k fs)
 
 -- ---- one key
 
-ties_itself : (k : List ℕ) → eq_by_cmp text_cmp k k ≡ true
-ties_itself k = ap is_eq (tied_itself text_cmp_total k)
-
--- keys that tie are one
-one_key : (k l : List ℕ) → eq_by_cmp text_cmp k l ≡ true → k ≡ l
-one_key k l is = elim (text_cmp k l) as (λ o. text_cmp k l ≡ o → is_eq o ≡ true → k ≡ l) [
-  | Less ↦ λ e h. absurd (cc)
-  | Equal ↦ λ e h. text_same k l e
-  | Greater ↦ λ e h. absurd (cc)
-] refl is
-
 two_keys : (k l : List ℕ) → k ≢ l → eq_by_cmp text_cmp k l ≡ false
 two_keys k l apart = elim (eq_by_cmp text_cmp k l) as (λ b. eq_by_cmp text_cmp k l ≡ b → eq_by_cmp text_cmp k l ≡ false) [
-  | true ↦ λ e. absurd (apart (one_key k l e))
+  | true ↦ λ e. absurd (apart (text_alike k l e))
   | false ↦ λ e. e
 ] refl
 
 find_set : (k : List ℕ) (d : Data) (fs : List (List ℕ × Data)) → find text_cmp k (put text_cmp k d fs) ≡ Some d
-find_set k d fs = find-put text_cmp text_cmp_total k k d fs ∙ ap (λ b. cond b (Some d) (find text_cmp k fs)) (ties_itself k)
+find_set k d fs = find-put text_cmp text_cmp_total k k d fs ∙ ap (λ b. cond b (Some d) (find text_cmp k fs)) (text_itself k)
 
 find_beside : (q k : List ℕ) (d : Data) (fs : List (List ℕ × Data)) → q ≢ k → find text_cmp q (put text_cmp k d fs) ≡ find text_cmp q fs
 find_beside q k d fs apart = find-put text_cmp text_cmp_total q k d fs ∙ ap (λ b. cond b (Some d) (find text_cmp q fs)) (two_keys q k apart)
@@ -52,7 +40,7 @@ alike k q x ties = ap (λ y. not (eq_by_cmp text_cmp k y)) (sym (text_same q x t
 
 find_gone : (k : List ℕ) (fs : List (List ℕ × Data)) → find text_cmp k (without k fs) ≡ None
 find_gone k fs =
-    find-where_key text_cmp (λ x. not (eq_by_cmp text_cmp k x)) k (alike k k) fs ∙ ap (λ b. cond (not b) (find text_cmp k fs) None) (ties_itself k)
+    find-where_key text_cmp (λ x. not (eq_by_cmp text_cmp k x)) k (alike k k) fs ∙ ap (λ b. cond (not b) (find text_cmp k fs) None) (text_itself k)
 
 find_left : (q k : List ℕ) (fs : List (List ℕ × Data)) → q ≢ k → find text_cmp q (without k fs) ≡ find text_cmp q fs
 find_left q k fs apart =
@@ -108,9 +96,9 @@ unset_beside (m ∷ p) q k l fs apart =
     ]
 
 -- paths that share their first name are apart below it
-apart_below : (k : List ℕ) (p q : List (List ℕ)) → IsApart (k ∷ p) (k ∷ q) → IsApart p q
+pub apart_below : (k : List ℕ) (p q : List (List ℕ)) → IsApart (k ∷ p) (k ∷ q) → IsApart p q
 apart_below k p q apart =
-    let same : text_eq k k ≡ true = text_ties k k ∙ ties_itself k in
+    let same : text_eq k k ≡ true = text_ties k k ∙ text_itself k in
     (λ h. apart.0 (ap (λ b. b && starts_with text_eq p q) same ∙ h), λ h. apart.1 (ap (λ b. b && starts_with text_eq q p) same ∙ h))
 
 -- below a key, what is taken out of the map there leaves what it leaves of that map
@@ -144,14 +132,14 @@ unset_along k (m ∷ p) [] fs apart below = absurd (apart_none (m ∷ p) apart)
 unset_along k (m ∷ p) (n ∷ q) fs apart below = unset_in k (n ∷ q) (m ∷ p) fs below
 
 not_tied : (k l : List ℕ) → eq_by_cmp text_cmp l k ≡ false → l ≢ k
-not_tied k l e same = absurd (false≢true (sym e ∙ ap (eq_by_cmp text_cmp l) (sym same) ∙ ties_itself l))
+not_tied k l e same = absurd (false≢true (sym e ∙ ap (eq_by_cmp text_cmp l) (sym same) ∙ text_itself l))
 
 pub set_apart : (p q : List (List ℕ)) (v : Data) (fs : List (List ℕ × Data)) → IsApart p q → get_fields q (set_fields p v fs) ≡ get_fields q fs
 set_apart [] q v fs apart = refl
 set_apart (k ∷ p) [] v fs apart = refl
 set_apart (k ∷ p) (l ∷ q) v fs apart =
     elim (eq_by_cmp text_cmp l k) as (λ b. eq_by_cmp text_cmp l k ≡ b → get_fields (l ∷ q) (set_fields (k ∷ p) v fs) ≡ get_fields (l ∷ q) fs) [
-      | true ↦ λ e. subst (λ x. IsApart (k ∷ p) (x ∷ q) → get_fields (x ∷ q) (set_fields (k ∷ p) v fs) ≡ get_fields (x ∷ q) fs) (sym (one_key l k e))
+      | true ↦ λ e. subst (λ x. IsApart (k ∷ p) (x ∷ q) → get_fields (x ∷ q) (set_fields (k ∷ p) v fs) ≡ get_fields (x ∷ q) fs) (sym (text_alike l k e))
           (λ a. let below = apart_below k p q a in set_along k p q v fs below (λ gs. set_apart p q v gs below)) apart
       | false ↦ λ e. set_beside p q k l v fs (not_tied k l e)
     ] refl
@@ -161,7 +149,7 @@ unset_apart [] q fs apart = refl
 unset_apart (k ∷ p) [] fs apart = refl
 unset_apart (k ∷ p) (l ∷ q) fs apart =
     elim (eq_by_cmp text_cmp l k) as (λ b. eq_by_cmp text_cmp l k ≡ b → get_fields (l ∷ q) (unset_fields (k ∷ p) fs) ≡ get_fields (l ∷ q) fs) [
-      | true ↦ λ e. subst (λ x. IsApart (k ∷ p) (x ∷ q) → get_fields (x ∷ q) (unset_fields (k ∷ p) fs) ≡ get_fields (x ∷ q) fs) (sym (one_key l k e))
+      | true ↦ λ e. subst (λ x. IsApart (k ∷ p) (x ∷ q) → get_fields (x ∷ q) (unset_fields (k ∷ p) fs) ≡ get_fields (x ∷ q) fs) (sym (text_alike l k e))
           (λ a. let below = apart_below k p q a in unset_along k p q fs below (λ gs. unset_apart p q gs below)) apart
       | false ↦ λ e. unset_beside p q k l fs (not_tied k l e)
     ] refl
@@ -212,17 +200,6 @@ unset_keys (a ∷ []) ks k l fs apart = unset_in a (l ∷ []) (k ∷ ks) fs (λ 
 unset_keys (a ∷ b ∷ p) ks k l fs apart = unset_in a (b ∷ p ++ l ∷ []) (b ∷ p ++ k ∷ ks) fs (λ ms. unset_keys (b ∷ p) ks k l ms apart)
 
 -- ---- nothing to take out
-
--- a value that is there already
-put_same : (k : List ℕ) (d : Data) (fs : List (List ℕ × Data)) → IsTrue (is_sorted text_cmp fs) → find text_cmp k fs ≡ Some d → put text_cmp k d fs ≡ fs
-put_same k d fs rise is =
-    let sorted : T (is_sorted text_cmp fs) = subst T (sym rise) tt in
-    same_entries text_cmp text_cmp_total text_same (put text_cmp k d fs) fs (is_sorted-put text_cmp text_cmp_total k d fs sorted) sorted
-    (λ q. find-put text_cmp text_cmp_total q k d fs
-    ∙ elim (eq_by_cmp text_cmp q k) as (λ b. eq_by_cmp text_cmp q k ≡ b → cond b (Some d) (find text_cmp q fs) ≡ find text_cmp q fs) [
-      | true ↦ λ e. sym is ∙ ap (λ x. find text_cmp x fs) (sym (one_key q k e))
-      | false ↦ λ e. refl
-    ] refl)
 
 -- the keys of a value inside rise as those of the whole do
 ordered_at : (k : List ℕ) (d : Data) (fs : List (List ℕ × Data)) → IsTrue (members_ordered (members_of fs)) → find text_cmp k fs ≡ Some d → IsTrue (is_ordered d)

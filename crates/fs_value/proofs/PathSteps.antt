@@ -1,9 +1,9 @@
 -- A path, from its first name on.
-use Rattle.std.proofs.Common.{◌≡◌, ◌≢◌, ℕ, ◌<◌, List, [], ◌∷◌, Option, Some, None, Result, Ok, Err, map, length, get_or, set, take, drop, ◌-◌, refl, sym, ap, ◌∙◌, arith}
-use Rattle.std.specs.Prelude.{OnOk, OnErr, option_and_then, unwrap_or}
+use Rattle.std.proofs.Common.{◌≡◌, ◌≢◌, ℕ, ◌<◌, List, [], ◌∷◌, Option, Some, None, map, length, get_or, set, take, drop, ◌-◌, refl, sym, ap, ◌∙◌, arith}
+use Rattle.std.specs.Prelude.{option_and_then, unwrap_or}
 use Rattle.std.specs.Option.{option_map_or}
 use Rattle.std.specs.FinMap.{find, put}
-use Rattle.std.proofs.Math.Seq.{take-length}
+use Rattle.std.proofs.lemmas.List.{take_all}
 use Rattle.fs_path.specs.TextOrder.{text_cmp}
 use Rattle.fs_value.specs.Data.{Data, object, members_of}
 use Rattle.fs_value.specs.DataLaws.{fields_of-members_of}
@@ -16,25 +16,14 @@ use Rattle.fs_value.specs.declared.value.Value.TheVariants.{Null, Boolean, Integ
 use Rattle.fs_value.specs.declared.fields.Field.{Field}
 use Rattle.fs_value.proofs.FieldPlaces.{found_there, replaced, kept}
 
-pub OnOk-map : {A E : Type 0} {P Q : Type 0} (r : Result A E) → (P → Q) → OnOk r P → OnOk r Q
-OnOk-map (Ok a) f h = f h
-OnOk-map (Err e) f h = h
-
-pub OnErr-map : {A E : Type 0} {P Q : Type 0} (r : Result A E) → (P → Q) → OnErr r P → OnErr r Q
-OnErr-map (Ok a) f h = h
-OnErr-map (Err e) f h = f h
-
 -- ---- one name more
 
 -- the names after the first, as a pattern leaves them
 abbrev pub rest : List (List ℕ) → List (List ℕ)
 rest names = take (length names - 1) (drop 1 names)
 
-take_all : (xs : List (List ℕ)) (n : ℕ) → n ≡ length xs → take n xs ≡ xs
-take_all xs n is = ap (λ (m : ℕ). take m xs) is ∙ take-length xs
-
-rest_is : (n : List ℕ) (ks : List (List ℕ)) → rest (n ∷ ks) ≡ ks
-rest_is n ks = take_all ks _ (omega arith)
+pub rest_is : (n : List ℕ) (ks : List (List ℕ)) → rest (n ∷ ks) ≡ ks
+rest_is n ks = take_all _ ks (omega arith)
 
 pub first_name : (names : List (List ℕ)) (k n : List ℕ) → k ≡ n → n ≡ get_or names 0 n → k ≡ get_or names 0 k
 first_name [] k n same is = refl
@@ -74,7 +63,7 @@ get_below names k d fs more is found =
     get_more names k fs more is ∙ ap (λ o. get_fields (rest names) (unwrap_or (option_and_then map_fields o) [])) found
 
 -- a value that is no map has no fields
-no_map : (v : Value) → ((fs : List (List ℕ × Data)) → v ≢ Map fs) → map_fields (view v) ≡ None
+pub no_map : (v : Value) → ((fs : List (List ℕ × Data)) → v ≢ Map fs) → map_fields (view v) ≡ None
 no_map Null h = refl
 no_map (Boolean b) h = refl
 no_map (Integer n) h = refl

@@ -1,11 +1,12 @@
 -- A key's place among entries in order, by what a binary search found. The entries are f of the elements of ys.
-use Rattle.std.proofs.Common.{◌≡◌, ℕ, zero, suc, ◌<◌, ◌≤◌, Bool, true, false, List, [], ◌∷◌, map, length, get_or, set, Ordering, Less, Equal, Greater, refl, sym, ap, ◌∙◌, subst, arith}
-use Rattle.std.specs.Prelude.{insert, IsTrue, T}
+use Rattle.std.proofs.Common.{◌≡◌, ℕ, zero, suc, ◌<◌, ◌≤◌, List, [], ◌∷◌, map, length, get_or, set, Ordering, Less, Equal, Greater, refl, ap, ◌∙◌, arith}
+use Rattle.std.specs.Prelude.{insert, IsTrue}
 use Rattle.std.specs.Cmp.{IsTotalOrder}
 use Rattle.std.specs.FinMap.{put, is_sorted, IsAntisymmetric}
 use Rattle.std.specs.FinMap.Entries.{by_order, is_sorted-put}
 use Rattle.std.proofs.lemmas.Cmp.{tied_back}
-use Rattle.fs_value.specs.Search.{tail_sorted, above_earlier, turned}
+use Rattle.fs_path.proofs.Bools.{from_true, to_true}
+use Rattle.fs_value.proofs.Search.{tail_sorted, above_earlier, turned}
 
 module _ {K X Y : Type 0} (R : K → K → Ordering) (f : Y → K × X) (o : IsTotalOrder R) where
   pub key-tied : IsAntisymmetric R → (key : K) (ys : List Y) (i : ℕ) (e : K × X) → i < length ys → ((d : Y) → R (f (get_or ys i d)).0 key ≡ Equal) → (get_or (map f ys) i e).0 ≡ key
@@ -30,13 +31,6 @@ module _ {K X Y : Type 0} (R : K → K → Ordering) (f : Y → K × X) (o : IsT
   put-apart key v (y ∷ ys) (suc i) within before after =
       ap (λ r. by_order r ((key, v) ∷ f y ∷ map f ys) (((f y).0, v) ∷ map f ys) (f y ∷ put R key v (map f ys))) (turned R f o key (f y).0 Less (before 0 y (omega arith) (omega arith)))
       ∙ ap (λ es. f y ∷ es) (put-apart key v ys i (omega arith) (λ k d low high. before (suc k) d (omega arith) (omega arith)) (λ k d low high. after (suc k) d (omega arith) (omega arith)))
-
-from_true : (b : Bool) → IsTrue b → T b
-from_true b h = subst T (sym h) tt
-
-to_true : (b : Bool) → T b → IsTrue b
-to_true true h = refl
-to_true false h = absurd h
 
 pub put_sorted : {K X : Type 0} (R : K → K → Ordering) → IsTotalOrder R → (k : K) (v : X) (es : List (K × X)) → IsTrue (is_sorted R es) → IsTrue (is_sorted R (put R k v es))
 put_sorted R o k v es h = to_true _ (is_sorted-put R o k v es (from_true _ h))

@@ -14,6 +14,10 @@ pub items_of-list_of : (ds : Items) → items_of (list_of ds) ≡ ds
 items_of-list_of no_items = refl
 items_of-list_of (item d ds) = ap (item d) (items_of-list_of ds)
 
+pub list_of-items_of : (ds : List Data) → list_of (items_of ds) ≡ ds
+list_of-items_of [] = refl
+list_of-items_of (d ∷ ds) = ap (λ xs. d ∷ xs) (list_of-items_of ds)
+
 pub fields_of-members_of : (fs : List (List ℕ × Data)) → fields_of (members_of fs) ≡ fs
 fields_of-members_of [] = refl
 fields_of-members_of (f ∷ fs) = ap (λ xs. f ∷ xs) (fields_of-members_of fs)

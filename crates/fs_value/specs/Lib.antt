@@ -8,11 +8,9 @@ pub mod Named
 pub mod Numbers
 pub mod ValueOrderLaws
 pub mod DataLaws
+pub mod Elements
 pub mod ViewOrder
 pub mod Falls
 pub mod FieldPlace
 pub mod FieldPaths
 pub mod SetBelow
-pub mod Rising
-pub mod Tree
-pub mod Search

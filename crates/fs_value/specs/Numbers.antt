@@ -6,8 +6,8 @@ use Rattle.std.proofs.Common.{ap, ◌∙◌, arith}
 use Rattle.std.proofs.lemmas.Bool.Decides.{nat_tests}
 use Rattle.std.specs.Ordering.{bool_cmp, nat_cmp, int_cmp, ordering_then}
 use Rattle.std.specs.declared.cmp.Ordering.{Ordering}
-use Rattle.std.specs.declared.cmp.Ordering.TheVariants.{Less, Equal, Greater}
 use Rattle.std.specs.Cmp.Lexicographic.{slice_cmp}
+use Rattle.fs_path.proofs.Orders.{then_assoc}
 use Rattle.fs_path.specs.declared.name.DocName.{DocName}
 use Rattle.fs_path.specs.TextOrder.{text_cmp, ids_cmp}
 use Rattle.fs_path.specs.NameOrder.{name_cmp}
@@ -47,11 +47,6 @@ abbrev mutual
 
 abbrev pub numbers_cmp : List ℤ → List ℤ → Ordering
 numbers_cmp = slice_cmp int_cmp
-
-pub then_assoc : (a b c : Ordering) → ordering_then a (ordering_then b c) ≡ ordering_then (ordering_then a b) c
-then_assoc Less b c = refl
-then_assoc Equal b c = refl
-then_assoc Greater b c = refl
 
 pos_cmp : (m n : ℕ) → int_cmp (pos m) (pos n) ≡ nat_cmp m n
 pos_cmp m n = grind (arith, nat_tests)

@@ -11,6 +11,7 @@ use std::sync::Arc;
 ///     another holds  {n: 1}             the same block, after `one.copy()`
 ///     another.into_fields()    {n: 1}   a copy, as `one` holds them too
 ///     one.into_fields()        {n: 1}   the block itself: nobody else held it any longer
+/// (docs/DECISIONS.md, "A document shares its fields with its copies".)
 #[derive(Drop, Debug)]
 pub struct SharedFields {
     fields: Arc<Fields, Global>,

@@ -21,6 +21,7 @@ use Rattle.fs_path.specs.TextOrder.{text_cmp, text_eq, text_same, text_cmp_total
 use Rattle.fs_path.specs.declared.name.DocName.{DocName}
 use Rattle.fs_path.specs.declared.scope.Scope.{Scope}
 use Rattle.fs_path.specs.declared.scope.Scope.TheVariants.{Collection}
+use Rattle.fs_path.proofs.Orders.{not_less_first}
 use Rattle.fs_versions.specs.Between.{beside, IsBeside, AreBounds, LieBetween}
 
 -- ---- ids
@@ -133,16 +134,11 @@ first_gt Less r h = refl
 first_gt Equal r h = refl
 first_gt Greater r h = h
 
-first_lt : (o r : Ordering) → is_lt (ordering_then o r) ≡ false → is_lt o ≡ false
-first_lt Less r h = h
-first_lt Equal r h = refl
-first_lt Greater r h = refl
-
 -- a text that isn't above x and one that isn't below it are x, if they are one, and what comes behind decides
 tied : (a b x : List ℕ) (r s : Ordering) → b ≡ a → is_gt (ordering_then (text_cmp a x) r) ≡ false → is_lt (ordering_then (text_cmp b x) s) ≡ false
     → (x ≡ a) × (is_gt r ≡ false) × (is_lt s ≡ false)
 tied a b x r s same up down =
-    let alike : text_cmp a x ≡ Equal = neither (text_cmp a x) (first_gt _ r up) (ap (λ y. is_lt (text_cmp y x)) (sym same) ∙ first_lt _ s down) in (
+    let alike : text_cmp a x ≡ Equal = neither (text_cmp a x) (first_gt _ r up) (ap (λ y. is_lt (text_cmp y x)) (sym same) ∙ not_less_first _ s down) in (
       sym (text_same a x alike),
       subst (λ o. is_gt (ordering_then o r) ≡ false) alike up,
       subst (λ o. is_lt (ordering_then o s) ≡ false) (ap (λ y. text_cmp y x) same ∙ alike) down,

@@ -3,13 +3,13 @@ use Rattle.std.proofs.Common.{◌≡◌, ℕ, suc, ◌+◌, ◌-◌, ◌<◌, �
 use Rattle.std.specs.Prelude.{int_le, is_none, is_some}
 use Rattle.std.specs.List.{All}
 use Rattle.std.proofs.lemmas.List.{take-append-drop, take_more, reverse-append, reverse-reverse, get_or-reverse, get_or-drop, length-reverse}
+use Rattle.fs_time.proofs.Tests.{not_after_later}
 use Rattle.fs_value.specs.declared.document.Document.{Document}
-use Rattle.fs_history.specs.KeptLaws.{shown_kept, newest_kept}
+use Rattle.fs_history.proofs.KeptVersions.{shown_kept, newest_kept}
 use Rattle.fs_history.specs.Versions.{newest, shown, base, kept}
 use Rattle.fs_history.specs.declared.version.Version.{Version}
 use Rattle.fs_versions.specs.Chain.{shown_at, last_document, cut}
 use Rattle.fs_versions.specs.Sound.{IsSplit}
-use Rattle.fs_versions.proofs.Times.{le_through}
 
 -- ---- versions that are later
 
@@ -143,7 +143,7 @@ base_kept f t v (Some x) is within = ap (λ c. cond c (base v) (v ∷ [])) withi
 kept_next : (f t : ℤ) (v : Version) (vs : List Version) (b : Bool) → int_le v.time f ≡ b → f ≤ℤ t → kept t (kept f vs) ≡ kept t vs
     → kept t (cond b (base v) (v ∷ kept f vs)) ≡ kept t (v ∷ vs)
 kept_next f t v vs true is within more =
-    let here = le_through v.time f t is within in
+    let here = not_after_later v.time f t is within in
     base_kept f t v v.after refl here ∙ sym (ap (λ c. cond c (base v) (v ∷ kept t vs)) here)
 kept_next f t v vs false is within more = ap (λ us. cond (int_le v.time t) (base v) (v ∷ us)) more
 

@@ -1,26 +1,27 @@
 -- What versions are, and what they show, from a later floor on.
 use Rattle.std.proofs.Common.{◌≡◌, ℕ, zero, suc, ◌-◌, ◌<◌, ℤ, ◌≤ℤ◌, Bool, true, false, cond, List, [], ◌∷◌, length, Option, Some, None, reverse, get_or, refl, sym, ap, ◌∙◌, subst, arith}
-use Rattle.std.specs.Prelude.{IsTrue, int_le, unwrap_or, is_some, is_none}
+use Rattle.std.specs.Prelude.{IsTrue, unwrap_or, is_some}
 use Rattle.std.specs.BTreeMap.{is_at}
-use Rattle.std.specs.Cmp.{Equal-is, first_so, second_so}
+use Rattle.std.specs.Cmp.{first_so, second_so}
 use Rattle.std.specs.FinMap.{find, is_sorted}
 use Rattle.std.specs.FinMap.Entries.{below_all}
 use Rattle.std.specs.List.{All}
 use Rattle.std.specs.Map.Calls.{RetainsPairs}
 use Rattle.std.proofs.lemmas.Int.{ints}
-use Rattle.std.proofs.lemmas.List.{reverse-reverse, get_or-reverse, length-reverse}
-use Rattle.fs_path.specs.NameOrder.{name_cmp, name_same}
+use Rattle.std.proofs.lemmas.List.{reverse-reverse}
+use Rattle.fs_path.specs.NameOrder.{name_cmp, name_is}
 use Rattle.fs_path.specs.declared.name.DocName.{DocName}
-use Rattle.fs_history.specs.Versions.{versions, base, kept, chain}
+use Rattle.fs_history.specs.Versions.{versions, kept, chain}
 use Rattle.fs_history.specs.declared.batch.Batch.{Batch}
 use Rattle.fs_history.specs.declared.version.Version.{Version}
+use Rattle.fs_history.proofs.Names.{none_below}
 use Rattle.fs_versions.specs.Chain.{shown_at, last_document, cut}
 use Rattle.fs_versions.specs.Chains.{Chains, Compacts, all_cut, chain_of, with_chain}
 use Rattle.fs_versions.specs.Shows.{EndsAt, Shows}
-use Rattle.fs_versions.specs.Laws.{none_below}
 use Rattle.fs_versions.specs.Sound.{Tree, found, held, IsSound}
 use Rattle.fs_versions.proofs.ChainLaws.{kept_kept, shown_cut, last_cut}
 use Rattle.fs_versions.proofs.Views.{found-find}
+use Rattle.fs_versions.proofs.Cutting.{all_left}
 
 -- ---- a name's chain afterwards
 
@@ -31,7 +32,7 @@ cut_held f (Some vs) = held (cut f vs)
 
 gone : (e : DocName × List Version) (es : Tree) (q : DocName) → is_at (name_cmp q) e.0 ≡ true → IsTrue (below_all name_cmp e.0 es) → found q es ≡ None
 gone e es q ties below =
-    found-find es q ∙ ap (λ n. find name_cmp n es) (name_same q e.0 ((Equal-is _).0 ties)) ∙ none_below e.0 es below
+    found-find es q ∙ ap (λ n. find name_cmp n es) (name_is q e.0 ties) ∙ none_below e.0 es below
 
 held_by : (vs : List Version) → is_some (held vs) ≡ true → held vs ≡ Some vs
 held_by [] is = absurd (cc)
@@ -90,34 +91,6 @@ chain_cut f None = refl
 chain_cut f (Some vs) = held_chain (cut f vs)
 
 -- ---- the chains stay sound
-
-module _ (P : Version → Type 0) where
-  all_one : (v : Version) → P v → All P (v ∷ [])
-  all_one v p k d within = let first : k ≡ 0 = omega arith in subst (λ (n : ℕ). P (get_or (v ∷ []) n d)) (sym first) p
-
-  all_cons : (v : Version) (vs : List Version) → P v → All P vs → All P (v ∷ vs)
-  all_cons v vs p ps zero d within = p
-  all_cons v vs p ps (suc k) d within = ps k d (omega arith)
-
-  all_base : (v : Version) (b : Bool) → P v → All P (cond b [] (v ∷ []))
-  all_base v true p k d within = absurd (omega arith)
-  all_base v false p k d within = all_one v p k d within
-
-  all_next : (f : ℤ) (v : Version) (vs : List Version) (b : Bool) → P v → All P (kept f vs) → All P (cond b (base v) (v ∷ kept f vs))
-  all_next f v vs true p ps = all_base v (is_none v.after) p
-  all_next f v vs false p ps = all_cons v (kept f vs) p ps
-
-  all_kept : (f : ℤ) (vs : List Version) → All P vs → All P (kept f vs)
-  all_kept f [] ps = ps
-  all_kept f (v ∷ vs) ps = all_next f v vs (int_le v.time f) (ps 0 v (omega arith)) (all_kept f vs (λ k d within. ps (suc k) d (omega arith)))
-
-  all_reverse : (vs : List Version) → All P vs → All P (reverse vs)
-  all_reverse vs ps k d within =
-      let short : k < length vs = omega (arith, length-reverse vs, within) in
-      subst P (sym (get_or-reverse vs k d short)) (ps (length vs - 1 - k) d (omega arith))
-
-  all_left : (f : ℤ) (vs : List Version) → All P vs → All P (cut f vs)
-  all_left f vs ps = all_reverse (kept f (reverse vs)) (all_kept f (reverse vs) (all_reverse vs ps))
 
 held_full : (vs chain : List Version) → held vs ≡ Some chain → 0 < length chain
 held_full [] chain is = absurd (cc)

@@ -9,10 +9,10 @@ use Rattle.fs_write.specs.Batch.{changes_by_name}
 use Rattle.fs_write.specs.declared.change.Change.{Change}
 use Rattle.fs_history.specs.declared.version.Version.{Version}
 use Rattle.fs_versions.specs.Chains.{Chains, HasNoEmptyChain, IsBefore, chain_of, installed, with_changes}
-use Rattle.fs_versions.specs.Laws.{extended_at, get-with_changes}
 use Rattle.fs_versions.specs.Sound.{Tree, changed, HasChanged, HasNoEmpty, IsSound, SameTree}
 use Rattle.fs_versions.proofs.TreeLaws.{Rise}
 use Rattle.fs_versions.proofs.Views.{found_entries, found_get}
+use Rattle.fs_versions.proofs.Extending.{extended_at, get-with_changes}
 
 -- ---- at each name
 

@@ -8,6 +8,7 @@ use Rattle.std.proofs.lemmas.List.{reverse-append}
 use Rattle.std.proofs.lemmas.List.Elements.{All-append}
 use Rattle.fs_path.specs.NameOrder.{name_cmp}
 use Rattle.fs_path.specs.declared.name.DocName.{DocName}
+use Rattle.fs_time.proofs.Tests.{after}
 use Rattle.fs_write.specs.Batch.{AreChanges, changes_by_name}
 use Rattle.fs_write.specs.declared.change.Change.{Change}
 use Rattle.fs_history.specs.History.{whole, EndsBefore as HistoryEndsBefore, IsRising}
@@ -19,7 +20,6 @@ use Rattle.fs_versions.specs.Chain.{extended, shown_at, last_document}
 use Rattle.fs_versions.specs.Chains.{Chains, chain_of, Installs}
 use Rattle.fs_versions.specs.Shows.{EndsAt, Shows}
 use Rattle.fs_versions.specs.Sound.{Tree, found, changed, HasChanged, EndsBy, EndsBefore, IsSound, SameTree}
-use Rattle.fs_versions.proofs.Times.{after}
 
 -- ---- the chains stay sound
 

@@ -1,6 +1,8 @@
 pub mod Bounds
 pub mod ChainLaws
 pub mod Compacting
+pub mod Cutting
+pub mod Extending
 pub mod Installed
 pub mod Installing
 pub mod Listing

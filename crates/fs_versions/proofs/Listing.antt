@@ -1,19 +1,21 @@
 -- The documents that the chains of all names show, as a list in the order of names.
 use Rattle.std.proofs.Common.{◌≡◌, ℤ, Bool, true, false, cond, List, [], ◌∷◌, ◌++◌, map, Option, Some, None, refl, sym, ap, ◌∙◌, subst}
-use Rattle.std.specs.Prelude.{IsTrue, T, ◌&&◌, unwrap_or}
+use Rattle.std.specs.Prelude.{IsTrue, unwrap_or}
 use Rattle.std.specs.Option.{option_to_list}
 use Rattle.std.specs.Ordering.{eq_by_cmp, is_lt}
-use Rattle.std.specs.Cmp.{Equal-is, first_so, second_so}
+use Rattle.std.specs.Cmp.{first_so, second_so}
 use Rattle.std.specs.FinMap.{FinMap, get, get-entries, entries, entries_sorted, values, find, is_sorted}
 use Rattle.std.specs.FinMap.Entries.{below_all, same_entries}
-use Rattle.fs_path.specs.NameOrder.{name_cmp, name_cmp_total, name_same}
+use Rattle.std.proofs.lemmas.Bool.{and_from}
+use Rattle.fs_path.specs.NameOrder.{name_cmp, name_cmp_total, name_same, name_is}
 use Rattle.fs_path.specs.declared.name.DocName.{DocName}
+use Rattle.fs_path.proofs.Bools.{from_true, to_true}
 use Rattle.fs_value.specs.declared.document.Document.{Document}
 use Rattle.fs_write.specs.Batch.{Docs}
 use Rattle.fs_history.specs.declared.version.Version.{Version}
+use Rattle.fs_history.proofs.Names.{none_below}
 use Rattle.fs_versions.specs.Chain.{shown_at}
 use Rattle.fs_versions.specs.Listed.{all_shown}
-use Rattle.fs_versions.specs.Laws.{none_below}
 use Rattle.fs_versions.specs.Sound.{Tree}
 
 -- each document that is shown, at its name
@@ -37,14 +39,10 @@ values_pairs t (e ∷ es) = values_with e.0 (shown_at t e.1) (pairs t es) (all_s
 
 -- ---- they are in order
 
-both_so : (a b : Bool) → IsTrue a → IsTrue b → IsTrue (a && b)
-both_so true b p q = q
-both_so false b p q = absurd (cc)
-
 below_with : (k name : DocName) (o : Option Document) (ds : List (DocName × Document)) → IsTrue (is_lt (name_cmp k name)) → IsTrue (below_all name_cmp k ds) → IsTrue (below_all name_cmp k (with_name name o ds))
 unfolding with_name
 below_with k name None ds less more = more
-below_with k name (Some d) ds less more = both_so (is_lt (name_cmp k name)) (below_all name_cmp k ds) less more
+below_with k name (Some d) ds less more = and_from (is_lt (name_cmp k name)) (below_all name_cmp k ds) less more
 
 below_pairs : (t : ℤ) (k : DocName) (es : Tree) → IsTrue (below_all name_cmp k es) → IsTrue (below_all name_cmp k (pairs t es))
 unfolding pairs
@@ -55,7 +53,7 @@ below_pairs t k (e ∷ es) below =
 sorted_with : (name : DocName) (o : Option Document) (ds : List (DocName × Document)) → IsTrue (below_all name_cmp name ds) → IsTrue (is_sorted name_cmp ds) → IsTrue (is_sorted name_cmp (with_name name o ds))
 unfolding with_name
 sorted_with name None ds below rise = rise
-sorted_with name (Some d) ds below rise = both_so (below_all name_cmp name ds) (is_sorted name_cmp ds) below rise
+sorted_with name (Some d) ds below rise = and_from (below_all name_cmp name ds) (is_sorted name_cmp ds) below rise
 
 sorted_pairs : (t : ℤ) (es : Tree) → IsTrue (is_sorted name_cmp es) → IsTrue (is_sorted name_cmp (pairs t es))
 unfolding pairs
@@ -83,24 +81,17 @@ unfolding pairs
 find_pairs t [] q rise = refl
 find_pairs t (e ∷ es) q rise =
     find_with t es q e.0 e.1 (shown_at t e.1) (eq_by_cmp name_cmp q e.0) refl refl
-    (λ ties. ap (λ n. find name_cmp n es) (name_same q e.0 ((Equal-is _).0 ties)) ∙ none_below e.0 es (first_so _ (is_sorted name_cmp es) rise))
+    (λ ties. ap (λ n. find name_cmp n es) (name_is q e.0 ties) ∙ none_below e.0 es (first_so _ (is_sorted name_cmp es) rise))
     (find_pairs t es q (second_so (below_all name_cmp e.0 es) _ rise))
 
 -- ---- the documents of a moment
 
-from_T : (b : Bool) → T b → IsTrue b
-from_T true h = refl
-from_T false h = absurd h
-
-to_T : (b : Bool) → IsTrue b → T b
-to_T b h = subst T (sym h) tt
-
 pub shown_values : (m : FinMap name_cmp (List Version)) (docs : Docs) (t : ℤ) → ((q : DocName) → get docs q ≡ shown_at t (unwrap_or (get m q) [])) → all_shown t (entries m) ≡ values docs
 shown_values m docs t shows =
     let es = entries m in
-    let rise = from_T _ (entries_sorted m) in
+    let rise = to_true _ (entries_sorted m) in
     let found = λ (q : DocName). sym (get-entries docs q) ∙ shows q ∙ ap (λ o. shown_at t (unwrap_or o [])) (get-entries m q) ∙ sym (find_pairs t es q rise) in
-    let same = same_entries name_cmp name_cmp_total name_same (entries docs) (pairs t es) (entries_sorted docs) (to_T _ (sorted_pairs t es rise)) found in
+    let same = same_entries name_cmp name_cmp_total name_same (entries docs) (pairs t es) (entries_sorted docs) (from_true _ (sorted_pairs t es rise)) found in
     sym (values_pairs t es) ∙ ap (map (λ e. e.1)) (sym same)
 
 -- where no chains are left, the documents so far are all

@@ -1,4 +1,4 @@
--- Tests of times, and chains whose times rise.
+-- Chains whose times rise.
 use Rattle.std.proofs.Common.{◌≡◌, ℕ, ◌+◌, ◌<◌, ◌≤◌, ℤ, ◌≤ℤ◌, ◌<ℤ◌, Bool, true, false, eqb, List, length, take, drop, get_or, refl, sym, ap, ◌∙◌, subst, arith}
 use Rattle.std.specs.Prelude.{int_le}
 use Rattle.std.specs.List.Sorted.{IsPartitionedBy, IsPartitionPoint}
@@ -8,21 +8,6 @@ use Rattle.std.proofs.lemmas.List.{get_or-take, get_or-drop, length-take, length
 use Rattle.fs_history.specs.declared.version.Version.{Version}
 use Rattle.fs_versions.specs.Rising.{TimesRise}
 use Rattle.fs_versions.specs.Sound.{IsSplit}
-
-pub not_after : (a b : ℤ) → a ≤ℤ b → int_le a b ≡ true
-not_after a b h = grind (arith, ints)
-
-pub after : (a b : ℤ) → b <ℤ a → int_le a b ≡ false
-after a b h = grind (arith, ints)
-
-pub le_of_test : (a b : ℤ) → int_le a b ≡ true → a ≤ℤ b
-le_of_test a b h = grind (arith, ints)
-
-pub lt_of_test : (a b : ℤ) → int_le a b ≡ false → b <ℤ a
-lt_of_test a b h = grind (arith, ints)
-
-pub le_through : (a f t : ℤ) → int_le a f ≡ true → f ≤ℤ t → int_le a t ≡ true
-le_through a f t h within = grind (arith, ints)
 
 -- what is at or before a time stands in front
 same_or_before : (chain : List Version) (t : ℤ) (i j : ℕ) (d : Version) → (i < j → (get_or chain i d).time <ℤ (get_or chain j d).time) → i ≤ j

@@ -1,30 +1,25 @@
 -- Changes that go into the chains one after another, and are taken back.
 use Rattle.std.proofs.Common.{◌≡◌, ℕ, suc, zero, ◌-◌, ◌<◌, ℤ, Bool, true, false, cond, List, [], ◌∷◌, ◌++◌, Option, Some, None, length, take, drop, get_or, refl, sym, ap, ◌∙◌, subst, arith, length-append, drop-cons}
-use Rattle.std.specs.Prelude.{IsTrue, ◌&&◌, unwrap_or}
+use Rattle.std.specs.Prelude.{IsTrue, unwrap_or}
 use Rattle.std.specs.BTreeMap.{is_at}
-use Rattle.std.specs.Cmp.{Equal-is, first_so, second_so}
+use Rattle.std.specs.Cmp.{first_so, second_so}
 use Rattle.std.specs.FinMap.{find, is_sorted}
 use Rattle.std.specs.FinMap.Entries.{below_all, find-append}
 use Rattle.std.specs.Ordering.{eq_by_cmp, is_eq, is_lt, ordering_reverse}
 use Rattle.std.specs.declared.cmp.Ordering.TheVariants.{Less, Greater}
-use Rattle.std.proofs.lemmas.Cmp.{eq_by_cmp_equiv, tied_itself}
+use Rattle.std.proofs.lemmas.Cmp.{eq_by_cmp_equiv}
 use Rattle.std.proofs.lemmas.List.{take-append-drop}
-use Rattle.fs_path.specs.NameOrder.{name_cmp, name_cmp_total, name_same}
+use Rattle.std.proofs.lemmas.Bool.{and_from}
+use Rattle.fs_path.specs.NameOrder.{name_cmp, name_cmp_total, name_is, name_itself}
 use Rattle.fs_path.specs.declared.name.DocName.{DocName}
-use Rattle.fs_value.specs.Rising.{less_is}
+use Rattle.fs_path.proofs.Orders.{less_is}
 use Rattle.fs_write.specs.Batch.{changes_by_name}
 use Rattle.fs_write.specs.declared.change.Change.{Change}
 use Rattle.fs_history.specs.declared.version.Version.{Version}
-use Rattle.fs_versions.specs.Laws.{none_below}
+use Rattle.fs_history.proofs.Names.{none_below}
 use Rattle.fs_versions.specs.Sound.{Tree, found, chain_in, held, changed, without_last, HasNoEmpty, HasChanged, Puts}
 
 -- ---- names
-
-name_itself : (name : DocName) → is_at (name_cmp name) name ≡ true
-name_itself name = (Equal-is _).1 (tied_itself name_cmp_total name)
-
-name_at : (name q : DocName) → is_at (name_cmp name) q ≡ true → name ≡ q
-name_at name q ties = name_same name q ((Equal-is _).0 ties)
 
 turned : (name q : DocName) → eq_by_cmp name_cmp q name ≡ is_at (name_cmp name) q
 turned name q = (eq_by_cmp_equiv name_cmp_total).symm q name
@@ -47,22 +42,18 @@ unseen (x ∷ done) c rest rise =
     ap (λ r. cond (is_eq r) (Some x) (find name_cmp c.name (changes_by_name done))) greater
     ∙ unseen done c rest (second_so (below_all name_cmp x.name (changes_by_name (done ++ c ∷ rest))) _ rise)
 
-both_so : (a b : Bool) → IsTrue a → IsTrue b → IsTrue (a && b)
-both_so true b p q = q
-both_so false b p q = absurd (cc)
-
 below_take : (k : DocName) (n : ℕ) (cs : List Change) → IsTrue (below_all name_cmp k (changes_by_name cs)) → IsTrue (below_all name_cmp k (changes_by_name (take n cs)))
 below_take k zero cs below = refl
 below_take k (suc n) [] below = refl
 below_take k (suc n) (c ∷ cs) below =
-    both_so (is_lt (name_cmp k c.name)) _ (first_so _ (below_all name_cmp k (changes_by_name cs)) below)
+    and_from (is_lt (name_cmp k c.name)) _ (first_so _ (below_all name_cmp k (changes_by_name cs)) below)
     (below_take k n cs (second_so (is_lt (name_cmp k c.name)) _ below))
 
 pub rise_take : (n : ℕ) (cs : List Change) → Rise cs → Rise (take n cs)
 rise_take zero cs rise = refl
 rise_take (suc n) [] rise = refl
 rise_take (suc n) (c ∷ cs) rise =
-    both_so (below_all name_cmp c.name (changes_by_name (take n cs))) _
+    and_from (below_all name_cmp c.name (changes_by_name (take n cs))) _
     (below_take c.name n cs (first_so _ (is_sorted name_cmp (changes_by_name cs)) rise))
     (rise_take n cs (second_so (below_all name_cmp c.name (changes_by_name cs)) _ rise))
 
@@ -103,7 +94,7 @@ module _ (old now new : Tree) (done : List Change) (c : Change) (time : ℤ) (ha
 
   put_at : (q : DocName) (b : Bool) → is_at (name_cmp c.name) q ≡ b
       → cond b (Some (chain_in c.name now ++ record { time = time; after = c.after } ∷ [])) (found q now) ≡ changed time (cond b (Some c) (find name_cmp q (changes_by_name done))) (found q old)
-  put_at q true ties = put_here q (name_at c.name q ties)
+  put_at q true ties = put_here q (name_is c.name q ties)
   put_at q false ties = has q
 
   pub changed_more : HasChanged old new (done ++ c ∷ []) time
@@ -146,7 +137,7 @@ module _ (before now new : Tree) (c : Change) (rest : List Change) (time : ℤ) 
 
   back_at : (q : DocName) (b : Bool) → is_at (name_cmp c.name) q ≡ b
       → cond b (held (without_last (chain_in c.name now))) (found q now) ≡ changed time (find name_cmp q (changes_by_name rest)) (found q before)
-  back_at q true ties = back_here ∙ ap (λ n. changed time (find name_cmp n (changes_by_name rest)) (found n before)) (name_at c.name q ties)
+  back_at q true ties = back_here ∙ ap (λ n. changed time (find name_cmp n (changes_by_name rest)) (found n before)) (name_is c.name q ties)
   back_at q false ties =
       has q ∙ ap (λ b. changed time (cond b (Some c) (find name_cmp q (changes_by_name rest))) (found q before)) (turned c.name q ∙ ties)
 
@@ -157,7 +148,7 @@ module _ (before now new : Tree) (c : Change) (rest : List Change) (time : ℤ) 
 
 -- what stands at a name is put there again
 pub kept_at : (tree : Tree) (name q : DocName) (value : Option (List Version)) (b : Bool) → is_at (name_cmp name) q ≡ b → found name tree ≡ value → cond b value (found q tree) ≡ found q tree
-kept_at tree name q value true ties is = sym is ∙ ap (λ n. found n tree) (name_at name q ties)
+kept_at tree name q value true ties is = sym is ∙ ap (λ n. found n tree) (name_is name q ties)
 kept_at tree name q value false ties is = refl
 
 pub held_full : (vs : List Version) → ¬ (vs ≡ []) → held vs ≡ Some vs

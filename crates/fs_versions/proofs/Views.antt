@@ -7,7 +7,7 @@ use Rattle.std.specs.BTreeMap.{is_at}
 use Rattle.std.specs.FinMap.{FinMap, empty, entries, find, from_entries, get, get-empty, get-entries, same_map}
 use Rattle.fs_path.specs.NameOrder.{name_cmp, name_cmp_total, name_same}
 use Rattle.fs_path.specs.declared.name.DocName.{DocName}
-use Rattle.fs_value.specs.Tree.{get_tree}
+use Rattle.fs_value.proofs.Tree.{get_tree}
 use Rattle.fs_history.specs.declared.version.Version.{Version}
 use Rattle.fs_versions.specs.Chain.{shown_at, last_document}
 use Rattle.fs_versions.specs.Chains.{Chains, chain_of}

@@ -1,7 +1,6 @@
 pub mod Between
 pub mod Chain
 pub mod Chains
-pub mod Laws
 pub mod Listed
 pub mod Rising
 pub mod Shows

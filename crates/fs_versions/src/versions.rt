@@ -25,6 +25,7 @@ use std::marker::Model;
 /// A chain is one block of memory, and each look-up is a search for the name and a binary search in its chain. The documents
 /// of a collection are one range of the names; those of its subcollections lie in it and are passed over. A compaction, and
 /// a search for a group of collections, goes over all names.
+/// (docs/DECISIONS.md, "What versions and stores become is a function of what they were".)
 #[derive(Drop)]
 pub struct Versions {
     // none is empty
@@ -95,6 +96,7 @@ impl Versions {
     /// documents share their fields with those of the changes. Where memory runs out, nothing is changed.
     ///
     /// Versions that show a history show it with the batch afterwards, if the changes are the batch's.
+    /// (docs/DECISIONS.md, "An install that lacks memory takes back what it put in".)
     pub fn install(
         &mut self,
         alloc: Global,
@@ -197,6 +199,7 @@ impl Versions {
     /// that are the newest then, and names without a version. It takes no memory.
     ///
     /// Versions that show a history show the same afterwards.
+    /// (docs/DECISIONS.md, "A compaction goes over all names".)
     pub fn compact(&mut self, floor: Micros)
         requires { self.old.floor ≤ℤ floor }
         ensures value { self.new ≡ compacted self.old floor }

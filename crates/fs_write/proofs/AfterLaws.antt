@@ -3,7 +3,7 @@ use Rattle.std.proofs.Common.{◌≡◌, ℕ, ℤ, Bool, true, false, cond, List
 use Rattle.std.specs.Prelude.{◌||◌}
 use Rattle.std.specs.BTreeMap.{is_at}
 use Rattle.std.specs.FinMap.{get}
-use Rattle.fs_path.specs.NameOrder.{name_cmp}
+use Rattle.fs_path.specs.NameOrder.{name_cmp, name_is, name_itself}
 use Rattle.fs_path.specs.declared.name.DocName.{DocName}
 use Rattle.fs_status.specs.declared.refusal.Refusal.{Refusal}
 use Rattle.fs_value.specs.Data.{Data}
@@ -21,14 +21,14 @@ use Rattle.fs_write.specs.declared.write_result.WriteResult.{WriteResult}
 use Rattle.fs_status.specs.Refusal.{refusal_of}
 use Rattle.fs_write.proofs.BatchLaws.{all_appended, untouched, law_back, law_differs}
 use Rattle.fs_write.proofs.Fields.{same_are, same_itself}
-use Rattle.fs_write.proofs.Stages.{name_at, name_itself, get-with_document, all_refused}
+use Rattle.fs_write.proofs.Stages.{get-with_document, all_refused}
 use Rattle.fs_write.proofs.WriteLaws.{unless_done, law_set, law_deleted}
 
 module _ (before after : Docs) (q : DocName) where
   left_next : (n : DocName) (b c : Bool) (rest : Option Document) → is_at (name_cmp n) q ≡ b → rest ≡ cond c (left_of (get before q) (get after q)) (get after q)
       → cond (is_at (name_cmp n) q) (left_of (get before n) (get after n)) rest ≡ cond (is_at (name_cmp n) q || c) (left_of (get before q) (get after q)) (get after q)
   left_next n true c rest here then =
-      let same : n ≡ q = name_at n q here in
+      let same : n ≡ q = name_is n q here in
       rw here (ap (λ m. left_of (get before m) (get after m)) same)
   left_next n false c rest here then = rw here then
 
@@ -66,12 +66,12 @@ module _ (docs : Docs) (ws : List Write) (t : ℤ) (done : Docs × List WriteRes
   law_as_it_was a b was now same = get-after_batch ∙ (λ i. left_of (was i) (now i)) ∙ kept_same a b was now same
 
 module _ (docs : Docs) (ws : List Write) (t : ℤ) (cs : List Change) (rs : List WriteResult) (q : DocName) (had : IsOutcome docs ws t cs rs) where
-  told_left : (b : Bool) → is_unchanged (get docs q) (get had.after q) ≡ b → left_of (get docs q) (get had.after q) ≡ document_after docs cs q
-  told_left true is = rw is (sym (law_back docs ws t cs rs q had is))
-  told_left false is = rw is (sym (law_differs docs ws t cs rs q had is))
+  left_by_changes : (b : Bool) → is_unchanged (get docs q) (get had.after q) ≡ b → left_of (get docs q) (get had.after q) ≡ document_after docs cs q
+  left_by_changes true is = rw is (sym (law_back docs ws t cs rs q had is))
+  left_by_changes false is = rw is (sym (law_differs docs ws t cs rs q had is))
 
   pub law_left : get (after_batch docs ws t) q ≡ document_after docs cs q
-  law_left = get-after_batch docs ws t (had.after, rs) had.done q ∙ told_left (is_unchanged (get docs q) (get had.after q)) refl
+  law_left = get-after_batch docs ws t (had.after, rs) had.done q ∙ left_by_changes (is_unchanged (get docs q) (get had.after q)) refl
 
 -- ---- what isn't written stays
 

@@ -1,12 +1,14 @@
 -- The laws of batches.
 use Rattle.std.proofs.Common.{◌≡◌, ◌+◌, arith, ℤ, Bool, true, false, cond, List, [], ◌∷◌, ◌++◌, length, Option, Some, None, Result, Ok, Err, refl, sym, ap, ◌∙◌, subst}
-use Rattle.std.specs.Prelude.{IsTrue, T, ◌||◌, map}
+use Rattle.std.specs.Prelude.{◌||◌, map}
 use Rattle.std.specs.List.{Contains}
 use Rattle.std.specs.BTreeMap.{is_at}
 use Rattle.std.specs.FinMap.{get}
 use Rattle.std.specs.FinMap.Entries.{same_entries}
 use Rattle.std.proofs.lemmas.List.{length-append}
-use Rattle.fs_path.specs.NameOrder.{name_cmp, name_cmp_total, name_same}
+use Rattle.std.proofs.lemmas.Bool.{or_parts}
+use Rattle.fs_path.proofs.Bools.{from_true}
+use Rattle.fs_path.specs.NameOrder.{name_cmp, name_cmp_total, name_same, name_is, name_itself}
 use Rattle.fs_path.specs.declared.name.DocName.{DocName}
 use Rattle.fs_status.specs.Refusal.{refusal_of}
 use Rattle.fs_status.specs.declared.refusal.Refusal.{Refusal}
@@ -20,7 +22,7 @@ use Rattle.fs_write.specs.declared.write.Act.TheVariants.{Delete}
 use Rattle.fs_write.specs.declared.write.Write.{Write}
 use Rattle.fs_write.specs.declared.write_result.WriteResult.{WriteResult}
 use Rattle.fs_write.proofs.StageChanges.{unchanged_itself}
-use Rattle.fs_write.proofs.Stages.{name_itself, name_at, get-with_document, all_refused}
+use Rattle.fs_write.proofs.Stages.{get-with_document, all_refused}
 use Rattle.fs_write.proofs.WriteLaws.{law_deleted, later_one, first_one}
 
 -- ---- what a result has
@@ -73,9 +75,6 @@ unnamed : (cs : List Change) → entries_of (changes_by_name cs) ≡ cs
 unfolding entries_of
 unnamed [] = refl
 unnamed (c ∷ cs) = ap (λ xs. c ∷ xs) (unnamed cs)
-
-from_true : (b : Bool) → IsTrue b → T b
-from_true b h = subst T (sym h) tt
 
 pub law_one_list : (docs : Docs) (ws : List Write) (t : ℤ) (cs ds : List Change) (rs qs : List WriteResult) → IsOutcome docs ws t cs rs → IsOutcome docs ws t ds qs → (cs ≡ ds) × (rs ≡ qs)
 law_one_list docs ws t cs ds rs qs one other =
@@ -171,10 +170,6 @@ refused_alike (w ∷ ws) docs other rs t e agree is =
     next_refused w ws docs other rs t e (λ x at. agree x (later_one w ws x at)) (λ x y qs agreed h. refused_alike ws x y qs t e agreed h) (one_write (get docs (written_name w)) w t) (one_write (get other (written_name w)) w t)
     (ap (λ o. one_write o w t) (sym (agree w (first_one w ws)))) is
 
-either_false : (a b : Bool) → (a || b) ≡ false → (a ≡ false) × (b ≡ false)
-either_false true b h = absurd (cc)
-either_false false b h = (refl, h)
-
 next_untouched : (w : Write) (ws : List Write) (docs : Docs) (rs : List WriteResult) (t : ℤ) (p : Docs × List WriteResult) (q : DocName) → is_at (name_cmp (written_name w)) q ≡ false
     → ((x : Docs) (qs : List WriteResult) → all_writes (Ok (x, qs)) ws t ≡ Ok p → get p.0 q ≡ get x q)
     → (r : Result (Option Document × WriteResult) Fault) → all_writes (after_write docs rs (written_name w) r) ws t ≡ Ok p → get p.0 q ≡ get docs q
@@ -187,12 +182,12 @@ next_untouched w ws docs rs t p q here more (Ok done) is =
 pub untouched : (ws : List Write) (docs : Docs) (rs : List WriteResult) (t : ℤ) (p : Docs × List WriteResult) (q : DocName) → is_written q ws ≡ false → all_writes (Ok (docs, rs)) ws t ≡ Ok p → get p.0 q ≡ get docs q
 untouched [] docs rs t p q apart is = ap (λ (x : Docs × List WriteResult). get x.0 q) (sym (same_ok (docs, rs) p is))
 untouched (w ∷ ws) docs rs t p q apart is =
-    let both = either_false (is_at (name_cmp (written_name w)) q) (is_written q ws) apart in
+    let both = or_parts (is_at (name_cmp (written_name w)) q) (is_written q ws) apart in
     next_untouched w ws docs rs t p q both.0 (λ x qs h. untouched ws x qs t p q both.1 h) (one_write (get docs (written_name w)) w t) is
 
 next_agrees : (w : Write) (ws : List Write) (docs other : Docs) (q : DocName) (b : Bool) → get docs (written_name w) ≡ get other (written_name w) → (is_written q ws ≡ true → get docs q ≡ get other q)
     → is_at (name_cmp (written_name w)) q ≡ b → (b || is_written q ws) ≡ true → get docs q ≡ get other q
-next_agrees w ws docs other q true here more ties is = subst (λ n. get docs n ≡ get other n) (name_at (written_name w) q ties) here
+next_agrees w ws docs other q true here more ties is = subst (λ n. get docs n ≡ get other n) (name_is (written_name w) q ties) here
 next_agrees w ws docs other q false here more ties is = more is
 
 written_agrees : (ws : List Write) (docs other : Docs) (q : DocName) → Agree ws docs other → is_written q ws ≡ true → get docs q ≡ get other q

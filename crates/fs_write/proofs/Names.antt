@@ -1,15 +1,15 @@
 -- Documents bear the names at which they stand, before a batch and after it.
 use Rattle.std.proofs.Common.{◌≡◌, ℕ, ℤ, Bool, true, false, cond, List, [], ◌∷◌, ◌++◌, Option, Some, None, Result, Ok, Err, refl, sym, ap, ◌∙◌, subst, length}
-use Rattle.std.specs.Prelude.{IsTrue, ◌&&◌}
+use Rattle.std.specs.Prelude.{IsTrue}
 use Rattle.std.specs.BTreeMap.{is_at}
 use Rattle.std.specs.Cmp.{Equal-is}
 use Rattle.std.specs.FinMap.{get, find, is_sorted}
 use Rattle.std.specs.FinMap.Entries.{below_all}
 use Rattle.std.specs.List.{AllByRecursion}
-use Rattle.std.specs.Ordering.{eq_by_cmp, is_eq, is_lt}
-use Rattle.std.specs.declared.cmp.Ordering.{Ordering}
-use Rattle.std.specs.declared.cmp.Ordering.TheVariants.{Less, Equal, Greater}
-use Rattle.fs_path.specs.NameOrder.{name_cmp, name_same}
+use Rattle.std.specs.Ordering.{eq_by_cmp}
+use Rattle.std.proofs.lemmas.Bool.{and_parts}
+use Rattle.fs_path.proofs.Orders.{below_less}
+use Rattle.fs_path.specs.NameOrder.{name_cmp, name_same, name_is, name_itself}
 use Rattle.fs_path.specs.declared.name.DocName.{DocName}
 use Rattle.fs_status.specs.Refusal.{refusal_of}
 use Rattle.fs_value.specs.Data.{Data}
@@ -24,7 +24,7 @@ use Rattle.fs_write.specs.declared.change.Change.{Change}
 use Rattle.fs_write.specs.declared.write.Write.{Write}
 use Rattle.fs_write.specs.declared.write_result.WriteResult.{WriteResult}
 use Rattle.fs_write.proofs.BatchLaws.{same_ok}
-use Rattle.fs_write.proofs.Stages.{name_at, name_itself, get-docs, get-with_document, all_refused}
+use Rattle.fs_write.proofs.Stages.{get-docs, get-with_document, all_refused}
 use Rattle.fs_write.proofs.WriteLaws.{left_by}
 
 -- ---- the documents of a list
@@ -57,7 +57,7 @@ one_named before (Some d) w t r is p =
     ap (λ x. x.name) l.is ∙ left_named before (written_name w) (transformed w.transforms t l.fields) t p
 
 with_named_at : (docs : Docs) (n : DocName) (o : Option Document) (q : DocName) (b : Bool) → is_at (name_cmp n) q ≡ b → AreNamed docs → Bears o n → Bears (cond b o (get docs q)) q
-with_named_at docs n o q true at named p = subst (Bears o) (name_at n q at) p
+with_named_at docs n o q true at named p = subst (Bears o) (name_is n q at) p
 with_named_at docs n o q false at named p = named q
 
 pub with_named : (docs : Docs) (n : DocName) (o : Option Document) → AreNamed docs → Bears o n → AreNamed (with_document docs n o)
@@ -86,23 +86,15 @@ change_named false n before after c p q is =
     let same : ◌≡◌ {A = Change} (record { name = n; before = before; after = after }) c = cc in
     subst IsNamed same (p, q)
 
-below_less : (r : Ordering) (rest : Bool) → IsTrue (is_lt r && rest) → (is_eq r ≡ false) × IsTrue rest
-below_less Less rest h = (refl, h)
-below_less Equal rest h = absurd (cc)
-below_less Greater rest h = absurd (cc)
-
 found_none : (q : DocName) (cs : List Change) → IsTrue (below_all name_cmp q (changes_by_name cs)) → find name_cmp q (changes_by_name cs) ≡ None
 found_none q [] below = refl
 found_none q (c ∷ cs) below =
     let both = below_less (name_cmp q c.name) (below_all name_cmp q (changes_by_name cs)) below in
     ap (λ b. cond b (Some c) (find name_cmp q (changes_by_name cs))) both.0 ∙ found_none q cs both.1
 
-both_of_them : (a b : Bool) → IsTrue (a && b) → IsTrue a × IsTrue b
-both_of_them true b h = (refl, h)
-both_of_them false b h = absurd (cc)
-
-abbrev Told : List Change → Type 0
-Told cs = (q : DocName) (c : Change) → find name_cmp q (changes_by_name cs) ≡ Some c → IsNamed c
+-- each change that is found bears its name
+abbrev FindsNamed : List Change → Type 0
+FindsNamed cs = (q : DocName) (c : Change) → find name_cmp q (changes_by_name cs) ≡ Some c → IsNamed c
 
 tail_found : (c : Change) (cs : List Change) (q : DocName) (x : Change) (b : Bool) → IsTrue (below_all name_cmp c.name (changes_by_name cs)) → eq_by_cmp name_cmp q c.name ≡ b
     → find name_cmp q (changes_by_name cs) ≡ Some x → cond b (Some c) (find name_cmp q (changes_by_name cs)) ≡ Some x
@@ -111,12 +103,12 @@ tail_found c cs q x true below ties is =
     absurd (cc)
 tail_found c cs q x false below ties is = is
 
-each_named : (cs : List Change) → IsTrue (is_sorted name_cmp (changes_by_name cs)) → Told cs → AllByRecursion IsNamed cs
-each_named [] rise told = tt
-each_named (c ∷ cs) rise told =
-    let both = both_of_them (below_all name_cmp c.name (changes_by_name cs)) (is_sorted name_cmp (changes_by_name cs)) rise in (
-      told c.name c (ap (λ b. cond b (Some c) (find name_cmp c.name (changes_by_name cs))) (name_itself c.name)),
-      each_named cs both.1 (λ q x is. told q x (tail_found c cs q x (eq_by_cmp name_cmp q c.name) both.0 refl is)),
+each_named : (cs : List Change) → IsTrue (is_sorted name_cmp (changes_by_name cs)) → FindsNamed cs → AllByRecursion IsNamed cs
+each_named [] rise named = tt
+each_named (c ∷ cs) rise named =
+    let both = and_parts (below_all name_cmp c.name (changes_by_name cs)) (is_sorted name_cmp (changes_by_name cs)) rise in (
+      named c.name c (ap (λ b. cond b (Some c) (find name_cmp c.name (changes_by_name cs))) (name_itself c.name)),
+      each_named cs both.1 (λ q x is. named q x (tail_found c cs q x (eq_by_cmp name_cmp q c.name) both.0 refl is)),
     )
 
 pub changes_named : (ds : List Document) (ws : List Write) (t : ℤ) (cs : List Change) (rs : List WriteResult) → IsTrue (is_sorted name_cmp (by_name ds)) → IsOutcome (docs_of ds) ws t cs rs → AllByRecursion IsNamed cs

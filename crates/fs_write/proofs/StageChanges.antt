@@ -11,15 +11,14 @@ use Rattle.std.specs.List.{AllByRecursion}
 use Rattle.std.specs.List.Sorted.{IsStrictlySortedBy}
 use Rattle.std.specs.Map.{keys_of}
 use Rattle.std.proofs.lemmas.List.{append-nil}
-use Rattle.fs_path.specs.NameOrder.{name_cmp}
+use Rattle.fs_path.specs.NameOrder.{name_cmp, name_is}
 use Rattle.fs_path.specs.declared.name.DocName.{DocName}
 use Rattle.fs_value.specs.declared.document.Document.{Document}
 use Rattle.fs_write.specs.Batch.{Docs, changes_by_name, change_of, is_unchanged, AreChanges}
-use Rattle.fs_write.specs.Staging.{staged_at, both_of, with_change, IsStage, staged_change, TellsStage}
+use Rattle.fs_write.specs.Staging.{staged_at, both_of, with_change, IsStage, staged_change, AreStagedChanges}
 use Rattle.fs_write.specs.declared.batch.Staged.{Staged}
 use Rattle.fs_write.specs.declared.change.Change.{Change}
 use Rattle.fs_write.proofs.Fields.{same_itself}
-use Rattle.fs_write.proofs.Stages.{name_at}
 
 -- the changes of a stage, entry by entry
 abbrev pub changes_in : List (DocName × Staged) → List Change
@@ -31,7 +30,7 @@ changes_in (e ∷ es) = with_change (change_of e.0 e.1.before e.1.now) (changes_
 pub no_more : (done : List Change) (rest : List (DocName × Staged)) (whole : List Change) → done ++ changes_in rest ≡ whole → rest ≡ [] → done ≡ whole
 no_more done rest whole from none = sym (append-nil done) ∙ ap (λ es. done ++ changes_in es) (sym none) ∙ from
 
--- ---- what the changes of a stage tell
+-- ---- the changes of a stage are in order, and each name has its own
 
 below_changes : (k : DocName) (o : Option Change) (n : DocName) (cs : List Change) → ((c : Change) → o ≡ Some c → c.name ≡ n) → name_cmp k n ≡ Less → IsTrue (below_all name_cmp k (changes_by_name cs))
     → IsTrue (below_all name_cmp k (changes_by_name (with_change o cs)))
@@ -66,26 +65,26 @@ module _ (q k : DocName) (s : Staged) (cs : List Change) (found : Option Staged)
   made : DocName → Change
   made n = record { name = n; before = s.before; after = s.now }
 
-  told_here : (b t : Bool) → (t ≡ true → q ≡ k) → (t ≡ true → found ≡ None) → find name_cmp q (changes_by_name cs) ≡ staged_change q found → is_at (name_cmp q) k ≡ t → is_unchanged s.before s.now ≡ b
+  found_here : (b t : Bool) → (t ≡ true → q ≡ k) → (t ≡ true → found ≡ None) → find name_cmp q (changes_by_name cs) ≡ staged_change q found → is_at (name_cmp q) k ≡ t → is_unchanged s.before s.now ≡ b
       → find name_cmp q (changes_by_name (with_change (cond b None (Some (made k))) cs)) ≡ staged_change q (cond t (Some s) found)
   unfolding made
-  told_here true true same none rest tie is = rest ∙ ap (staged_change q) (none refl) ∙ ap (λ b. cond b None (Some (made q))) (sym is)
-  told_here true false same none rest tie is = rest
-  told_here false true same none rest tie is =
+  found_here true true same none rest tie is = rest ∙ ap (staged_change q) (none refl) ∙ ap (λ b. cond b None (Some (made q))) (sym is)
+  found_here true false same none rest tie is = rest
+  found_here false true same none rest tie is =
       ap (λ t. cond t (Some (made k)) (find name_cmp q (changes_by_name cs))) tie
       ∙ ap (λ n. Some (made n)) (sym (same refl))
       ∙ ap (λ b. cond b None (Some (made q))) (sym is)
-  told_here false false same none rest tie is = ap (λ t. cond t (Some (made k)) (find name_cmp q (changes_by_name cs))) tie ∙ rest
+  found_here false false same none rest tie is = ap (λ t. cond t (Some (made k)) (find name_cmp q (changes_by_name cs))) tie ∙ rest
 
-pub changes_told : (es : List (DocName × Staged)) → IsStrictlySortedBy name_cmp (keys_of es) → (q : DocName) → find name_cmp q (changes_by_name (changes_in es)) ≡ staged_change q (staged_at q es)
+pub changes_found : (es : List (DocName × Staged)) → IsStrictlySortedBy name_cmp (keys_of es) → (q : DocName) → find name_cmp q (changes_by_name (changes_in es)) ≡ staged_change q (staged_at q es)
 unfolding IsStrictlySortedBy made
-changes_told [] h q = refl
-changes_told (e ∷ es) h q =
-    told_here q e.0 e.1 (changes_in es) (staged_at q es) (is_unchanged e.1.before e.1.now) (is_at (name_cmp q) e.0) (name_at q e.0)
-    (λ t. ap (λ n. staged_at n es) (name_at q e.0 t) ∙ none_above e.0 es h.0) (changes_told es h.1 q) refl refl
+changes_found [] h q = refl
+changes_found (e ∷ es) h q =
+    found_here q e.0 e.1 (changes_in es) (staged_at q es) (is_unchanged e.1.before e.1.now) (is_at (name_cmp q) e.0) (name_is q e.0)
+    (λ t. ap (λ n. staged_at n es) (name_is q e.0 t) ∙ none_above e.0 es h.0) (changes_found es h.1 q) refl refl
 
-pub stage_told : (es : List (DocName × Staged)) (changes : List Change) → IsStrictlySortedBy name_cmp (keys_of es) → changes ≡ changes_in es → TellsStage es changes
-stage_told es changes h is = subst (TellsStage es) (sym is) (record { rise = changes_rise es h; told = changes_told es h })
+pub staged_changes : (es : List (DocName × Staged)) (changes : List Change) → IsStrictlySortedBy name_cmp (keys_of es) → changes ≡ changes_in es → AreStagedChanges es changes
+staged_changes es changes h is = subst (AreStagedChanges es) (sym is) (record { rise = changes_rise es h; named_changes = changes_found es h })
 
 -- ---- and so they are those of the batch
 
@@ -93,14 +92,14 @@ pub unchanged_itself : (o : Option Document) → is_unchanged o o ≡ true
 unchanged_itself None = refl
 unchanged_itself (Some d) = same_itself d.fields
 
-change_told : (name : DocName) (there then : Option Document) (o : Option Staged) → both_of there o ≡ (there, then) → staged_change name o ≡ change_of name there then
-change_told name there then None stage =
+staged_is : (name : DocName) (there then : Option Document) (o : Option Staged) → both_of there o ≡ (there, then) → staged_change name o ≡ change_of name there then
+staged_is name there then None stage =
     let is : there ≡ then = ap (λ (p : Option Document × Option Document). p.1) stage in
     ap (λ b. cond b None (Some (record { name = name; before = there; after = then }))) (sym (ap (is_unchanged there) (sym is) ∙ unchanged_itself there))
-change_told name there then (Some s) stage = ap (λ (p : Option Document × Option Document). change_of name p.0 p.1) stage
+staged_is name there then (Some s) stage = ap (λ (p : Option Document × Option Document). change_of name p.0 p.1) stage
 
-pub batch_changes : (docs after : Docs) (es : List (DocName × Staged)) (changes : List Change) → IsStage docs es after → TellsStage es changes → AreChanges docs after changes
-batch_changes docs after es changes stage tells = record {
-  rise = tells.rise;
-  told = λ name. tells.told name ∙ change_told name (get docs name) (get after name) (staged_at name es) (stage name);
+pub batch_changes : (docs after : Docs) (es : List (DocName × Staged)) (changes : List Change) → IsStage docs es after → AreStagedChanges es changes → AreChanges docs after changes
+batch_changes docs after es changes stage staged = record {
+  rise = staged.rise;
+  told = λ name. staged.named_changes name ∙ staged_is name (get docs name) (get after name) (staged_at name es) (stage name);
 }

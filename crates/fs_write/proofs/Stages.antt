@@ -4,10 +4,9 @@ use Rattle.std.proofs.Math.ListN.{drop_of_length-le}
 use Rattle.std.proofs.Math.Seq.{drop-cons}
 use Rattle.std.specs.Prelude.{IsTrue, T}
 use Rattle.std.specs.BTreeMap.{is_at}
-use Rattle.std.specs.Cmp.{Equal-is}
-use Rattle.std.proofs.lemmas.Cmp.{eq_by_cmp_equiv, tied_itself}
+use Rattle.std.proofs.lemmas.Cmp.{eq_by_cmp_equiv}
 use Rattle.std.specs.FinMap.{find, get, get-insert, get-remove, is_sorted, get-from_sorted}
-use Rattle.fs_path.specs.NameOrder.{name_cmp, name_cmp_total, name_same}
+use Rattle.fs_path.specs.NameOrder.{name_cmp, name_cmp_total, name_is, name_itself}
 use Rattle.fs_path.specs.declared.name.DocName.{DocName}
 use Rattle.fs_status.specs.declared.refusal.Refusal.{Refusal}
 use Rattle.fs_value.specs.declared.document.Document.{Document}
@@ -22,12 +21,6 @@ use Rattle.fs_write.specs.declared.write.Write.{Write}
 use Rattle.fs_write.specs.declared.write_result.WriteResult.{WriteResult}
 
 -- ---- look-ups after a write
-
-pub name_itself : (name : DocName) → is_at (name_cmp name) name ≡ true
-name_itself name = (Equal-is _).1 (tied_itself name_cmp_total name)
-
-pub name_at : (name q : DocName) → is_at (name_cmp name) q ≡ true → name ≡ q
-name_at name q t = name_same name q ((Equal-is _).0 t)
 
 pub get-with_document : (docs : Docs) (name : DocName) (o : Option Document) (q : DocName) → get (with_document docs name o) q ≡ cond (is_at (name_cmp name) q) o (get docs q)
 get-with_document docs name None q = get-remove name_cmp_total docs name q ∙ ap (λ b. cond b None (get docs q)) ((eq_by_cmp_equiv name_cmp_total).symm q name)
@@ -57,10 +50,10 @@ module _ (docs after : Docs) (old mid new : List (DocName × Staged)) (name : Do
     staged_now =
         ap (λ o. (both_of (get docs name) o).1) (staged_then name ∙ ap (λ b. cond b (Some s) (cond b None (staged_at name old))) (name_itself name))
 
-    pub staged_shown : IsStage docs new (with_document after name s.now)
-    staged_shown q =
+    pub staged_after : IsStage docs new (with_document after name s.now)
+    staged_after q =
         ap (both_of (get docs q)) (staged_then q)
-        ∙ chosen (is_at (name_cmp name) q) docs after name q s (staged_at q old) (name_at name q) (kept ∙ taken_before) (stage q)
+        ∙ chosen (is_at (name_cmp name) q) docs after name q s (staged_at q old) (name_is name q) (kept ∙ taken_before) (stage q)
         ∙ ap (λ o. (get docs q, o)) (sym (get-with_document after name s.now q))
 
 -- one more write, from what was taken out and put in
@@ -80,7 +73,7 @@ next_stage docs after old mid new write time answer name there s stage names is 
           ap (λ o. one_write o write time) (sym (taken_now docs after old mid new (written_name write) s.before there s stage is'))
           ∙ made
           ∙ ap (λ (o : Option Document). Ok (o, answer)) (sym now);
-      shown = subst (λ o. IsStage docs new (with_document after (written_name write) o)) (sym now) (staged_shown docs after old mid new (written_name write) s.before there s stage is' taken' put' refl);
+      stage = subst (λ o. IsStage docs new (with_document after (written_name write) o)) (sym now) (staged_after docs after old mid new (written_name write) s.before there s stage is' taken' put' refl);
     }
 
 -- nothing is staged yet
@@ -105,13 +98,13 @@ refused_write docs results name (Err fault) n e number is = cc
 -- The writes so far have left these documents and results, and the rest goes on from there.
 pub record SoFar (docs : Docs) (stage : List (DocName × Staged)) (results : List WriteResult) (writes rest : List Write) (time : ℤ) : Type 0 where
   pub after : Docs
-  pub shows : IsStage docs stage after
+  pub staged : IsStage docs stage after
   pub so_far : batch docs writes time ≡ all_writes (Ok (after, results)) rest time
 
 pub so_far_none : (docs : Docs) (stage : List (DocName × Staged)) (results : List WriteResult) (writes : List Write) (time : ℤ) → stage ≡ [] → results ≡ [] → SoFar docs stage results writes writes time
 so_far_none docs stage results writes time none no_results = record {
   after = docs;
-  shows = no_stage docs stage none;
+  staged = no_stage docs stage none;
   so_far = ap (λ (rs : List WriteResult). all_writes (Ok (docs, rs)) writes time) (sym no_results);
 }
 
@@ -124,11 +117,11 @@ module _ (docs : Docs) (stage : List (DocName × Staged)) (results : List WriteR
       → results_then ≡ results ++ answer ∷ []
       → SoFar docs new results_then writes more time
   so_far_more new answer results_then next then =
-      let is = next had.after had.shows in
+      let is = next had.after had.staged in
       let now = now_at docs new (written_name write) in
       record {
         after = with_document had.after (written_name write) now;
-        shows = is.shown;
+        staged = is.stage;
         so_far =
             goes_on
             ∙ ap (λ r. all_writes (after_write had.after results (written_name write) r) more time) is.done
@@ -140,7 +133,7 @@ module _ (docs : Docs) (stage : List (DocName × Staged)) (results : List WriteR
       → batch docs writes time ≡ Err e
   so_far_refused n e number is =
       goes_on
-      ∙ ap (λ r. all_writes r more time) (refused_write had.after results (written_name write) (one_write (get had.after (written_name write)) write time) n e number (is had.after had.shows))
+      ∙ ap (λ r. all_writes r more time) (refused_write had.after results (written_name write) (one_write (get had.after (written_name write)) write time) n e number (is had.after had.staged))
       ∙ all_refused more time e
 
 -- ---- a walk over the writes

@@ -1,6 +1,7 @@
 -- The laws of one write.
 use Rattle.std.proofs.Common.{◌≡◌, ℕ, suc, zero, ◌<◌, ◌≤◌, arith, ℤ, Bool, true, false, cond, List, [], ◌∷◌, length, Option, Some, None, option_map, Result, Ok, Err, refl, sym, ap, ◌∙◌, subst}
-use Rattle.std.specs.Prelude.{IsTrue, ◌||◌, ◌≢◌, nat_lt, unwrap_or}
+use Rattle.std.specs.Prelude.{IsTrue, ◌≢◌, nat_lt, unwrap_or}
+use Rattle.std.proofs.lemmas.Bool.{or_parts}
 use Rattle.std.proofs.lemmas.Bool.Decides.{nat_tests}
 use Rattle.std.specs.List.{Contains, list_any, starts_with}
 use Rattle.fs_path.specs.TextOrder.{text_eq}
@@ -11,7 +12,7 @@ use Rattle.fs_value.specs.FieldPaths.{get_fields, set_fields, unset_fields, IsAp
 use Rattle.fs_value.specs.Limits.{deepest_value, largest_document}
 use Rattle.fs_value.specs.Size.{document_size}
 use Rattle.fs_value.specs.declared.document.Document.{Document}
-use Rattle.fs_write.specs.OneWrite.{Fault, deep, large, same_fields, merged, with_field, fields_left, document_left, told_size, unfit, unless, overlong, written, carried_out, unmet, one_write}
+use Rattle.fs_write.specs.OneWrite.{Fault, deep, large, same_fields, merged, with_field, fields_left, document_left, counted_size, unfit, unless, overlong, written, carried_out, unmet, one_write}
 use Rattle.fs_write.specs.Rules.{overlap, some_overlap}
 use Rattle.fs_write.specs.Transforms.{transformed, transform_results}
 use Rattle.fs_write.specs.WrittenName.{written_name}
@@ -151,7 +152,7 @@ not_below : (a b : ℕ) → nat_lt a b ≡ false → b ≤ a
 not_below a b h = grind (arith, nat_tests)
 
 fit_by : (d : Document) (a b : Bool) → nat_lt deepest_value (members_depth (members_of d.fields)) ≡ a → nat_lt largest_document (document_size d) ≡ b
-    → cond a (Some deep) (cond b (Some (large (told_size d))) None) ≡ None → (a ≡ false) × (b ≡ false)
+    → cond a (Some deep) (cond b (Some (large (counted_size d))) None) ≡ None → (a ≡ false) × (b ≡ false)
 fit_by d true b deep_is large_is none = absurd (cc)
 fit_by d false true deep_is large_is none = absurd (cc)
 fit_by d false false deep_is large_is none = (refl, refl)
@@ -180,22 +181,18 @@ law_delete_done before w t name act always =
 
 -- ---- masks, from the laws of paths
 
-either_false : (a b : Bool) → (a || b) ≡ false → (a ≡ false) × (b ≡ false)
-either_false true b h = absurd (cc)
-either_false false b h = (refl, h)
-
 not_true : (b : Bool) → b ≡ false → ¬ IsTrue b
 not_true b is h = absurd (cc)
 
 apart_by : (p q : FieldPath) → overlap p q ≡ false → IsApart p.parts q.parts
 apart_by p q h =
-    let both = either_false (starts_with text_eq p.parts q.parts) (starts_with text_eq q.parts p.parts) h in
+    let both = or_parts (starts_with text_eq p.parts q.parts) (starts_with text_eq q.parts p.parts) h in
     (not_true _ both.0, not_true _ both.1)
 
 apart_from : (p : FieldPath) (ps : List FieldPath) → list_any (overlap p) ps ≡ false → (q : FieldPath) → Contains ps q → IsApart p.parts q.parts
 apart_from p [] h q at = absurd (omega (arith, at.1))
-apart_from p (x ∷ ps) h q (zero, within, is) = subst (λ y. IsApart p.parts y.parts) is (apart_by p x (either_false (overlap p x) (list_any (overlap p) ps) h).0)
-apart_from p (x ∷ ps) h q (suc k, within, is) = apart_from p ps (either_false (overlap p x) (list_any (overlap p) ps) h).1 q (k, omega arith, is)
+apart_from p (x ∷ ps) h q (zero, within, is) = subst (λ y. IsApart p.parts y.parts) is (apart_by p x (or_parts (overlap p x) (list_any (overlap p) ps) h).0)
+apart_from p (x ∷ ps) h q (suc k, within, is) = apart_from p ps (or_parts (overlap p x) (list_any (overlap p) ps) h).1 q (k, omega arith, is)
 
 turned_apart : (p q : List (List ℕ)) → IsApart p q → IsApart q p
 turned_apart p q h = (h.1, h.0)
@@ -228,8 +225,8 @@ module _ (set_there : (p : List (List ℕ)) (v : Data) (fs : List (List ℕ × D
   law_masked [] input fs p alone at = absurd (omega (arith, at.1))
   law_masked (x ∷ ps) input fs p alone (zero, within, is) =
       let left = with_field x.parts (get_fields x.parts input) fs in
-      let apart = apart_from x ps (either_false (list_any (overlap x) ps) (some_overlap ps) alone).0 in
+      let apart = apart_from x ps (or_parts (list_any (overlap x) ps) (some_overlap ps) alone).0 in
       subst (λ y. get_fields y.parts (merged ps input left) ≡ get_fields y.parts input) is
       (law_unmasked ps input left x.parts (λ q at. turned_apart x.parts q.parts (apart q at)) ∙ field_there x (get_fields x.parts input) fs)
   law_masked (x ∷ ps) input fs p alone (suc k, within, is) =
-      law_masked ps input (with_field x.parts (get_fields x.parts input) fs) p (either_false (list_any (overlap x) ps) (some_overlap ps) alone).1 (k, omega arith, is)
+      law_masked ps input (with_field x.parts (get_fields x.parts input) fs) p (or_parts (list_any (overlap x) ps) (some_overlap ps) alone).1 (k, omega arith, is)

@@ -91,14 +91,14 @@ document_left (Some before) name fields time =
     if same_fields before.fields fields then before
     else record { name = name; fields = fields; created = before.created; updated = time }
 
--- its size as a fault tells it: no number above 2^128 - 1
-abbrev pub told_size : Document → ℕ
-told_size d = min (document_size d) (2 ^ 128 - 1)
+-- its size as it is counted: no number above 2^128 - 1
+abbrev pub counted_size : Document → ℕ
+counted_size d = min (document_size d) (2 ^ 128 - 1)
 
 abbrev pub unfit : Document → Option Fault
 unfit d =
     if nat_lt deepest_value (members_depth (members_of d.fields)) then Some deep
-    else if nat_lt largest_document (document_size d) then Some (large (told_size d))
+    else if nat_lt largest_document (document_size d) then Some (large (counted_size d))
     else None
 
 -- ---- the write: its precondition, its act, its transforms in their order, and the depth and size of what is left

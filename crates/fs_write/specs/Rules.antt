@@ -5,7 +5,7 @@
 --   6  where a value nests deeper than `deepest_value`, that of a field or an element of an array transform;
 --   7  where an array directly holds an array, as one of an array transform's elements would be held.
 -- (Whether it is a write at all, and whether the operand of a number's transform is a number, is seen as it is read.)
-use Rattle.std.specs.Prelude.{ℕ, Bool, true, false, ◌||◌, ◌&&◌, List, [], ◌∷◌, length, Option, Some, None, nat_lt, if◌then◌else◌}
+use Rattle.std.specs.Prelude.{ℕ, Bool, true, false, ◌||◌, ◌&&◌, List, [], ◌∷◌, Option, Some, None, nat_lt, if◌then◌else◌}
 use Rattle.std.specs.List.{list_any, starts_with}
 use Rattle.fs_path.specs.FieldName.{is_bad_name}
 use Rattle.fs_path.specs.TextOrder.{text_eq}

@@ -22,7 +22,7 @@ abbrev pub both_of : Option Document → Option Staged → Option Document × Op
 both_of there None = (there, there)
 both_of there (Some s) = (s.before, s.now)
 
--- the stage shows these documents, which began as those
+-- these are the documents of the stage, which began as those
 abbrev pub IsStage : Docs → List (DocName × Staged) → Docs → Type 0
 IsStage docs stage after = (name : DocName) → both_of (get docs name) (staged_at name stage) ≡ (get docs name, get after name)
 
@@ -40,7 +40,7 @@ IsPut old new name s = (q : DocName) → staged_at q new ≡ cond (is_at (name_c
 -- the stage after one more write, which had this result
 pub record IsNext (docs : Docs) (old new : List (DocName × Staged)) (write : Write) (time : ℤ) (answer : WriteResult) (after : Docs) : Type 0 where
   pub done : one_write (get after (written_name write)) write time ≡ Ok (now_at docs new (written_name write), answer)
-  pub shown : IsStage docs new (with_document after (written_name write) (now_at docs new (written_name write)))
+  pub stage : IsStage docs new (with_document after (written_name write) (now_at docs new (written_name write)))
 
 -- the changes, and before them the change of one more name, if it has one
 abbrev pub with_change : Option Change → List Change → List Change
@@ -51,6 +51,7 @@ abbrev pub staged_change : DocName → Option Staged → Option Change
 staged_change name None = None
 staged_change name (Some s) = change_of name s.before s.now
 
-pub record TellsStage (stage : List (DocName × Staged)) (changes : List Change) : Type 0 where
+-- the changes of a stage: in the order of names, and each name's is that of its documents
+pub record AreStagedChanges (stage : List (DocName × Staged)) (changes : List Change) : Type 0 where
   pub rise : IsTrue (is_sorted name_cmp (changes_by_name changes))
-  pub told : (name : DocName) → find name_cmp name (changes_by_name changes) ≡ staged_change name (staged_at name stage)
+  pub named_changes : (name : DocName) → find name_cmp name (changes_by_name changes) ≡ staged_change name (staged_at name stage)

@@ -9,7 +9,7 @@ ghost use Rattle.fs_value.specs.Named.{by_name};
 ghost use Rattle.fs_write.specs.Batch.{Docs, docs_of, batch, change_of, is_unchanged, IsNamed, IsOutcome};
 ghost use Rattle.fs_write.specs.OneWrite.{one_write};
 ghost use Rattle.fs_write.specs.Refused.{refused};
-ghost use Rattle.fs_write.specs.Staging.{staged_at, both_of, with_change, IsStage, IsTaken, IsPut, IsNext, TellsStage};
+ghost use Rattle.fs_write.specs.Staging.{staged_at, both_of, with_change, IsStage, IsTaken, IsPut, IsNext, AreStagedChanges};
 ghost use Rattle.fs_write.specs.WrittenName.{written_name};
 
 use crate::change::{Change, Changes, copy_document};
@@ -25,6 +25,7 @@ use std::collections::BTreeMap;
 use std::marker::Model;
 
 // A document that is written: as it was before the commit, and as the writes so far leave it.
+// (docs/DECISIONS.md, "A document that is being written has a block of its own".)
 #[derive(Drop)]
 struct Staged {
     before: Option<Document>,
@@ -167,7 +168,7 @@ fn add_change(changes: &mut Changes, name: DocName, staged: Staged) -> Result<()
 
 // The changes of the documents that were written.
 fn changes_of(alloc: Global, stage: BTreeMap<DocName, Boxed>) -> Result<Changes, AllocError>
-    ensures { IfOk result (λ changes. TellsStage stage.entries changes) }
+    ensures { IfOk result (λ changes. AreStagedChanges stage.entries changes) }
 {
     let mut changes = Changes::new(alloc);
     for (name, staged) in stage {
@@ -187,6 +188,7 @@ fn changes_of(alloc: Global, stage: BTreeMap<DocName, Boxed>) -> Result<Changes,
 ///     writes at 9      c/a to {n: 2}, c/b to {n: 1}, c/a to {n: 1}
 ///     changes          c/b from none to {n: 1}, created and updated at 9
 ///     results          9, 9, 9
+/// (docs/DECISIONS.md, "A batch is stated by two look-ups".)
 pub fn apply_batch(
     alloc: Global,
     docs: &Documents,

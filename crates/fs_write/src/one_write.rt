@@ -94,6 +94,7 @@ fn fields_left(
 }
 
 // Whether a transform's path has more names than any may have.
+// (docs/DECISIONS.md, "A transform's path may have any length as it is read".)
 fn some_long_path(transforms: &[Transform]) -> bool
     ensures { result ≡ list_any has_long_path transforms.now }
 {

@@ -1,7 +1,8 @@
 //! Whether paths of a mask overlap.
 ghost use Rattle.std.specs.Prelude.{◌≡◌, IfOk};
 ghost use Rattle.std.specs.List.{list_any};
-ghost use Rattle.fs_write.specs.Neighbours.{paths_at, neighbours_overlap};
+ghost use Rattle.fs_path.specs.FieldOrder.{paths_at};
+ghost use Rattle.fs_write.specs.Neighbours.{neighbours_overlap};
 ghost use Rattle.fs_write.specs.Rules.{overlap, some_overlap};
 
 use fs_path::{FieldPath, Paths};

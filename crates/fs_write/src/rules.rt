@@ -28,6 +28,7 @@ pub fn check(write: &Write) -> Option<u8>
 
 /// The least rule of writes that a write breaks, or none, as `check` tells it. The paths of the mask are sorted, for which it
 /// takes memory; it refuses only for want of it.
+/// (docs/DECISIONS.md, "A mask's paths are sorted before they are compared".)
 pub fn check_with(alloc: Global, write: &Write) -> Result<Option<u8>, AllocError>
     ensures { IfOk result (λ r. r ≡ rule_of_write write.now) }
 {

@@ -1,8 +1,7 @@
 //! The transforms of a write, which change a field by what it was before.
-use fs_path::FieldPath;
+use fs_path::{Copied, FieldPath, List};
 use fs_value::Values;
 use std::alloc::{AllocError, Global};
-use std::marker::Model;
 
 /// What is done to a field. (v1 reference, "DocumentTransform.FieldTransform".)
 #[derive(Drop, Debug)]
@@ -58,91 +57,11 @@ impl Transform {
     }
 }
 
-/// The transforms of a write, in the order in which they are made. Contracts see them as a list.
-#[derive(Drop, Debug)]
-pub struct Transforms {
-    items: Vec<Transform>,
-}
+/// The transforms of a write, in the order in which they are made.
+pub type Transforms = List<Transform>;
 
-impl Model for Transforms {
-    ghost use Rattle.std.specs.Prelude.{List};
-    ghost use Rattle.std.specs.Coded.{coded_list};
-    ghost use Rattle.fs_write.specs.contracts.transform.Transform as transform;
-    ghost use Rattle.fs_write.specs.declared.transform.Transform.{Transform};
-
-    ghost Value = { List Transform };
-
-    ghost coded = { coded_list transform.the_row.coded };
-
-    ghost view = { λ l. l.items.items };
-}
-
-impl Transforms {
-    ghost use Rattle.std.specs.Prelude.{◌≡◌, ◌↔◌, ◌<◌, ◌∷◌, ◌++◌, IfOk, OnOk, OnErr, IsTrue, Some, [], length, slice_get};
-
-    /// No transforms. The allocator serves those that are pushed.
-    pub fn new(alloc: Global) -> Transforms
-        ensures { result ≡ [] }
-    {
-        Transforms {
-            items: Vec::new(alloc),
-        }
-    }
-
-    /// The transforms of a `Vec`, without a copy.
-    pub fn of(items: Vec<Transform>) -> Transforms
-        ensures { result ≡ items.items }
-    {
-        Transforms { items }
-    }
-
-    /// The transforms as a `Vec`, without a copy.
-    pub fn into_vec(self) -> Vec<Transform>
-        ensures { result.items ≡ self }
-    {
-        self.items
-    }
-
-    pub fn as_slice(&self) -> &[Transform]
-        ensures { result.now ≡ self.now }
-    {
-        self.items.as_slice()
-    }
-
-    pub fn len(&self) -> usize
-        ensures { result ≡ length self.now }
-    {
-        self.items.len()
-    }
-
-    pub fn is_empty(&self) -> bool
-        ensures { IsTrue result ↔ (self.now ≡ []) }
-    {
-        self.items.is_empty()
-    }
-
-    pub fn at(&self, i: usize) -> &Transform
-        requires { i < length self.now }
-        ensures { slice_get self.now i ≡ Some result.now }
-    {
-        &self.items[i]
-    }
-
-    /// Adds a transform at the end.
-    pub fn push(&mut self, transform: Transform) -> Result<(), AllocError>
-        ensures ok { OnOk result (self.new ≡ self.old ++ transform ∷ []) }
-        ensures err { OnErr result (self.new ≡ self.old) }
-    {
-        Ok(self.items.push(transform)?)
-    }
-
-    pub fn copy(&self, alloc: Global) -> Result<Transforms, AllocError>
-        ensures { IfOk result (λ l. l ≡ self.now) }
-    {
-        let mut items = Vec::with_capacity(alloc, self.items.len())?;
-        for transform in &self.items {
-            items.push(transform.copy(alloc)?)?;
-        }
-        Ok(Transforms { items })
+impl Copied for Transform {
+    fn copy(&self, alloc: Global) -> Result<Transform, AllocError> {
+        self.copy(alloc)
     }
 }

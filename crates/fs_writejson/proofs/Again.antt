@@ -7,9 +7,9 @@ use Rattle.fs_path.specs.declared.field.FieldPath.{FieldPath}
 use Rattle.fs_path.specs.declared.name.Root.{Root}
 use Rattle.serde_json.specs.Data as json
 use Rattle.fs_value.specs.Data.{items_of, members_of}
-use Rattle.fs_json.specs.FieldPathLaws.{path_of-is}
+use Rattle.fs_json.proofs.FieldPaths.{path_again}
 use Rattle.fs_json.specs.Answer.{◌>>=◌}
-use Rattle.fs_json.specs.Paths.{document_name_at, field_path_at, path_at, named}
+use Rattle.fs_json.specs.Paths.{document_name_at, field_path_at, IsPathHeld}
 use Rattle.fs_json.specs.Time.{time_at, time_json}
 use Rattle.fs_valjson.specs.Document.{document_at, untimed, update_json}
 use Rattle.fs_valjson.specs.Writing.{ItemsHaveNames, MembersHaveNames}
@@ -23,8 +23,8 @@ use Rattle.fs_write.specs.declared.write.Act.TheVariants.{Set, Merge, Delete}
 use Rattle.fs_write.specs.declared.write.Precondition.{Precondition}
 use Rattle.fs_write.specs.declared.write.Precondition.TheVariants as condition
 use Rattle.fs_write.specs.declared.write.Write.{Write}
-use Rattle.fs_writejson.specs.Held.{IsPathHeld, IsOperationHeld, IsTransformHeld, IsActHeld, IsConditionHeld}
-use Rattle.fs_writejson.specs.Mask.{mask_at, mask_json, path_json, paths_json}
+use Rattle.fs_writejson.specs.Held.{IsOperationHeld, IsTransformHeld, IsActHeld, IsConditionHeld}
+use Rattle.fs_writejson.specs.Mask.{mask_at, mask_json, paths_json}
 use Rattle.fs_writejson.specs.Transform.{together, transform_at, transform_json, transforms_at, transforms_json}
 use Rattle.fs_writejson.specs.Valid.{HasNames, IsWriteOf}
 use Rattle.fs_json.specs.Walk.{each_at}
@@ -35,9 +35,6 @@ use Rattle.fs_writejson.specs.declared.draft.Draft.{Draft}
 use Rattle.fs_writejson.proofs.Least.{no_rule}
 
 -- ---- masks
-
-path_again : (p : FieldPath) (place : List ℕ) → IsPathHeld p → field_path_at (path_json p) place ≡ Ok p
-path_again p place held = ap (λ r. path_at place (named r)) held ∙ ap (path_at place) (path_of-is p)
 
 paths_again : (ps : List FieldPath) (i : ℕ) (place : List ℕ) → AllByRecursion IsPathHeld ps → each_at field_path_at (paths_json ps) i place ≡ Ok ps
 paths_again [] i place held = refl

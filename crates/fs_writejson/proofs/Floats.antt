@@ -3,7 +3,7 @@ use Rattle.std.proofs.Common.{◌≡◌, false, List, [], ◌∷◌, map, refl}
 use Rattle.serde_json.specs.View.{items_of}
 use Rattle.serde_json.specs.Written.{has_float, items_have_float, members_have_float}
 use Rattle.fs_path.specs.declared.field.FieldPath.{FieldPath}
-use Rattle.fs_valjson.specs.FloatLaws.{array_float, update_float}
+use Rattle.fs_valjson.proofs.Floats.{array_float, update_float}
 use Rattle.fs_write.specs.declared.transform.Operation.{Operation}
 use Rattle.fs_write.specs.declared.transform.Operation.TheVariants.{RequestTime, Increment, Maximum, Minimum, AppendMissing, RemoveAll}
 use Rattle.fs_write.specs.declared.transform.Transform.{Transform}
@@ -12,7 +12,8 @@ use Rattle.fs_write.specs.declared.write.Act.TheVariants.{Set, Merge, Delete}
 use Rattle.fs_write.specs.declared.write.Precondition.{Precondition}
 use Rattle.fs_write.specs.declared.write.Precondition.TheVariants as condition
 use Rattle.fs_write.specs.declared.write.Write.{Write}
-use Rattle.fs_writejson.specs.Mask.{mask_json, path_json}
+use Rattle.fs_writejson.specs.Mask.{mask_json}
+use Rattle.fs_json.specs.Paths.{path_json}
 use Rattle.fs_writejson.specs.Transform.{transform_json}
 use Rattle.fs_writejson.specs.Written.{transforms_member, with_act, write_json}
 

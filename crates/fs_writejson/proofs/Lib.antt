@@ -1,5 +1,12 @@
 pub mod Again
 pub mod Floats
 pub mod Least
+pub mod MaskDepth
+pub mod Operations
 pub mod Put
-pub mod Written
+pub mod RulesValid
+pub mod TransformDepth
+pub mod TransformValid
+pub mod WriteDepth
+pub mod WriteResults
+pub mod WriteValid

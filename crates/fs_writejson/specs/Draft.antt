@@ -11,13 +11,12 @@ use Rattle.fs_path.specs.declared.name.Root.{Root}
 use Rattle.fs_path.specs.declared.place.Rule.TheVariants.{E}
 use Rattle.serde_json.specs.Data.{Data}
 use Rattle.fs_value.specs.declared.document.Document.{Document}
-use Rattle.fs_json.specs.Answer.{◌>>=◌}
+use Rattle.fs_json.specs.Answer.{◌>>=◌, made}
 use Rattle.fs_json.specs.Members.{member_at, only_at, unbuilt_at}
 use Rattle.fs_json.specs.Paths.{document_name_at}
 use Rattle.fs_json.specs.declared.bad.Bad.{Bad}
 use Rattle.fs_json.specs.declared.bad.Bad.TheVariants.{At}
 use Rattle.fs_valjson.specs.Document.{document_at}
-use Rattle.fs_valjson.specs.Reading.{made}
 use Rattle.fs_write.specs.declared.write.Act.{Act}
 use Rattle.fs_write.specs.declared.write.Act.TheVariants.{Set, Merge, Delete}
 use Rattle.fs_write.specs.declared.write.Precondition.{Precondition}

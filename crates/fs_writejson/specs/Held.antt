@@ -1,13 +1,12 @@
 -- What only private clauses cite: that the parts of a write, as they are written, are read back.
 use Rattle.std.specs.Prelude.{◌≡◌, ℕ, true, List, Ok}
 use Rattle.fs_path.specs.Document.{document_text, IsDocumentOf}
-use Rattle.fs_path.specs.Field.{field_of, field_text}
 use Rattle.fs_path.specs.declared.field.FieldPath.{FieldPath}
 use Rattle.fs_path.specs.declared.name.DocName.{DocName}
 use Rattle.fs_path.specs.declared.name.Root.{Root}
 use Rattle.serde_json.specs.Data.{string}
 use Rattle.fs_value.specs.Data.{Data, items_of, members_of}
-use Rattle.fs_json.specs.Paths.{document_name_at}
+use Rattle.fs_json.specs.Paths.{document_name_at, IsPathHeld}
 use Rattle.fs_json.specs.Time.{time_at, time_json}
 use Rattle.fs_valjson.specs.Document.{document_at, untimed, update_json}
 use Rattle.fs_valjson.specs.Writing.{ItemsHaveNames, MembersHaveNames}
@@ -20,10 +19,6 @@ use Rattle.fs_write.specs.declared.write.Precondition.{Precondition}
 use Rattle.fs_write.specs.declared.write.Precondition.TheVariants as condition
 use Rattle.fs_writejson.specs.Mask.{mask_at, mask_json}
 use Rattle.fs_writejson.specs.Transform.{operation_at, operation_json, operation_name}
-
--- a field path's text
-abbrev pub IsPathHeld : FieldPath → Type 0
-IsPathHeld p = field_of (field_text p.parts) ≡ Ok p.parts
 
 abbrev pub IsOperationHeld : Operation → Type 0
 IsOperationHeld o = (place : List ℕ) → ItemsHaveNames (items_of (operand o)) → operation_at (operation_name o) (operation_json o) place ≡ Ok (o, true)

@@ -6,8 +6,5 @@ pub mod Rules
 pub mod Written
 pub mod Results
 pub mod Valid
-pub mod ValidLaws
-pub mod DepthLaws
 pub mod Steps
 pub mod Held
-pub mod FloatLaws

@@ -1,14 +1,11 @@
 -- The JSON of a mask: the field paths that an update changes, or a read shows. (v1 reference, "DocumentMask".)
-use Rattle.std.specs.Prelude.{ℕ, List, [], ◌∷◌, map, Result, Ok, codes}
-use Rattle.std.specs.Option.{option_map_or}
-use Rattle.fs_path.specs.Field.{field_text}
-use Rattle.fs_path.specs.Place.{member_place}
+use Rattle.std.specs.Prelude.{ℕ, List, [], ◌∷◌, map, Result, codes}
 use Rattle.fs_path.specs.declared.field.FieldPath.{FieldPath}
 use Rattle.serde_json.specs.Data as json
 use Rattle.serde_json.specs.View.{items_of}
 use Rattle.fs_json.specs.Answer.{◌>>=◌}
-use Rattle.fs_json.specs.Members.{member_at, only_at}
-use Rattle.fs_json.specs.Paths.{field_path_at}
+use Rattle.fs_json.specs.Members.{member_or, only_at}
+use Rattle.fs_json.specs.Paths.{field_path_at, path_json}
 use Rattle.fs_json.specs.declared.bad.Bad.{Bad}
 use Rattle.fs_json.specs.Walk.{all_at}
 
@@ -19,17 +16,13 @@ mask_members = codes "fieldPaths" ∷ []
 
 -- the field paths of a mask, which has none where the list is absent
 abbrev pub paths_in : json.Data → List ℕ → Result (List FieldPath) Bad
-paths_in d place = member_at (codes "fieldPaths") d place >>= λ found.
-    option_map_or (λ x. all_at field_path_at x (member_place place (codes "fieldPaths"))) found (Ok [])
+paths_in d place = member_or [] (all_at field_path_at) (codes "fieldPaths") d place
 
 -- an object with no other member than those
 abbrev pub mask_at : json.Data → List ℕ → Result (List FieldPath) Bad
 mask_at d place = only_at mask_members d place >>= λ _. paths_in d place
 
 -- ---- writing
-
-abbrev pub path_json : FieldPath → json.Data
-path_json p = json.string (field_text p.parts)
 
 abbrev pub paths_json : List FieldPath → json.Items
 paths_json ps = items_of (map path_json ps)

@@ -2,14 +2,36 @@
 --
 --     updated at 2024, an increment came to 3     {"transformResults":[{"integerValue":"3"}],"updateTime":"2024-01-01T00:00:00Z"}
 --     a delete                                    {}
-use Rattle.std.specs.Prelude.{◌≡◌, ℕ, ℤ, List, [], ◌∷◌, Option, Some, None, Ok, IfSome, codes}
+use Rattle.std.specs.Prelude.{◌≡◌, ℕ, ℤ, List, [], ◌∷◌, Option, Some, None, Result, Ok, IfSome, codes}
 use Rattle.serde_json.specs.Data as json
 use Rattle.fs_value.specs.Data.{Data, items_of}
-use Rattle.fs_json.specs.Time.{time_json}
+use Rattle.fs_json.specs.Answer.{◌>>=◌}
+use Rattle.fs_json.specs.Members.{member_or, only_at}
+use Rattle.fs_json.specs.Time.{optional_time_at, time_json, IsTimeHeld}
+use Rattle.fs_json.specs.declared.bad.Bad.{Bad}
 use Rattle.fs_valjson.specs.Reading.{list_at}
-use Rattle.fs_valjson.specs.Held.{IsTimeHeld}
 use Rattle.fs_valjson.specs.Writing.{list_json, ItemsHaveNames}
 use Rattle.fs_write.specs.declared.write_result.WriteResult.{WriteResult}
+
+-- ---- reading
+
+-- the members that a result may have
+abbrev pub write_result_members : List (List ℕ)
+write_result_members = codes "updateTime" ∷ codes "transformResults" ∷ []
+
+-- an absent list has no values
+abbrev pub transform_results_in : json.Data → List ℕ → Result (List Data) Bad
+transform_results_in d place = member_or [] list_at (codes "transformResults") d place
+
+-- a delete has no time at which the document was last updated
+unfoldable pub write_result_at : json.Data → List ℕ → Result WriteResult Bad
+write_result_at d place = do
+  _ ← only_at write_result_members d place
+  updated ← optional_time_at (codes "updateTime") d place
+  transforms ← transform_results_in d place
+  Ok (record { updated = updated; transforms = transforms })
+
+-- ---- writing
 
 abbrev pub updated_member : Option ℤ → json.Members
 updated_member None = json.no_members

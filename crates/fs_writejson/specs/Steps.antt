@@ -5,11 +5,11 @@ use Rattle.fs_path.specs.Document.{document_text}
 use Rattle.serde_json.specs.Data as json
 use Rattle.fs_value.specs.Data.{Data}
 use Rattle.fs_json.specs.Answer.{◌>>=◌}
-use Rattle.fs_json.specs.Members.{at_most_one_at, only_at}
+use Rattle.fs_json.specs.Members.{at_most_one_at, only_at, with_one}
 use Rattle.fs_json.specs.Time.{time_json}
 use Rattle.fs_json.specs.declared.bad.Bad.{Bad}
 use Rattle.fs_valjson.specs.Document.{update_json}
-use Rattle.fs_valjson.specs.Writing.{list_json, with_one}
+use Rattle.fs_valjson.specs.Writing.{list_json}
 use Rattle.fs_write.specs.declared.transform.Transform.{Transform}
 use Rattle.fs_write.specs.declared.write.Act.{Act}
 use Rattle.fs_write.specs.declared.write.Act.TheVariants.{Set, Merge, Delete}

@@ -8,16 +8,15 @@ use Rattle.fs_path.specs.declared.place.Rule.TheVariants.{G}
 use Rattle.serde_json.specs.Data as json
 use Rattle.serde_json.specs.View.{items_of}
 use Rattle.fs_value.specs.Data.{Data, integer}
-use Rattle.fs_json.specs.Answer.{or_fault, ◌>>=◌}
+use Rattle.fs_json.specs.Answer.{or_fault, ◌>>=◌, made}
 use Rattle.fs_json.specs.Members.{member_at, one_of_at, only_at, required_at}
-use Rattle.fs_json.specs.Paths.{field_path_at}
+use Rattle.fs_json.specs.Paths.{field_path_at, path_json}
 use Rattle.fs_json.specs.declared.bad.Bad.{Bad}
-use Rattle.fs_valjson.specs.Reading.{array_at, made, value_at}
+use Rattle.fs_valjson.specs.Reading.{array_at, value_at}
 use Rattle.fs_valjson.specs.Writing.{array_json, value_json}
 use Rattle.fs_write.specs.declared.transform.Operation.{Operation}
 use Rattle.fs_write.specs.declared.transform.Operation.TheVariants.{RequestTime, Increment, Maximum, Minimum, AppendMissing, RemoveAll}
 use Rattle.fs_write.specs.declared.transform.Transform.{Transform}
-use Rattle.fs_writejson.specs.Mask.{path_json}
 use Rattle.fs_json.specs.Walk.{all_at}
 
 -- the operations of which a transform has just one

@@ -1,4 +1,4 @@
--- The writes that are read back from what is written of them, and those that are read.
+-- The writes and their results that are read back from what is written of them, and those that are read.
 use Rattle.std.specs.Prelude.{◌≡◌, None}
 use Rattle.std.specs.List.{AllByRecursion}
 use Rattle.fs_path.specs.Document.{IsDocumentOf}
@@ -9,11 +9,16 @@ use Rattle.fs_write.specs.Rules.{input, operand, rule_of_write}
 use Rattle.fs_write.specs.WrittenName.{written_name}
 use Rattle.fs_write.specs.declared.transform.Transform.{Transform}
 use Rattle.fs_write.specs.declared.write.Write.{Write}
+use Rattle.fs_write.specs.declared.write_result.WriteResult.{WriteResult}
 use Rattle.fs_writejson.specs.declared.draft.Draft.{Draft}
 
 -- the references in the elements of an array transform are names of documents
 abbrev pub HasNames : Transform → Type 0
 HasNames t = ItemsHaveNames (items_of (operand t.operation))
+
+-- the references in the results of transforms are names of documents
+abbrev pub ResultHasNames : WriteResult → Type 0
+ResultHasNames r = ItemsHaveNames (items_of r.transforms)
 
 -- a draft's write is of one of the root's documents, and its references are names of documents
 pub record IsDraftOf (root : Root) (draft : Draft) : Type 0 where

@@ -9,7 +9,7 @@ use Rattle.fs_path.specs.Document.{document_text}
 use Rattle.serde_json.specs.Data.{Data, boolean, string, array, object, Members, no_members, member}
 use Rattle.fs_json.specs.Time.{time_json}
 use Rattle.fs_valjson.specs.Document.{update_json}
-use Rattle.fs_valjson.specs.Writing.{with_one}
+use Rattle.fs_json.specs.Members.{with_one}
 use Rattle.fs_write.specs.declared.transform.Transform.{Transform}
 use Rattle.fs_write.specs.declared.write.Act.{Act}
 use Rattle.fs_write.specs.declared.write.Act.TheVariants.{Set, Merge, Delete}

@@ -8,32 +8,33 @@ ghost use Rattle.fs_writejson.specs.Condition.{condition_at, condition_of, condi
 ghost use Rattle.fs_writejson.specs.Steps.{the_condition};
 
 use crate::names::{CONDITION_MEMBERS, CURRENT_DOCUMENT, EXISTS};
-use fs_json::{Bad, at_most_one_of, member, only, time, truth};
+use fs_json::{Bad, at_most_one_of, member, only, read_time, read_truth};
 use fs_path::Way;
 use fs_write::Precondition;
 use serde_json::Value;
 use std::alloc::Global;
 
 /// The precondition of a write, which has none where the member is absent.
+/// (docs/DECISIONS.md, "An empty `currentDocument` asks for nothing".)
 pub(crate) fn read_condition_of(
     alloc: Global,
     write: &Value,
-    place: &Way<'_>,
+    way: &Way<'_>,
 ) -> Result<Precondition, Bad>
-    ensures { Gives (λ c. c) result (condition_in (json write.now) (place_of place.now)) }
+    ensures { Gives (λ c. c) result (condition_in (json write.now) (place_of way.now)) }
 {
-    match member(alloc, write, CURRENT_DOCUMENT, place)? {
-        Some(condition) => read_condition(alloc, condition, &place.member(CURRENT_DOCUMENT)),
+    match member(alloc, write, CURRENT_DOCUMENT, way)? {
+        Some(condition) => read_condition(alloc, condition, &way.member(CURRENT_DOCUMENT)),
         None => Ok(Precondition::None),
     }
 }
 
 /// Reads a precondition: an object of at most one member. An empty one asks for nothing. (v1 reference, "Precondition".)
-fn read_condition(alloc: Global, v: &Value, place: &Way<'_>) -> Result<Precondition, Bad>
-    ensures { Gives (λ c. c) result (condition_at (json v.now) (place_of place.now)) }
+fn read_condition(alloc: Global, v: &Value, way: &Way<'_>) -> Result<Precondition, Bad>
+    ensures { Gives (λ c. c) result (condition_at (json v.now) (place_of way.now)) }
 {
-    match the_condition(alloc, v, place)? {
-        Some((name, content)) => read_one(alloc, name, content, &(*place).member(name)),
+    match the_condition(alloc, v, way)? {
+        Some((name, content)) => read_one(alloc, name, content, &(*way).member(name)),
         None => Ok(Precondition::None),
     }
 }
@@ -42,21 +43,21 @@ fn read_condition(alloc: Global, v: &Value, place: &Way<'_>) -> Result<Precondit
 fn the_condition<'a>(
     alloc: Global,
     v: &'a Value,
-    place: &Way<'_>,
+    way: &Way<'_>,
 ) -> Result<Option<(&'static str, &'a Value)>, Bad>
     ensures { Gives {Y = Option (List ℕ × Data)}
         (λ found. option_map (λ one. (one.0.now, json one.1.now)) found) result
-        (the_condition (json v.now) (place_of place.now)) }
+        (the_condition (json v.now) (place_of way.now)) }
 {
-    only(alloc, v, &CONDITION_MEMBERS, place)?;
-    at_most_one_of(alloc, v, &CONDITION_MEMBERS, place)
+    only(alloc, v, &CONDITION_MEMBERS, way)?;
+    at_most_one_of(alloc, v, &CONDITION_MEMBERS, way)
 }
 
-fn read_one(alloc: Global, name: &str, v: &Value, place: &Way<'_>) -> Result<Precondition, Bad>
-    ensures { Gives (λ c. c) result (condition_of name.now (json v.now) (place_of place.now)) }
+fn read_one(alloc: Global, name: &str, v: &Value, way: &Way<'_>) -> Result<Precondition, Bad>
+    ensures { Gives (λ c. c) result (condition_of name.now (json v.now) (place_of way.now)) }
 {
     match name {
-        EXISTS => Ok(Precondition::Exists(truth(alloc, v, place)?)),
-        _ => Ok(Precondition::UpdateTime(time(alloc, v, place)?)),
+        EXISTS => Ok(Precondition::Exists(read_truth(alloc, v, way)?)),
+        _ => Ok(Precondition::UpdateTime(read_time(alloc, v, way)?)),
     }
 }

@@ -5,49 +5,43 @@ ghost use Rattle.fs_path.specs.Way.{place_of};
 ghost use Rattle.serde_json.specs.View.{items_view, view as json};
 ghost use Rattle.serde_json.specs.Written.{has_float};
 ghost use Rattle.fs_json.specs.Answer.{Gives};
-ghost use Rattle.fs_json.specs.Paths.{field_path_at};
-ghost use Rattle.fs_writejson.specs.Held.{IsPathHeld};
+ghost use Rattle.fs_json.specs.Paths.{field_path_at, IsPathHeld};
 ghost use Rattle.fs_writejson.specs.Mask.{mask_at, mask_json, paths_in, paths_json};
-ghost use Rattle.fs_json.specs.Walk.{all_at, each_at};
 
 use crate::names::{FIELD_PATHS, MASK_MEMBERS};
-use fs_json::{Bad, field_path, list, member, only};
-use fs_path::{FieldPath, Paths, Way, print_field};
+use fs_json::{Bad, ReadsItem, member, only, read_each, read_field_path, write_field_path};
+use fs_path::{FieldPath, Paths, Way};
 use serde_json::{Map, Value};
 use std::alloc::{AllocError, Global};
 
 /// Reads a mask: an object whose one member is a list of field paths, which may be absent. (v1 reference, "DocumentMask".)
-pub fn read_mask(alloc: Global, v: &Value, place: &Way<'_>) -> Result<Paths, Bad>
-    ensures { Gives (λ ps. ps) result (mask_at (json v.now) (place_of place.now)) }
+pub fn read_mask(alloc: Global, v: &Value, way: &Way<'_>) -> Result<Paths, Bad>
+    ensures { Gives (λ ps. ps) result (mask_at (json v.now) (place_of way.now)) }
 {
-    only(alloc, v, &MASK_MEMBERS, place)?;
-    read_paths_of(alloc, v, place)
+    only(alloc, v, &MASK_MEMBERS, way)?;
+    read_paths_of(alloc, v, way)
 }
 
-fn read_paths_of(alloc: Global, mask: &Value, place: &Way<'_>) -> Result<Paths, Bad>
-    ensures { Gives (λ ps. ps) result (paths_in (json mask.now) (place_of place.now)) }
+fn read_paths_of(alloc: Global, mask: &Value, way: &Way<'_>) -> Result<Paths, Bad>
+    ensures { Gives (λ ps. ps) result (paths_in (json mask.now) (place_of way.now)) }
 {
-    match member(alloc, mask, FIELD_PATHS, place)? {
-        Some(paths) => read_paths(alloc, paths, &place.member(FIELD_PATHS)),
+    match member(alloc, mask, FIELD_PATHS, way)? {
+        Some(paths) => read_each(alloc, &PathReader, paths, &way.member(FIELD_PATHS)),
         None => Ok(Paths::new(alloc)),
     }
 }
 
-fn read_paths(alloc: Global, v: &Value, place: &Way<'_>) -> Result<Paths, Bad>
-    ensures { Gives (λ ps. ps) result (all_at field_path_at (json v.now) (place_of place.now)) }
-{
-    read_items(alloc, list(alloc, v, place)?, place)
-}
+/// Reads a field path of a list.
+struct PathReader;
 
-fn read_items(alloc: Global, items: &[Value], place: &Way<'_>) -> Result<Paths, Bad>
-    ensures { Gives (λ ps. ps) result (each_at field_path_at (items_view items.now) 0 (place_of place.now)) }
-{
-    let mut paths = Paths::new(alloc);
-    for (i, item) in items.iter().enumerate() {
-        let path = field_path(alloc, item, &place.item(i as u64))?;
-        paths.push(path)?;
+impl ReadsItem for PathReader {
+    type Item = FieldPath;
+
+    ghost reading = { λ _. field_path_at };
+
+    fn read(&self, alloc: Global, item: &Value, way: &Way<'_>) -> Result<FieldPath, Bad> {
+        read_field_path(alloc, item, way)
     }
-    Ok(paths)
 }
 
 /// Writes a mask. One without paths is an empty object.
@@ -73,8 +67,7 @@ fn write_paths(alloc: Global, paths: &[FieldPath]) -> Result<Vec<Value>, AllocEr
 {
     let mut items = Vec::with_capacity(alloc, paths.len())?;
     for path in paths {
-        let text = print_field(alloc, path)?.into_string();
-        items.push(Value::String(text))?;
+        items.push(write_field_path(alloc, path)?)?;
     }
     Ok(items)
 }

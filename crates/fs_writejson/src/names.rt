@@ -72,3 +72,6 @@ pub(crate) const UPDATE_TIME: &str = "updateTime";
 pub(crate) const CONDITION_MEMBERS: [&str; 2] = [EXISTS, UPDATE_TIME];
 
 pub(crate) const TRANSFORM_RESULTS: &str = "transformResults";
+
+/// The members that a result may have.
+pub(crate) const RESULT_MEMBERS: [&str; 2] = [UPDATE_TIME, TRANSFORM_RESULTS];

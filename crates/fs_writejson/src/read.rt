@@ -4,12 +4,11 @@ ghost use Rattle.std.specs.List.{AllByRecursion};
 ghost use Rattle.fs_path.specs.Way.{place_of};
 ghost use Rattle.fs_path.specs.declared.field.FieldPath.{FieldPath};
 ghost use Rattle.fs_json.specs.Answer.{Gives};
-ghost use Rattle.serde_json.specs.View.{items_view, view as json};
+ghost use Rattle.serde_json.specs.View.{view as json};
 ghost use Rattle.fs_write.specs.declared.write.Act.{Act as Acted};
 ghost use Rattle.fs_writejson.specs.Draft.{Beside as Told, act_at, beside_at, draft_at, draft_of, drafts_at, mask_in, with_mask};
 ghost use Rattle.fs_writejson.specs.Rules.{write_at};
 ghost use Rattle.fs_writejson.specs.Valid.{IsDraftOf, IsWriteOf};
-ghost use Rattle.fs_json.specs.Walk.{each_at};
 
 use crate::condition::read_condition_of;
 use crate::draft::{Draft, Drafts};
@@ -17,7 +16,7 @@ use crate::mask::read_mask;
 use crate::names::{DELETE, UNBUILT_MEMBERS, UPDATE, UPDATE_MASK, WRITE_MEMBERS};
 use crate::rules::permitted;
 use crate::transform::read_transforms_of;
-use fs_json::{Bad, document_name, list, member, only, refuse_unbuilt};
+use fs_json::{Bad, ReadsItem, member, only, read_document_name, read_each, refuse_unbuilt};
 use fs_path::{Paths, Root, Rule, Way};
 use fs_valjson::read_document;
 use fs_write::{Act, Precondition, Transforms, Write};
@@ -25,37 +24,41 @@ use serde_json::Value;
 use std::alloc::Global;
 
 /// Reads one write: the walk, and then the rules of writes, which are told at its place. (v1 reference, "Write".)
-pub fn read_write(alloc: Global, root: &Root, v: &Value, place: &Way<'_>) -> Result<Write, Bad>
-    ensures gives { Gives (λ w. w) result (write_at root.now (json v.now) (place_of place.now)) }
+pub fn read_write(alloc: Global, root: &Root, v: &Value, way: &Way<'_>) -> Result<Write, Bad>
+    ensures gives { Gives (λ w. w) result (write_at root.now (json v.now) (place_of way.now)) }
 
     // It writes a document of the root, its references are names of documents, and it breaks no rule.
     ensures valid { IfOk result (λ w. IsWriteOf root.now w) }
 {
-    let draft = read_draft(alloc, root, v, place)?;
-    permitted(alloc, draft, place)
+    let draft = read_draft(alloc, root, v, way)?;
+    permitted(alloc, draft, way)
 }
 
 /// Reads the writes of a commit, each walked whole before the next. Their rules are tested by `judge`, since they come
 /// after the walk of the whole request.
-pub fn read_drafts(alloc: Global, root: &Root, v: &Value, place: &Way<'_>) -> Result<Drafts, Bad>
-    ensures gives { Gives (λ ds. ds) result (drafts_at root.now (json v.now) (place_of place.now)) }
+pub fn read_drafts(alloc: Global, root: &Root, v: &Value, way: &Way<'_>) -> Result<Drafts, Bad>
+    ensures gives { Gives (λ ds. ds) result (drafts_at root.now (json v.now) (place_of way.now)) }
 
     // Each writes a document of the root, and its references are names of documents.
     ensures valid { IfOk result (λ ds. AllByRecursion (IsDraftOf root.now) ds) }
 {
-    read_items(alloc, root, list(alloc, v, place)?, place)
+    read_each(alloc, &DraftReader { root }, v, way)
 }
 
-fn read_items(alloc: Global, root: &Root, items: &[Value], place: &Way<'_>) -> Result<Drafts, Bad>
-    ensures { Gives (λ ds. ds) result
-        (each_at (draft_at root.now) (items_view items.now) 0 (place_of place.now)) }
-{
-    let mut drafts = Drafts::new(alloc);
-    for (i, item) in items.iter().enumerate() {
-        let draft = read_draft(alloc, root, item, &place.item(i as u64))?;
-        drafts.push(draft)?;
+/// Reads a write of a list, whose document is one of the root.
+#[derive(Drop)]
+struct DraftReader<'a> {
+    root: &'a Root,
+}
+
+impl ReadsItem for DraftReader<'_> {
+    type Item = Draft;
+
+    ghost reading = { λ reader. draft_at reader.root.now };
+
+    fn read(&self, alloc: Global, item: &Value, way: &Way<'_>) -> Result<Draft, Bad> {
+        read_draft(alloc, self.root, item, way)
     }
-    Ok(drafts)
 }
 
 /// The walk of a write.
@@ -64,14 +67,14 @@ fn read_items(alloc: Global, root: &Root, items: &[Value], place: &Way<'_>) -> R
 /// and where the name is good at `x.updateMask.fieldPaths[0]`. `{"delete":1,"verify":"a"}` is refused at `x.delete`, and
 /// where that is a name, `verify` is told as not built.
 #[tactic(auto, unfolding(crate::specs::Draft::draft_at))]
-fn read_draft(alloc: Global, root: &Root, v: &Value, place: &Way<'_>) -> Result<Draft, Bad>
-    ensures { Gives (λ d. d) result (draft_at root.now (json v.now) (place_of place.now)) }
+fn read_draft(alloc: Global, root: &Root, v: &Value, way: &Way<'_>) -> Result<Draft, Bad>
+    ensures { Gives (λ d. d) result (draft_at root.now (json v.now) (place_of way.now)) }
 {
-    only(alloc, v, &WRITE_MEMBERS, place)?;
-    let update = member(alloc, v, UPDATE, place)?;
-    let delete = member(alloc, v, DELETE, place)?;
-    let act = read_act(alloc, root, v, place, update, delete)?;
-    match read_beside(alloc, v, place) {
+    only(alloc, v, &WRITE_MEMBERS, way)?;
+    let update = member(alloc, v, UPDATE, way)?;
+    let delete = member(alloc, v, DELETE, way)?;
+    let act = read_act(alloc, root, v, way, update, delete)?;
+    match read_beside(alloc, v, way) {
         Ok(beside) => Ok(draft_of(act, beside)),
         Err(bad) => {
             drop(act);
@@ -89,14 +92,14 @@ struct Beside {
     condition: Precondition,
 }
 
-fn read_beside(alloc: Global, v: &Value, place: &Way<'_>) -> Result<Beside, Bad>
+fn read_beside(alloc: Global, v: &Value, way: &Way<'_>) -> Result<Beside, Bad>
     ensures { Gives {Y = Told} (λ b. record { mask = b.mask; transforms = (b.transforms, b.is_numeric); condition = b.condition })
-        result (beside_at (json v.now) (place_of place.now)) }
+        result (beside_at (json v.now) (place_of way.now)) }
 {
-    refuse_unbuilt(alloc, v, &UNBUILT_MEMBERS, place)?;
-    let mask = read_mask_of(alloc, v, place)?;
-    let (transforms, is_numeric) = read_transforms_of(alloc, v, place)?;
-    let condition = read_condition_of(alloc, v, place)?;
+    refuse_unbuilt(alloc, v, &UNBUILT_MEMBERS, way)?;
+    let mask = read_mask_of(alloc, v, way)?;
+    let (transforms, is_numeric) = read_transforms_of(alloc, v, way)?;
+    let condition = read_condition_of(alloc, v, way)?;
     Ok(Beside {
         mask,
         transforms,
@@ -121,43 +124,44 @@ fn draft_of(act: Act, beside: Beside) -> Draft
 }
 
 /// What a write does: just one of an update, which has no mask yet, and a delete.
+/// (docs/DECISIONS.md, "A write has to have exactly one of `update` and `delete`".)
 fn read_act(
     alloc: Global,
     root: &Root,
     v: &Value,
-    place: &Way<'_>,
+    way: &Way<'_>,
     update: Option<&Value>,
     delete: Option<&Value>,
 ) -> Result<Act, Bad>
-    ensures { Gives (λ a. a) result (act_at root.now (json v.now) (place_of place.now)
+    ensures { Gives (λ a. a) result (act_at root.now (json v.now) (place_of way.now)
         (option_map (λ x. json x.now) update.entry) (option_map (λ x. json x.now) delete.entry)) }
 {
     match (update, delete) {
         (Some(document), None) => {
-            let document = read_document(alloc, root, document, &place.member(UPDATE))?;
+            let document = read_document(alloc, root, document, &way.member(UPDATE))?;
             Ok(Act::Set {
                 name: document.name,
                 fields: document.fields,
             })
         }
         (None, Some(name)) => {
-            let name = document_name(alloc, root, name, &place.member(DELETE))?;
+            let name = read_document_name(alloc, root, name, &way.member(DELETE))?;
             Ok(Act::Delete { name })
         }
         (None, None) => {
-            refuse_unbuilt(alloc, v, &UNBUILT_MEMBERS, place)?;
-            Err(Bad::at(alloc, Rule::E(1), place))
+            refuse_unbuilt(alloc, v, &UNBUILT_MEMBERS, way)?;
+            Err(Bad::at(alloc, Rule::E(1), way))
         }
-        (Some(_), Some(_)) => Err(Bad::at(alloc, Rule::E(1), place)),
+        (Some(_), Some(_)) => Err(Bad::at(alloc, Rule::E(1), way)),
     }
 }
 
-fn read_mask_of(alloc: Global, write: &Value, place: &Way<'_>) -> Result<Option<Paths>, Bad>
+fn read_mask_of(alloc: Global, write: &Value, way: &Way<'_>) -> Result<Option<Paths>, Bad>
     ensures { Gives {Y = Option (List FieldPath)} (λ mask. mask) result
-        (mask_in (json write.now) (place_of place.now)) }
+        (mask_in (json write.now) (place_of way.now)) }
 {
-    match member(alloc, write, UPDATE_MASK, place)? {
-        Some(mask) => Ok(Some(read_mask(alloc, mask, &place.member(UPDATE_MASK))?)),
+    match member(alloc, write, UPDATE_MASK, way)? {
+        Some(mask) => Ok(Some(read_mask(alloc, mask, &way.member(UPDATE_MASK))?)),
         None => Ok(None),
     }
 }

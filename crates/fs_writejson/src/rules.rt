@@ -17,35 +17,36 @@ use std::alloc::{AllocError, Global};
 /// list, with the least of its rules. 2: two paths of the mask are equal, or one begins the other, also in a mask that a
 /// delete may not have. 3: a delete with a mask or transforms. 4: the operand of `increment`, `maximum` or `minimum` isn't
 /// an integer. Then those that `fs_write::check` tells.
-pub fn judge(alloc: Global, drafts: Drafts, place: &Way<'_>) -> Result<Writes, Bad>
-    ensures gives { Gives (λ ws. ws) result (judged_at drafts (place_of place.now)) }
+/// (docs/DECISIONS.md, "The rules for a write's fields are tested after the whole request was walked".)
+pub fn judge(alloc: Global, drafts: Drafts, way: &Way<'_>) -> Result<Writes, Bad>
+    ensures gives { Gives (λ ws. ws) result (judged_at drafts (place_of way.now)) }
 
     // Drafts of the root's documents, whose references are names of documents, are then writes that are read back.
     ensures valid { (root : Root) → AllByRecursion (IsDraftOf root) drafts
         → IfOk result (λ ws. AllByRecursion (IsWriteOf root) ws) }
 {
-    refuse_broken(alloc, drafts.as_slice(), place)?;
+    refuse_broken(alloc, drafts.as_slice(), way)?;
     let writes = drafts.into_vec().into_iter().map(|draft| draft.write);
     Ok(Writes::of(writes.collect(alloc)?))
 }
 
-fn refuse_broken(alloc: Global, drafts: &[Draft], place: &Way<'_>) -> Result<(), Bad>
-    ensures { Gives (λ u. u) result (rules_at drafts.now 0 (place_of place.now)) }
+fn refuse_broken(alloc: Global, drafts: &[Draft], way: &Way<'_>) -> Result<(), Bad>
+    ensures { Gives (λ u. u) result (rules_at drafts.now 0 (place_of way.now)) }
 {
     for (i, draft) in drafts.iter().enumerate() {
         if let Some(rule) = rule_of_draft(alloc, draft)? {
-            return Err(Bad::at(alloc, Rule::E(rule), &place.item(i as u64)));
+            return Err(Bad::at(alloc, Rule::E(rule), &way.item(i as u64)));
         }
     }
     Ok(())
 }
 
 /// The write of a draft that breaks no rule.
-pub(crate) fn permitted(alloc: Global, draft: Draft, place: &Way<'_>) -> Result<Write, Bad>
-    ensures { Gives (λ w. w) result (permitted_at draft (place_of place.now)) }
+pub(crate) fn permitted(alloc: Global, draft: Draft, way: &Way<'_>) -> Result<Write, Bad>
+    ensures { Gives (λ w. w) result (permitted_at draft (place_of way.now)) }
 {
     match rule_of_draft(alloc, &draft)? {
-        Some(rule) => Err(Bad::at(alloc, Rule::E(rule), place)),
+        Some(rule) => Err(Bad::at(alloc, Rule::E(rule), way)),
         None => Ok(draft.write),
     }
 }

@@ -4,7 +4,7 @@ ghost use Rattle.fs_path.specs.declared.name.Root.{Root};
 ghost use Rattle.serde_json.specs.Data.{put};
 ghost use Rattle.serde_json.specs.View.{members_view, view as json};
 ghost use Rattle.serde_json.specs.Written.{has_float};
-ghost use Rattle.fs_valjson.specs.Writing.{with_one};
+ghost use Rattle.fs_json.specs.Members.{with_one};
 ghost use Rattle.fs_writejson.specs.Rules.{write_at};
 ghost use Rattle.fs_writejson.specs.Held.{IsActHeld, IsConditionHeld};
 ghost use Rattle.fs_writejson.specs.Steps.{with_act_put, with_condition_put};

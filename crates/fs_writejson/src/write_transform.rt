@@ -10,7 +10,7 @@ use crate::names::{
     APPEND_MISSING_ELEMENTS, FIELD_PATH, INCREMENT, MAXIMUM, MINIMUM, REMOVE_ALL_FROM_ARRAY,
     REQUEST_TIME, SET_TO_SERVER_VALUE, UPDATE_TRANSFORMS,
 };
-use fs_path::print_field;
+use fs_json::write_field_path;
 use fs_valjson::{write_array, write_value};
 use fs_value::Value as Operand;
 use fs_write::{Operation, Transform, Transforms};
@@ -50,8 +50,8 @@ fn write_transform(alloc: Global, transform: &Transform) -> Result<Value, AllocE
     ensures held { OnOk result (IsTransformHeld transform.now) }
 {
     let mut members = Map::new(alloc);
-    let path = print_field(alloc, &transform.path)?.into_string();
-    serde_json::put(&mut members, alloc, FIELD_PATH, Value::String(path))?;
+    let path = write_field_path(alloc, &transform.path)?;
+    serde_json::put(&mut members, alloc, FIELD_PATH, path)?;
     let operand = write_operation(alloc, &transform.operation)?;
     serde_json::put(
         &mut members,

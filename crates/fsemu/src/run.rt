@@ -11,6 +11,7 @@ use std::alloc::Global;
 
 /// Runs the program on the words of its command line. `replay` reads a script from the source to its end, carries it
 /// out, and writes the transcript to the sink. All other words are no command: nothing is read or written then.
+/// (docs/DECISIONS.md, "`run` takes the doors and the clock though no command uses them yet".)
 pub fn run<Rt, S: Source, K: Sink, D: Doors, C: Clock>(
     _rt: &Rt,
     alloc: Global,

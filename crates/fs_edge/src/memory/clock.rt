@@ -2,31 +2,12 @@
 ghost use Rattle.std.specs.Prelude.{◌≡◌, ◌<◌, length, Some};
 
 use crate::clock::Clock;
+use fs_path::List;
 use fs_time::Micros;
 use std::marker::Model;
 
 /// Moments in order.
-#[derive(Drop)]
-pub struct Moments {
-    items: Vec<Micros>,
-}
-
-impl Model for Moments {
-    ghost use Rattle.std.specs.Prelude.{List, ℤ};
-
-    ghost Value = { List ℤ };
-
-    ghost view = { λ m. m.items.items };
-}
-
-impl Moments {
-    /// These moments, the first first.
-    pub fn of(items: Vec<Micros>) -> Moments
-        ensures { result ≡ items.items }
-    {
-        Moments { items }
-    }
-}
+pub type Moments = List<Micros>;
 
 /// A clock in memory. It tells its moments in order, and the last of them again and again.
 #[derive(Drop)]
@@ -59,8 +40,9 @@ impl Clock for MemoryClock {
     ghost to_tell = { λ c. Some c };
 
     fn now(&mut self) -> Micros {
-        let now = self.moments.items[self.at];
-        if self.at + 1 < self.moments.items.len() {
+        let moments = self.moments.as_slice();
+        let now = moments[self.at];
+        if self.at + 1 < moments.len() {
             self.at += 1;
         }
         now

@@ -54,8 +54,8 @@ fn query_of(rt: &impl Abort, alloc: Global, ask: Ask, v: &Value) -> Result<Query
 }
 
 // Asserts that both checks tell the same of a query that is walked.
-fn check_walked(rt: &impl Abort, alloc: Global, parent: &Ids, v: &Value, place: &Way<'_>) {
-    match walk_query(alloc, parent, v, place) {
+fn check_walked(rt: &impl Abort, alloc: Global, parent: &Ids, v: &Value, way: &Way<'_>) {
+    match walk_query(alloc, parent, v, way) {
         Ok(query) => {
             let _rule = rule_of(rt, alloc, &query);
             drop(query);

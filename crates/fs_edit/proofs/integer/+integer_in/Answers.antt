@@ -6,7 +6,8 @@ use Rattle.fs_edit.specs.Below.{value_below}
 use Rattle.fs_edit.specs.Numbers.{integer_in}
 use Rattle.fs_edit.specs.OpenView.{open_view}
 use Rattle.fs_edit.proofs.Entries.{found}
-use Rattle.fs_edit.proofs.Steps.{rest, get_more, get_map, get_array}
+use Rattle.fs_value.proofs.PathSteps.{rest}
+use Rattle.fs_edit.proofs.Steps.{get_more, get_map, get_array}
 use Rattle.fs_edit.proofs.integer.+integer_in.Goals as goal
 
 pub returns-in_err-value-in-len1-up : goal.returns-in_err-value-in-len1-up

@@ -8,7 +8,9 @@ use Rattle.fs_edit.specs.FieldChange.{value_made, value_changed}
 use Rattle.fs_edit.specs.OpenView.{open_view, entry_view}
 use Rattle.fs_edit.specs.declared.open_fields.Open.{Open}
 use Rattle.fs_edit.proofs.Entries.{found}
-use Rattle.fs_edit.proofs.Steps.{OnOk-map, rest, change_there, change_missing}
+use Rattle.std.proofs.lemmas.Result.{on_ok_weaker}
+use Rattle.fs_value.proofs.PathSteps.{rest}
+use Rattle.fs_edit.proofs.Steps.{change_there, change_missing}
 use Rattle.fs_edit.proofs.set.+change.Goals as goal
 
 pub change_at-returns-in_ok-changed_inside-in-Some : goal.change_at-returns-in_ok-changed_inside-in-Some
@@ -30,6 +32,6 @@ change_at-returns-in-None t c =
     let key = c.key-item.result in
     let none = ap (find text_cmp key) (sym c.fields.view_is) ∙ found c.fields.inside.entries.entries key ∙ ap (option_map open_view) (sym c.in-None.ensures.value) in
     let same = ap (λ (m : BTreeMap (List ℕ) Open). map entry_view m.entries) c.get_mut.follows.holds-at-none ∙ c.fields.view_is in
-    OnOk-map c.change_absent.result
+    on_ok_weaker c.change_absent.result
     (change_missing names key c.args.change c.args.fields.now _ _ more c.key-item.is none same)
     c.change_absent.ensures

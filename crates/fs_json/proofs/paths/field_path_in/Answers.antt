@@ -2,7 +2,7 @@ use Rattle.std.proofs.Common.{◌≡◌, Ok, Err, ap, ◌∙◌}
 use Rattle.std.proofs.lemmas.Result.{IfOk-weaker, IfErr-weaker}
 use Rattle.fs_path.specs.Refusal.{IsMemory}
 use Rattle.fs_json.specs.Paths.{field_path_of, named}
-use Rattle.fs_json.specs.FieldPathLaws.{path_of-is}
+use Rattle.fs_json.proofs.FieldPaths.{path_of-is}
 use Rattle.fs_json.proofs.paths.field_path_in.Goals as goal
 
 pub returns-clause-ok : goal.returns-clause-ok

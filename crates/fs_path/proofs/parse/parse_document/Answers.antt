@@ -1,6 +1,5 @@
 use Rattle.std.proofs.lemmas.Result.{IfOk-weaker}
-use Rattle.fs_path.specs.DocumentLaws.{document_only}
-use Rattle.fs_path.proofs.Documents.{document_found, bad_document}
+use Rattle.fs_path.proofs.Documents.{document_found, document_only, bad_document}
 use Rattle.fs_path.proofs.parse.parse_document.Goals as goal
 
 pub returns-clause-found : goal.returns-clause-found

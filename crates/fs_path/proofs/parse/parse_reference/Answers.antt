@@ -1,6 +1,5 @@
 use Rattle.std.proofs.lemmas.Result.{IfOk-weaker}
-use Rattle.fs_path.specs.DocumentLaws.{reference_only}
-use Rattle.fs_path.proofs.Documents.{reference_found, bad_reference}
+use Rattle.fs_path.proofs.Documents.{reference_found, reference_only, bad_reference}
 use Rattle.fs_path.proofs.parse.parse_reference.Goals as goal
 
 pub returns-clause-found : goal.returns-clause-found

@@ -1,5 +1,5 @@
 use Rattle.std.proofs.lemmas.Result.{IfOk-weaker}
-use Rattle.fs_path.specs.DocumentLaws.{reference_only, document_only}
+use Rattle.fs_path.proofs.Documents.{reference_only, document_only}
 use Rattle.fs_path.proofs.print.print_document.Goals as goal
 
 pub returns-clause-again : goal.returns-clause-again

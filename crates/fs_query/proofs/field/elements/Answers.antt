@@ -1,6 +1,6 @@
 use Rattle.std.proofs.Common.{sym, ap, ◌∙◌}
-use Rattle.fs_query.proofs.Elements.{list_of-items_of}
-use Rattle.fs_query.specs.Elements.{elements}
+use Rattle.fs_value.specs.DataLaws.{list_of-items_of}
+use Rattle.fs_value.specs.Elements.{elements}
 use Rattle.fs_value.specs.View.{view}
 use Rattle.fs_query.proofs.field.elements.Goals as goal
 

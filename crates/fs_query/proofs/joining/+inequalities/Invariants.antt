@@ -1,6 +1,6 @@
 use Rattle.std.proofs.Common.{◌≡◌, ◌++◌, map, take}
 use Rattle.fs_query.specs.Condition.{conditions_of}
-use Rattle.fs_query.specs.SortedPaths.{paths_at}
+use Rattle.fs_path.specs.FieldOrder.{paths_at}
 use Rattle.fs_query.specs.Normal.{inequality_paths_of}
 use Rattle.fs_query.specs.View.{view}
 use Rattle.fs_query.proofs.joining.+inequalities.Given as goal

@@ -1,5 +1,6 @@
 use Rattle.std.proofs.Common.{◌≡◌, take}
-use Rattle.fs_query.specs.SortedPaths.{paths_at, paths_of}
+use Rattle.fs_path.specs.FieldOrder.{paths_at}
+use Rattle.fs_query.specs.SortedPaths.{paths_of}
 use Rattle.fs_query.proofs.joining.given_paths.Given as goal
 
 -- the paths of the orders so far

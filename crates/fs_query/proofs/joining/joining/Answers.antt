@@ -4,10 +4,12 @@ use Rattle.std.specs.List.Sorted.{IsPermutation}
 use Rattle.std.proofs.lemmas.List.Filters.{dedup_is}
 use Rattle.std.proofs.lemmas.List.Sorted.{IsPermutation-map}
 use Rattle.std.proofs.lemmas.Result.{IfOk-weaker}
-use Rattle.fs_query.specs.SortedPaths.{same_path, paths_at, paths_of, joins_given}
+use Rattle.fs_path.specs.FieldOrder.{paths_at}
+use Rattle.fs_query.specs.SortedPaths.{same_path, paths_of, joins_given}
 use Rattle.fs_query.specs.Normal.{inequality_paths, joining}
 use Rattle.fs_query.specs.View.{view}
-use Rattle.fs_query.proofs.PathsInOrder.{joining_is, once_at, rise_at}
+use Rattle.fs_path.proofs.FieldOrder.{sorted_at}
+use Rattle.fs_query.proofs.PathsInOrder.{joining_is, once_at}
 use Rattle.fs_query.proofs.joining.joining.Goals as goal
 
 pub returns : goal.returns
@@ -29,5 +31,5 @@ returns c =
     ap (λ refs. filter (joins_given (paths_at refs)) (paths_at c.as_slice-3.result.now)) c.as_slice-2.ensures.value
     ∙ ap (λ refs. filter (joins_given given) (paths_at refs)) c.as_slice-3.ensures.value
     ∙ ap (filter (joins_given given)) once
-    ∙ joining_is q.orders given (inequality_paths q.filter) (paths_at sorted) moved shuffled (rise_at sorted c.in_ok-sort.ensures.sorted) in
+    ∙ joining_is q.orders given (inequality_paths q.filter) (paths_at sorted) moved shuffled (sorted_at sorted c.in_ok-sort.ensures.sorted) in
     IfOk-weaker c.not_given.result (λ v. paths_at v.items ≡ filter (joins_given (paths_at c.as_slice-2.result.now)) (paths_at c.as_slice-3.result.now)) (λ v. paths_at v.items ≡ joining q) (λ v e. e ∙ all) c.not_given.ensures

@@ -1,5 +1,6 @@
 use Rattle.std.proofs.Common.{◌≡◌, ◌-◌, drop}
-use Rattle.fs_query.specs.SortedPaths.{paths_at, neighbours_same}
+use Rattle.fs_path.specs.FieldOrder.{paths_at}
+use Rattle.fs_query.specs.SortedPaths.{neighbours_same}
 use Rattle.fs_query.proofs.joining.neighbours_same.Given as goal
 
 -- no path so far is the one before it, so the rest decides

@@ -1,6 +1,7 @@
 use Rattle.std.proofs.Common.{◌≡◌, take}
 use Rattle.std.specs.List.{filter}
-use Rattle.fs_query.specs.SortedPaths.{paths_at, joins_given}
+use Rattle.fs_path.specs.FieldOrder.{paths_at}
+use Rattle.fs_query.specs.SortedPaths.{joins_given}
 use Rattle.fs_query.proofs.joining.not_given.Given as goal
 
 -- those of the paths so far

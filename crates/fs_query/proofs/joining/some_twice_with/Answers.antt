@@ -1,5 +1,6 @@
 use Rattle.std.proofs.Common.{ap, ◌∙◌}
-use Rattle.fs_query.specs.SortedPaths.{paths_at, neighbours_same}
+use Rattle.fs_path.specs.FieldOrder.{paths_at}
+use Rattle.fs_query.specs.SortedPaths.{neighbours_same}
 use Rattle.fs_query.proofs.PathsInOrder.{twice_sorted}
 use Rattle.fs_query.proofs.joining.some_twice_with.Goals as goal
 

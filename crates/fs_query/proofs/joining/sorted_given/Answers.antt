@@ -1,7 +1,7 @@
 use Rattle.std.proofs.Common.{subst}
 use Rattle.std.specs.List.Sorted.{IsPermutation}
 use Rattle.std.proofs.lemmas.List.Sorted.{IsPermutation-map}
-use Rattle.fs_query.specs.SortedPaths.{paths_at}
+use Rattle.fs_path.specs.FieldOrder.{paths_at}
 use Rattle.fs_query.proofs.joining.sorted_given.Goals as goal
 
 pub returns-clause-same : goal.returns-clause-same

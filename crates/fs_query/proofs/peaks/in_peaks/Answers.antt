@@ -1,7 +1,7 @@
 use Rattle.std.proofs.Common.{length, ap, sym, ◌∙◌}
 use Rattle.std.proofs.lemmas.List.{length-map}
 use Rattle.fs_value.specs.View.{view as value_view}
-use Rattle.fs_query.specs.Elements.{elements}
+use Rattle.fs_value.specs.Elements.{elements}
 use Rattle.fs_query.proofs.PeakProducts.{in_peaks}
 use Rattle.fs_query.proofs.peaks.in_peaks.Goals as goal
 

@@ -1,5 +1,5 @@
 use Rattle.std.proofs.Common.{◌≡◌, ◌++◌, map, take}
-use Rattle.fs_query.specs.SortedPaths.{paths_at}
+use Rattle.fs_path.specs.FieldOrder.{paths_at}
 use Rattle.fs_query.specs.Normal.{joined}
 use Rattle.fs_query.proofs.whole_order.push_joined.Given as goal
 

@@ -3,9 +3,10 @@ use Rattle.std.proofs.lemmas.List.{drop_more}
 use Rattle.serde_json.specs.View.{view as json, items_view}
 use Rattle.fs_path.specs.Place.{item_place}
 use Rattle.fs_path.specs.Way.{place_of}
-use Rattle.fs_json.specs.DepthLaws.{at_most_one_falls, last_ok, one_of_falls, item_falls}
+use Rattle.fs_json.proofs.Depths.{at_most_one_falls, one_of_falls, item_falls}
+use Rattle.fs_json.proofs.Readings.{last_ok}
+use Rattle.fs_json.proofs.Walks.{behind}
 use Rattle.fs_json.specs.Members.{one_of_at, only_at}
-use Rattle.fs_json.specs.WalkLaws.{behind}
 use Rattle.fs_query.specs.View.{view}
 use Rattle.fs_queryjson.specs.Filter.{each_filter_at, filter_at, filter_kinds, inner_members}
 use Rattle.fs_queryjson.specs.Steps.{the_filter, the_inner}
@@ -16,32 +17,32 @@ use Rattle.fs_queryjson.proofs.filter.+filter.Goals as goal
 pub read_filter-read_kind-requires : goal.read_filter-read_kind-requires
 read_filter-read_kind-requires t c =
     let d = json c.args.v.now in
-    let place = place_of c.args.place.now in
+    let place = place_of c.args.way.now in
     let both : the_filter d place ≡ Ok (c.in_ok-name.name.now, json c.in_ok-name.content.now) = c.in_ok-name.ensures in
     let found = last_ok (only_at filter_kinds d place) (one_of_at filter_kinds d place) _ both in
     (omega (arith, one_of_falls filter_kinds d place _ found), tt)
 
 pub read_filter-returns-in_err-name : goal.read_filter-returns-in_err-name
-read_filter-returns-in_err-name t c = rw (filter_at-steps (json c.args.v.now) (place_of c.args.place.now)) (search rules)
+read_filter-returns-in_err-name t c = rw (filter_at-steps (json c.args.v.now) (place_of c.args.way.now)) (search rules)
 
 pub read_filter-returns : goal.read_filter-returns
-read_filter-returns t c = rw (filter_at-steps (json c.args.v.now) (place_of c.args.place.now)) (search rules)
+read_filter-returns t c = rw (filter_at-steps (json c.args.v.now) (place_of c.args.way.now)) (search rules)
 
 pub read_inner-read_filters-requires : goal.read_inner-read_filters-requires
 read_inner-read_filters-requires t c =
     let d = json c.args.v.now in
-    let place = place_of c.args.place.now in
+    let place = place_of c.args.way.now in
     let found : the_inner d place ≡ Ok (Some (c.in-Some.name.now, json c.in-Some.content.now)) = search rules in
     (omega (arith, at_most_one_falls inner_members d place _ found), tt)
 
 pub read_inner-returns-in_err-name : goal.read_inner-returns-in_err-name
-read_inner-returns-in_err-name t c = rw (inner_at-steps (json c.args.v.now) (place_of c.args.place.now)) (search rules)
+read_inner-returns-in_err-name t c = rw (inner_at-steps (json c.args.v.now) (place_of c.args.way.now)) (search rules)
 
 pub read_inner-returns-in-Some : goal.read_inner-returns-in-Some
-read_inner-returns-in-Some t c = rw (inner_at-steps (json c.args.v.now) (place_of c.args.place.now)) (search rules)
+read_inner-returns-in-Some t c = rw (inner_at-steps (json c.args.v.now) (place_of c.args.way.now)) (search rules)
 
 pub read_inner-returns-in-None : goal.read_inner-returns-in-None
-read_inner-returns-in-None t c = rw (inner_at-steps (json c.args.v.now) (place_of c.args.place.now)) (search rules)
+read_inner-returns-in-None t c = rw (inner_at-steps (json c.args.v.now) (place_of c.args.way.now)) (search rules)
 
 pub read_items-read_filter-requires : goal.read_items-read_filter-requires
 read_items-read_filter-requires t c =
@@ -50,7 +51,7 @@ read_items-read_filter-requires t c =
 pub read_items-loop-i-preserved : goal.read_items-loop-i-preserved
 read_items-loop-i-preserved t c =
     let items = c.args.items.now in
-    let place = place_of c.args.place.now in
+    let place = place_of c.args.way.now in
     let i = c.loop-i.i in
     let x = c.index-items-i.result in
     let here : drop i items ≡ x ∷ drop (i + 1) items = drop_more items i x (omega arith) ∙ ap (λ y. y ∷ drop (i + 1) items) (sym c.index-items-i.is) in

@@ -2,7 +2,7 @@ use Rattle.std.proofs.Common.{◌≡◌, ◌+◌, ◌*◌, drop}
 use Rattle.serde_json.specs.Data.{depth, items_depth}
 use Rattle.serde_json.specs.View.{view as json, items_view}
 use Rattle.fs_path.specs.Way.{place_of}
-use Rattle.fs_json.specs.WalkLaws.{behind}
+use Rattle.fs_json.proofs.Walks.{behind}
 use Rattle.fs_queryjson.specs.Filter.{each_filter_at}
 use Rattle.fs_queryjson.proofs.filter.+filter.Given as goal
 
@@ -27,4 +27,4 @@ decreases-read_items l = 3 * items_depth (items_view l.items.now) + 1
 -- the filters so far, and the reading of the rest
 abbrev pub invariant-read_items-loop-i : goal.invariant-read_items-loop-i
 invariant-read_items-loop-i l =
-    behind l.filters (each_filter_at (items_view (drop l.i l.items)) l.i (place_of l.place)) ≡ each_filter_at (items_view l.items) 0 (place_of l.place)
+    behind l.filters (each_filter_at (items_view (drop l.i l.items)) l.i (place_of l.way)) ≡ each_filter_at (items_view l.items) 0 (place_of l.way)

@@ -3,7 +3,7 @@ use Rattle.serde_json.specs.Data.{no_members, object}
 use Rattle.serde_json.specs.View.{members_view}
 use Rattle.serde_json.specs.Written.{has_float}
 use Rattle.serde_json.proofs.Views.{view-Object}
-use Rattle.fs_queryjson.specs.From.{parent_of}
+use Rattle.fs_path.specs.Scope.{scope_parent}
 use Rattle.fs_queryjson.specs.Query.{query_at}
 use Rattle.fs_queryjson.specs.Written.{query_json, query_parts}
 use Rattle.fs_queryjson.proofs.Again.{query_again}
@@ -24,4 +24,4 @@ returns-clause-no_float c = ap has_float (returns-clause-value c) ∙ query_floa
 pub returns-clause-reads_back : goal.returns-clause-reads_back
 returns-clause-reads_back c = λ place valid.
     let q = c.args.q.now in
-    ap (λ d. query_at (parent_of q.scope) d place) (returns-clause-value c) ∙ query_again q place c.in_ok-put_last.ensures.held c.in_ok-put_first.ensures.held valid
+    ap (λ d. query_at (scope_parent q.scope) d place) (returns-clause-value c) ∙ query_again q place c.in_ok-put_last.ensures.held c.in_ok-put_first.ensures.held valid

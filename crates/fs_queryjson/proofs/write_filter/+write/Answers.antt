@@ -1,4 +1,5 @@
-use Rattle.fs_queryjson.proofs.Written.{one_filter, items_push, held_push, on_ok_always}
+use Rattle.fs_json.proofs.Writings.{on_ok_always}
+use Rattle.fs_queryjson.proofs.Written.{one_filter, items_push, held_push}
 use Rattle.fs_queryjson.proofs.write_filter.+write.Goals as goal
 
 pub write_filter-returns-in_ok-write_compare-in-Field-clause-held : goal.write_filter-returns-in_ok-write_compare-in-Field-clause-held

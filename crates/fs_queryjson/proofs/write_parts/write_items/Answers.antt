@@ -1,6 +1,6 @@
-use Rattle.fs_json.specs.WrittenLaws.{all_next, written_next}
+use Rattle.fs_json.proofs.Writings.{all_next, written_next}
+use Rattle.fs_json.specs.Paths.{IsPathHeld}
 use Rattle.fs_queryjson.specs.Field.{field_json}
-use Rattle.fs_queryjson.specs.Held.{IsPathHeld}
 use Rattle.fs_queryjson.proofs.write_parts.write_items.Goals as goal
 
 pub loop-path-preserved : goal.loop-path-preserved

@@ -1,4 +1,4 @@
-use Rattle.fs_json.specs.WrittenLaws.{all_next, written_next}
+use Rattle.fs_json.proofs.Writings.{all_next, written_next}
 use Rattle.fs_queryjson.specs.Order.{order_json}
 use Rattle.fs_queryjson.specs.Held.{IsOrderHeld}
 use Rattle.fs_queryjson.proofs.write_parts.write_orders.Goals as goal

@@ -2,7 +2,7 @@ use Rattle.std.proofs.Common.{◌≡◌, ◌∷◌, ◌++◌, [], OnOk, ap, ◌�
 use Rattle.json.specs.Token.{begin_object, end_object}
 use Rattle.serde_json.specs.Data.{no_members}
 use Rattle.fs_writejson.specs.Results.{result_json, updated_member, with_results}
-use Rattle.fs_valjson.specs.TokenLaws.{around, behind_both, object_tokens}
+use Rattle.fs_valjson.proofs.Tokens.{around, behind_both, object_tokens}
 use Rattle.fs_valjson.specs.Tokens.{member_tokens}
 use Rattle.fs_replay.proofs.Tokens.{transforms_first}
 use Rattle.fs_replay.proofs.commit_line.push_result.Goals as goal

@@ -3,7 +3,7 @@ use Rattle.json.specs.Token.{key}
 use Rattle.serde_json.specs.Data.{array}
 use Rattle.serde_json.specs.View.{items_of}
 use Rattle.fs_writejson.specs.Results.{result_json}
-use Rattle.fs_valjson.specs.TokenLaws.{behind_both}
+use Rattle.fs_valjson.proofs.Tokens.{behind_both}
 use Rattle.fs_valjson.specs.Tokens.{tokens_of}
 use Rattle.fs_replay.proofs.Tokens.{some_results}
 use Rattle.fs_replay.proofs.commit_line.push_results.Goals as goal

@@ -6,7 +6,7 @@ use Rattle.fs_json.specs.Time.{time_json}
 use Rattle.fs_rpc.specs.MessageJson.{with_results}
 use Rattle.fs_time.specs.Rfc3339.{time_text}
 use Rattle.fs_writejson.specs.Results.{result_json}
-use Rattle.fs_valjson.specs.TokenLaws.{around, behind_both, object_tokens}
+use Rattle.fs_valjson.proofs.Tokens.{around, behind_both, object_tokens}
 use Rattle.fs_valjson.specs.Tokens.{member_tokens, text_member}
 use Rattle.fs_replay.proofs.commit_line.push_timed.Goals as goal
 

@@ -1,6 +1,6 @@
 use Rattle.std.proofs.Common.{◌≡◌, ◌∷◌, ◌++◌, [], codes, OnOk, ap, ◌∙◌, subst, rules, refl}
 use Rattle.json.specs.Token.{key}
-use Rattle.fs_valjson.specs.TokenLaws.{behind_both}
+use Rattle.fs_valjson.proofs.Tokens.{behind_both}
 use Rattle.fs_valjson.specs.Tokens.{tokens_of}
 use Rattle.fs_valjson.specs.Writing.{list_json}
 use Rattle.fs_replay.proofs.Tokens.{some_transforms}

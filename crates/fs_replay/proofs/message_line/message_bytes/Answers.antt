@@ -1,6 +1,6 @@
 use Rattle.std.proofs.Common.{◌++◌, ◌∙◌, ap}
 use Rattle.fs_rpc.specs.MessageJson.{message_json_on}
-use Rattle.fs_valjson.specs.TokenLaws.{text_of_tokens}
+use Rattle.fs_valjson.proofs.Tokens.{text_of_tokens}
 use Rattle.fs_valjson.specs.Tokens.{tokens_of}
 use Rattle.fs_replay.proofs.message_line.message_bytes.Goals as goal
 

@@ -2,7 +2,7 @@ use Rattle.std.proofs.Common.{◌≡◌, ◌∷◌, [], codes, OnOk, subst}
 use Rattle.json.specs.Token.{key}
 use Rattle.serde_json.specs.Data.{no_members}
 use Rattle.fs_rpc.specs.MessageJson.{with_id}
-use Rattle.fs_valjson.specs.TokenLaws.{behind_both}
+use Rattle.fs_valjson.proofs.Tokens.{behind_both}
 use Rattle.fs_valjson.specs.Tokens.{member_tokens}
 use Rattle.fs_replay.proofs.message_line.push_head.Goals as goal
 use Rattle.std.proofs.Common.{refl}

@@ -1,7 +1,7 @@
 use Rattle.std.proofs.Common.{◌≡◌, ◌++◌, codes, OnOk, subst}
 use Rattle.json.specs.Token.{begin_object, end_object}
 use Rattle.fs_rpc.specs.MessageJson.{message_members}
-use Rattle.fs_valjson.specs.TokenLaws.{around, behind_both}
+use Rattle.fs_valjson.proofs.Tokens.{around, behind_both}
 use Rattle.fs_valjson.specs.Tokens.{member_tokens, text_member}
 use Rattle.fs_replay.proofs.Tokens.{message_tokens}
 use Rattle.fs_replay.proofs.message_line.push_message.Goals as goal

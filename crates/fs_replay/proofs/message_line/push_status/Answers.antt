@@ -1,7 +1,7 @@
 use Rattle.std.proofs.Common.{◌≡◌, ◌++◌, codes, OnOk, ap, ◌∙◌, subst, refl}
 use Rattle.json.specs.Token.{begin_object, end_object}
 use Rattle.fs_status.specs.Status.{status_text}
-use Rattle.fs_valjson.specs.TokenLaws.{around, behind_both}
+use Rattle.fs_valjson.proofs.Tokens.{around, behind_both}
 use Rattle.fs_valjson.specs.Tokens.{text_member}
 use Rattle.fs_replay.specs.Tokens.{code_member}
 use Rattle.fs_replay.proofs.message_line.push_status.Goals as goal

@@ -2,7 +2,7 @@ use Rattle.std.proofs.Common.{◌≡◌, ◌++◌, codes, OnOk, ap, ◌∙◌, s
 use Rattle.json.specs.Token.{begin_object, end_object}
 use Rattle.fs_path.specs.Document.{document_text}
 use Rattle.fs_time.specs.Rfc3339.{time_text}
-use Rattle.fs_valjson.specs.TokenLaws.{around, behind_both}
+use Rattle.fs_valjson.proofs.Tokens.{around, behind_both}
 use Rattle.fs_valjson.specs.Tokens.{text_member}
 use Rattle.fs_replay.proofs.reads_line.push_missing.Goals as goal
 

@@ -1,7 +1,7 @@
 use Rattle.std.proofs.Common.{◌≡◌, ◌∷◌, ◌++◌, [], codes, OnOk, ap, ◌∙◌, subst, refl}
 use Rattle.json.specs.Token.{begin_array, begin_object, end_array, end_object}
 use Rattle.fs_time.specs.Rfc3339.{time_text}
-use Rattle.fs_valjson.specs.TokenLaws.{around}
+use Rattle.fs_valjson.proofs.Tokens.{around}
 use Rattle.fs_valjson.specs.Tokens.{text_member}
 use Rattle.fs_replay.proofs.reads_line.push_none.Goals as goal
 

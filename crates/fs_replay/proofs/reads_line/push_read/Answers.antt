@@ -4,7 +4,7 @@ use Rattle.serde_json.specs.Data.{member}
 use Rattle.fs_rpc.specs.MessageJson.{read_at}
 use Rattle.fs_time.specs.Rfc3339.{time_text}
 use Rattle.fs_valjson.specs.Document.{document_json}
-use Rattle.fs_valjson.specs.TokenLaws.{around, behind_both, object_tokens}
+use Rattle.fs_valjson.proofs.Tokens.{around, behind_both, object_tokens}
 use Rattle.fs_valjson.specs.Tokens.{text_member, tokens_of}
 use Rattle.fs_replay.proofs.reads_line.push_read.Goals as goal
 

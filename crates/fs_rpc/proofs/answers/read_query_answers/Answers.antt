@@ -1,21 +1,21 @@
 use Rattle.std.proofs.Common.{◌≡◌, ◌+◌, ◌∷◌, Ok, drop, sym, ap, ◌∙◌, arith, rules}
 use Rattle.std.proofs.lemmas.List.{drop_more}
-use Rattle.serde_json.specs.View.{view, items_view}
+use Rattle.serde_json.specs.View.{view as json, items_view}
 use Rattle.fs_path.specs.Place.{item_place}
 use Rattle.fs_path.specs.Way.{place_of}
 use Rattle.fs_json.specs.Walk.{each_at}
-use Rattle.fs_json.specs.WalkLaws.{behind, next_one}
+use Rattle.fs_json.proofs.Walks.{behind, next_one}
 use Rattle.fs_rpc.specs.ReadResults.{query_answer_at}
 use Rattle.fs_rpc.proofs.answers.read_query_answers.Goals as goal
 
 pub loop-i-preserved : goal.loop-i-preserved
 loop-i-preserved c =
     let items = c.args.items.now in
-    let place = place_of c.args.place.now in
+    let place = place_of c.args.way.now in
     let root = c.args.root.now in
     let i = c.loop-i.i in
     let x = c.index-items-i.result in
     let here : drop i items ≡ x ∷ drop (i + 1) items = drop_more items i x (omega arith) ∙ ap (λ y. y ∷ drop (i + 1) items) (sym c.index-items-i.is) in
-    let read : query_answer_at root (view x) (item_place place i) ≡ Ok c.in_ok-answer.answer = search rules in
-    let step = next_one (query_answer_at root) c.loop-i.answers.items (view x) (items_view (drop (i + 1) items)) i place c.in_ok-answer.answer read in
+    let read : query_answer_at root (json x) (item_place place i) ≡ Ok c.in_ok-answer.answer = search rules in
+    let step = next_one (query_answer_at root) c.loop-i.answers.items (json x) (items_view (drop (i + 1) items)) i place c.in_ok-answer.answer read in
     rw c.in_ok-push.ensures.items (sym step ∙ ap (λ ys. behind c.loop-i.answers.items (each_at (query_answer_at root) (items_view ys) i place)) (sym here) ∙ c.loop-i.invariant)

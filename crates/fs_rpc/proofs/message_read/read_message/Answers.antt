@@ -2,7 +2,7 @@ use Rattle.std.proofs.Common.{◌≤◌, arith}
 use Rattle.serde_json.specs.Data.{depth}
 use Rattle.serde_json.specs.Read.{max_depth}
 use Rattle.serde_json.specs.View.{view as json}
-use Rattle.fs_valjson.specs.AnswerLaws.{of_reading}
+use Rattle.fs_json.proofs.Readings.{of_reading}
 use Rattle.fs_rpc.specs.MessageJson.{message_json}
 use Rattle.fs_rpc.specs.ReadMessage.{message_at}
 use Rattle.fs_rpc.specs.ValidMessage.{IsMessageOf}

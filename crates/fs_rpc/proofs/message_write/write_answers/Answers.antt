@@ -1,4 +1,4 @@
-use Rattle.fs_json.specs.WrittenLaws.{all_next, written_next}
+use Rattle.fs_json.proofs.Writings.{all_next, written_next}
 use Rattle.fs_rpc.specs.MessageJson.{batch_answer_json}
 use Rattle.fs_rpc.specs.MessageSteps.{IsAnswerHeld}
 use Rattle.fs_rpc.proofs.message_write.write_answers.Goals as goal

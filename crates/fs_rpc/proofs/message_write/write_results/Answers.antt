@@ -1,4 +1,4 @@
-use Rattle.fs_json.specs.WrittenLaws.{all_next, written_next}
+use Rattle.fs_json.proofs.Writings.{all_next, written_next}
 use Rattle.fs_writejson.specs.Results.{result_json, IsResultHeld}
 use Rattle.fs_rpc.proofs.message_write.write_results.Goals as goal
 

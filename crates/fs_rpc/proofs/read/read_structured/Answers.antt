@@ -1,7 +1,7 @@
 use Rattle.std.proofs.Common.{rules, ◌≡◌, ℤ, Option, Ok, Err, codes, sym, ap, subst, ◌∙◌}
 use Rattle.fs_path.specs.Place.{member_place}
 use Rattle.fs_path.specs.Way.{place_of}
-use Rattle.serde_json.specs.View.{view}
+use Rattle.serde_json.specs.View.{view as json}
 use Rattle.fs_json.specs.Answer.{Gives}
 use Rattle.fs_query.specs.Asked.{Asked}
 use Rattle.fs_queryjson.specs.Query.{permitted_at, walked_at}
@@ -11,18 +11,18 @@ use Rattle.fs_rpc.proofs.read.read_structured.Goals as goal
 
 pub returns-in-Err : goal.returns-in-Err
 returns-in-Err c =
-    let place = place_of c.args.place.now in
-    let d = view c.args.v.now in
-    let s = view c.in_ok-structured.structured.now in
+    let place = place_of c.args.way.now in
+    let d = json c.args.v.now in
+    let s = json c.in_ok-structured.structured.now in
     let walked = subst (λ p. walked_at c.args.parent.now s p ≡ Ok c.in_ok-walked.walked) c.member.ensures c.in_ok-walked.ensures in
     passed_on {X = Option ℤ} {Y = Option ℤ} (λ t. t) (λ asked. asked) c.in-Err.bad (when_at d place) (structured_at c.args.parent.now d place) c.in-Err.ensures
     (λ b e. structured_fails c.args.parent.now d s place c.in_ok-walked.walked b c.in_ok-structured.ensures walked e)
 
 pub returns-in_err-query : goal.returns-in_err-query
 returns-in_err-query c =
-    let place = place_of c.args.place.now in
-    let d = view c.args.v.now in
-    let s = view c.in_ok-structured.structured.now in
+    let place = place_of c.args.way.now in
+    let d = json c.args.v.now in
+    let s = json c.in_ok-structured.structured.now in
     let inside = member_place place (codes "structuredQuery") in
     let time = c.in-Ok.read_time in
     let walked = subst (λ p. walked_at c.args.parent.now s p ≡ Ok c.in_ok-walked.walked) c.member.ensures c.in_ok-walked.ensures in
@@ -36,9 +36,9 @@ returns-in_err-query c =
 
 pub returns : goal.returns
 returns c =
-    let place = place_of c.args.place.now in
-    let d = view c.args.v.now in
-    let s = view c.in_ok-structured.structured.now in
+    let place = place_of c.args.way.now in
+    let d = json c.args.v.now in
+    let s = json c.in_ok-structured.structured.now in
     let time = c.in-Ok.read_time in
     let query = c.in_ok-query.query in
     let walked = subst (λ p. walked_at c.args.parent.now s p ≡ Ok c.in_ok-walked.walked) c.member.ensures c.in_ok-walked.ensures in

@@ -1,9 +1,9 @@
 use Rattle.std.proofs.Common.{◌≡◌, ℕ, false, List, Result, Ok, Err, IfOk, OnOk, sym, ap, ◌∙◌}
-use Rattle.serde_json.specs.View.{view}
+use Rattle.serde_json.specs.View.{view as json}
 use Rattle.serde_json.specs.Written.{has_float}
 use Rattle.serde_json.specs.declared.value.Value.{Value}
 use Rattle.fs_query.specs.Asked.{Asked}
-use Rattle.fs_queryjson.specs.From.{parent_of}
+use Rattle.fs_path.specs.Scope.{scope_parent}
 use Rattle.fs_queryjson.specs.Query.{query_at}
 use Rattle.fs_queryjson.specs.Valid.{IsValid}
 use Rattle.fs_queryjson.specs.Written.{query_json}
@@ -11,9 +11,9 @@ use Rattle.fs_rpc.specs.RequestSteps.{IsQueryHeld}
 use Rattle.fs_rpc.proofs.request_write.query_value.Goals as goal
 
 -- what is written of a query is its JSON, so that has no float and is read back
-held : {E : Type 0} (r : Result Value E) (q : Asked) → IfOk r (λ v. view v ≡ query_json q) → IfOk r (λ v. has_float (view v) ≡ false)
-    → IfOk r (λ v. (place : List ℕ) → IsValid q → query_at (parent_of q.scope) (view v) place ≡ Ok q) → OnOk r (IsQueryHeld q)
-held (Ok v) q is none again = record { float = ap has_float (sym is) ∙ none; again = λ place valid. ap (λ d. query_at (parent_of q.scope) d place) (sym is) ∙ again place valid }
+held : {E : Type 0} (r : Result Value E) (q : Asked) → IfOk r (λ v. json v ≡ query_json q) → IfOk r (λ v. has_float (json v) ≡ false)
+    → IfOk r (λ v. (place : List ℕ) → IsValid q → query_at (scope_parent q.scope) (json v) place ≡ Ok q) → OnOk r (IsQueryHeld q)
+held (Ok v) q is none again = record { float = ap has_float (sym is) ∙ none; again = λ place valid. ap (λ d. query_at (scope_parent q.scope) d place) (sym is) ∙ again place valid }
 held (Err e) q is none again = record {}
 
 pub returns-clause-held : goal.returns-clause-held

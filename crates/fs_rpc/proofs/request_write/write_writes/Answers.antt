@@ -1,4 +1,4 @@
-use Rattle.fs_json.specs.WrittenLaws.{all_next, written_next}
+use Rattle.fs_json.proofs.Writings.{all_next, written_next}
 use Rattle.fs_writejson.specs.Written.{write_json}
 use Rattle.fs_rpc.specs.RequestSteps.{IsWriteHeld}
 use Rattle.fs_rpc.proofs.request_write.write_writes.Goals as goal

@@ -2,11 +2,11 @@ use Rattle.std.proofs.Common.{◌≡◌, drop}
 use Rattle.fs_path.specs.Way.{place_of}
 use Rattle.serde_json.specs.View.{items_view}
 use Rattle.fs_json.specs.Walk.{each_at}
-use Rattle.fs_json.specs.WalkLaws.{behind}
-use Rattle.fs_rpc.specs.ReadResults.{write_result_at}
+use Rattle.fs_json.proofs.Walks.{behind}
+use Rattle.fs_writejson.specs.Results.{write_result_at}
 use Rattle.fs_rpc.proofs.results.read_items.Given as goal
 
 -- the results so far, and then the rest, are all
 abbrev pub invariant-loop-i : goal.invariant-loop-i
 invariant-loop-i l =
-    behind l.results (each_at write_result_at (items_view (drop l.i l.items)) l.i (place_of l.place)) ≡ each_at write_result_at (items_view l.items) 0 (place_of l.place)
+    behind l.results (each_at write_result_at (items_view (drop l.i l.items)) l.i (place_of l.way)) ≡ each_at write_result_at (items_view l.items) 0 (place_of l.way)

@@ -1,9 +1,9 @@
 use Rattle.std.proofs.Common.{◌≡◌, ◌+◌, ◌-◌, length, take, ap, ◌∙◌, subst, arith}
 use Rattle.fs_write.specs.declared.timed_change.TimedChange.{TimedChange}
 use Rattle.fs_versions.specs.Chains.{IsBefore}
+use Rattle.fs_versions.proofs.TreeLaws.{Rise}
 use Rattle.fs_store.specs.Stored.{all_installed}
 use Rattle.fs_store.proofs.Absorbing.{can_here, was_before}
-use Rattle.fs_store.proofs.Installing.{Rise}
 use Rattle.fs_store.proofs.absorb.take_back.Goals as goal
 
 pub take_back-requires-clause-rising : goal.take_back-requires-clause-rising

@@ -5,7 +5,7 @@ use Rattle.std.specs.List.Sorted.{IsBinarySearchResult, IsSearchInRange}
 use Rattle.std.proofs.lemmas.Fn.{always_returns_same}
 use Rattle.fs_path.specs.declared.name.DocName.{DocName}
 use Rattle.fs_path.specs.NameOrder.{name_cmp, name_cmp_total}
-use Rattle.fs_value.specs.Search.{searched}
+use Rattle.fs_value.proofs.Search.{searched}
 use Rattle.fs_write.specs.Batch.{changes_by_name}
 use Rattle.fs_write.specs.declared.change.Change.{Change}
 use Rattle.fs_store.proofs.fits.change_of.Goals as goal

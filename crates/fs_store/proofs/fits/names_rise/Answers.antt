@@ -1,7 +1,7 @@
 use Rattle.std.proofs.Common.{◌≡◌, ◌-◌, drop, arith, length-drop, sym, ◌∙◌}
 use Rattle.std.specs.declared.cmp.Ordering.TheVariants.{Less}
 use Rattle.fs_path.specs.NameOrder.{name_cmp}
-use Rattle.fs_value.specs.Rising.{less_is}
+use Rattle.fs_path.proofs.Orders.{less_is}
 use Rattle.fs_store.proofs.Fitting.{rise_more, few_rise, is_yes}
 use Rattle.fs_store.proofs.fits.names_rise.Goals as goal
 

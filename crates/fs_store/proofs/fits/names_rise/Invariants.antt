@@ -1,6 +1,6 @@
 use Rattle.std.proofs.Common.{◌-◌, drop}
 use Rattle.std.specs.Prelude.{◌↔◌}
-use Rattle.fs_store.proofs.Installing.{Rise}
+use Rattle.fs_versions.proofs.TreeLaws.{Rise}
 use Rattle.fs_store.proofs.fits.names_rise.Given as goal
 
 -- the changes that are left decide

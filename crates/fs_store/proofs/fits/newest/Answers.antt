@@ -8,10 +8,10 @@ use Rattle.fs_write.specs.declared.change.Change.{Change}
 use Rattle.fs_write.specs.declared.timed_change.TimedChange.{TimedChange}
 use Rattle.fs_versions.specs.Chain.{last_document}
 use Rattle.fs_versions.specs.Chains.{chain_of}
+use Rattle.fs_versions.proofs.TreeLaws.{Rise}
 use Rattle.fs_store.specs.Held.{NamesRise}
 use Rattle.fs_store.specs.Stored.{all_installed}
 use Rattle.fs_store.proofs.Fitting.{newest_more}
-use Rattle.fs_store.proofs.Installing.{Rise}
 use Rattle.fs_store.proofs.fits.newest.Goals as goal
 
 pub change_of-requires : goal.change_of-requires

@@ -1,7 +1,7 @@
 use Rattle.std.proofs.Common.{◌∙◌, ◌<◌, ◌≤◌, sym, ap, subst, All, length, List, ℕ}
 use Rattle.std.proofs.lemmas.Result.{IfOk-weaker}
-use Rattle.fs_time.specs.Shown.{text_of}
-use Rattle.fs_time.specs.Rfc3339.{time_of, time_text, longest_text, ShowsMoment}
+use Rattle.fs_time.specs.Stamp.{text_of}
+use Rattle.fs_time.specs.Rfc3339.{time_of, time_text, longest_text, IsTextOfMoment}
 use Rattle.fs_time.proofs.RoundTrip.{time_of-time_text}
 use Rattle.fs_time.proofs.Printed.{time_text-ascii, time_text-longest}
 use Rattle.fs_time.proofs.printing.print.Goals as goal
@@ -11,7 +11,7 @@ unfolding time_text
 returns-clause-text c = IfOk-weaker c.utc_text.result _ _ (λ s written. written ∙ ap text_of c.parts_at.ensures.value) c.utc_text.ensures
 
 pub returns-clause-shows : goal.returns-clause-shows
-returns-clause-shows c = IfOk-weaker c.utc_text.result _ _ (λ s written. subst (λ (t : List ℕ). ShowsMoment c.args.t t) (sym written) c.parts_at.ensures.shows) c.utc_text.ensures
+returns-clause-shows c = IfOk-weaker c.utc_text.result _ _ (λ s written. subst (λ (t : List ℕ). IsTextOfMoment c.args.t t) (sym written) c.parts_at.ensures.shows) c.utc_text.ensures
 
 pub returns-clause-again : goal.returns-clause-again
 returns-clause-again c = IfOk-weaker c.utc_text.result _ _ (λ s printed. ap time_of printed ∙ time_of-time_text c.args.t c.parts_at.ensures.range) (returns-clause-text c)

@@ -3,7 +3,7 @@ use Rattle.base64.specs.Engines.{standard}
 use Rattle.base64.specs.GeneralPurpose.{encode_of}
 use Rattle.serde_json.specs.Data.{string}
 use Rattle.fs_valjson.specs.Tokens.{tokens_of}
-use Rattle.fs_valjson.specs.Writing.{with_one}
+use Rattle.fs_json.specs.Members.{with_one}
 use Rattle.fs_valjson.proofs.push.push_bytes.Goals as goal
 
 pub returns-clause-tokens : goal.returns-clause-tokens

@@ -6,7 +6,7 @@ use Rattle.fs_path.specs.Document.{document_text}
 use Rattle.fs_time.specs.Rfc3339.{time_text}
 use Rattle.fs_value.specs.Data.{members_of}
 use Rattle.fs_valjson.specs.Document.{document_json, with_fields}
-use Rattle.fs_valjson.specs.TokenLaws.{around, behind_both, object_tokens}
+use Rattle.fs_valjson.proofs.Tokens.{around, behind_both, object_tokens}
 use Rattle.fs_valjson.specs.Tokens.{member_tokens, text_member}
 use Rattle.fs_valjson.specs.Writing.{members_json}
 use Rattle.fs_valjson.proofs.Pushed.{fields_first}

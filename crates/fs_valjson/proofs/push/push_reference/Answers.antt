@@ -1,7 +1,7 @@
 use Rattle.std.proofs.Common.{◌≡◌, ◌++◌, codes, OnOk, subst, ◌∙◌}
 use Rattle.serde_json.specs.Data.{string}
 use Rattle.fs_valjson.specs.Tokens.{tokens_of}
-use Rattle.fs_valjson.specs.Writing.{with_one}
+use Rattle.fs_json.specs.Members.{with_one}
 use Rattle.fs_valjson.proofs.push.push_reference.Goals as goal
 
 pub returns-clause-tokens : goal.returns-clause-tokens

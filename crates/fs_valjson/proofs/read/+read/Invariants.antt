@@ -4,7 +4,7 @@ use Rattle.serde_json.specs.View.{view as json, items_view, members_view}
 use Rattle.serde_json.proofs.Views.{Entry}
 use Rattle.fs_path.specs.Way.{place_of}
 use Rattle.fs_valjson.specs.Reading.{items_at, entries_at}
-use Rattle.fs_json.specs.WalkLaws.{behind}
+use Rattle.fs_json.proofs.Walks.{behind}
 use Rattle.fs_valjson.proofs.read.+read.Given as goal
 
 abbrev pub decreases-read_value : goal.decreases-read_value
@@ -34,7 +34,7 @@ decreases-read_entries l = 2 * members_depth (members_view l.members.now.entries
 -- the values so far, and the reading of the rest
 abbrev pub invariant-read_items-loop-i : goal.invariant-read_items-loop-i
 invariant-read_items-loop-i l =
-    behind l.values (items_at (items_view (drop l.i l.items)) l.i (place_of l.place)) ≡ items_at (items_view l.items) 0 (place_of l.place)
+    behind l.values (items_at (items_view (drop l.i l.items)) l.i (place_of l.way)) ≡ items_at (items_view l.items) 0 (place_of l.way)
 
 -- the fields so far are those of the first members, and the reading of the rest comes behind them
 abbrev pub invariant-read_entries-loop-key : goal.invariant-read_entries-loop-key
@@ -42,5 +42,5 @@ invariant-read_entries-loop-key l = record {
   done : List Entry;
   whole : l.members.entries ≡ done ++ l.key-iterator;
   keys : map (λ f. f.0) l.fields ≡ map (λ e. string_bytes e.0) done;
-  reading : behind l.fields (entries_at (members_view l.key-iterator) (place_of l.place)) ≡ entries_at (members_view l.members.entries) (place_of l.place);
+  reading : behind l.fields (entries_at (members_view l.key-iterator) (place_of l.way)) ≡ entries_at (members_view l.members.entries) (place_of l.way);
 }

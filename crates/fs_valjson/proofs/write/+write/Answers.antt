@@ -1,21 +1,20 @@
-use Rattle.std.proofs.Common.{◌≡◌, ◌+◌, [], ◌∷◌, ◌++◌, IsTrue, map, take, refl, sym, ap, ◌∙◌}
+use Rattle.std.proofs.Common.{◌≡◌, ◌+◌, [], ◌∷◌, ◌++◌, IsTrue, map, take, refl, ◌∙◌}
 use Rattle.std.specs.FinMap.{is_sorted}
 use Rattle.serde_json.specs.Data.{put}
 use Rattle.serde_json.specs.View.{members_view}
 use Rattle.fs_path.specs.TextOrder.{text_cmp}
 use Rattle.fs_value.specs.Data.{timestamp, members_of}
 use Rattle.fs_value.specs.View.{view, field_view}
-use Rattle.fs_json.specs.Time.{time_at}
 use Rattle.fs_valjson.specs.Held.{IsHeld}
 use Rattle.fs_valjson.specs.Writing.{value_json, members_json}
-use Rattle.fs_valjson.proofs.Again.{on_ok_always}
-use Rattle.fs_valjson.proofs.Written.{one_value, items_push, held_push, one_field, put_last, members_held_push, rising_taken}
+use Rattle.fs_json.proofs.Writings.{on_ok_always}
+use Rattle.fs_value.proofs.Folds.{one_field, one_value}
+use Rattle.fs_valjson.proofs.Written.{items_push, held_push, put_last, members_held_push, rising_taken}
 use Rattle.fs_valjson.proofs.write.+write.Goals as goal
 
 pub write-returns-in_ok-write_time-in-Timestamp-clause-held : goal.write-returns-in_ok-write_time-in-Timestamp-clause-held
 write-returns-in_ok-write_time-in-Timestamp-clause-held t c =
-    let w = c.in_ok-write_time-in-Timestamp.ensures in
-    let held : IsHeld (timestamp c.in-Timestamp.t) = λ place. ap (λ d. time_at d place) (sym w.value) ∙ w.reads_back place in
+    let held : IsHeld (timestamp c.in-Timestamp.t) = c.in_ok-write_time-in-Timestamp.ensures.held in
     rw c.in-Timestamp.is (on_ok_always c.with_one-in-Timestamp.result held)
 
 pub write_items-loop-value-preserved : goal.write_items-loop-value-preserved

@@ -4,7 +4,7 @@ use Rattle.serde_json.specs.View.{view as json}
 use Rattle.serde_json.specs.Written.{has_float}
 use Rattle.fs_valjson.specs.Writing.{array_json}
 use Rattle.fs_valjson.proofs.Again.{array_reads_back}
-use Rattle.fs_valjson.specs.FloatLaws.{array_float}
+use Rattle.fs_valjson.proofs.Floats.{array_float}
 use Rattle.fs_valjson.proofs.write.write_array.Goals as goal
 
 pub returns-clause-no_float : goal.returns-clause-no_float

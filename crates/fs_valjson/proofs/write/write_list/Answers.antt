@@ -4,7 +4,7 @@ use Rattle.serde_json.specs.Written.{has_float}
 use Rattle.serde_json.proofs.Views.{view-Array}
 use Rattle.fs_valjson.specs.Reading.{list_at}
 use Rattle.fs_valjson.proofs.Again.{list_again}
-use Rattle.fs_valjson.specs.FloatLaws.{list_float}
+use Rattle.fs_valjson.proofs.Floats.{list_float}
 use Rattle.fs_valjson.proofs.write.write_list.Goals as goal
 
 pub returns-clause-value : goal.returns-clause-value

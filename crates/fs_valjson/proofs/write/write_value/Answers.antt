@@ -5,7 +5,7 @@ use Rattle.serde_json.specs.Written.{has_float}
 use Rattle.fs_value.specs.View.{view}
 use Rattle.fs_valjson.specs.Writing.{value_json}
 use Rattle.fs_valjson.proofs.Again.{reads_back}
-use Rattle.fs_valjson.specs.FloatLaws.{value_float}
+use Rattle.fs_valjson.proofs.Floats.{value_float}
 use Rattle.fs_valjson.proofs.write.write_value.Goals as goal
 
 pub returns-clause-no_float : goal.returns-clause-no_float

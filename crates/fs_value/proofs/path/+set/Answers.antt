@@ -4,7 +4,8 @@ use Rattle.fs_value.specs.FieldPaths.{set_fields}
 use Rattle.fs_value.specs.FieldPlace.{IsFoundAt}
 use Rattle.fs_value.specs.View.{view}
 use Rattle.fs_value.proofs.FieldPlaces.{kept, replaced_rises}
-use Rattle.fs_value.proofs.PathSteps.{first_name, OnOk-map, OnErr-map, set_there, set_missing, set_map, set_no_map, set_whole}
+use Rattle.std.proofs.lemmas.Result.{on_ok_weaker, on_err_weaker}
+use Rattle.fs_value.proofs.PathSteps.{first_name, set_there, set_missing, set_map, set_no_map, set_whole}
 use Rattle.fs_value.proofs.path.+set.Goals as goal
 use Rattle.fs_value.proofs.path.+set.Goals.{set_inside-in-Map+else-not-is_empty, set_inside-in_default}
 
@@ -21,14 +22,14 @@ set_at-returns-in-Ok-clause-ok t c =
     let more : 0 < length names = omega arith in
     let first = first_name names key c.key-item.result c.as_str.ensures.value c.key-item.is in
     let here = subst (λ fs. IsFoundAt key fs c.in-Ok.i) (sym c.fields.view_is) c.in-Ok.ensures in
-    OnOk-map c.set_inside.result
+    on_ok_weaker c.set_inside.result
     (λ new. set_there key names (view c.args.v) c.fields.inside.items.items c.in-Ok.i c.index_mut.result.now c.set_inside.new.value more first here c.index_mut.ensures.value new
     ∙ ap (set_fields names (view c.args.v)) c.fields.view_is)
     c.set_inside.ensures.ok
 
 pub set_at-returns-in-Ok-clause-err : goal.set_at-returns-in-Ok-clause-err
 set_at-returns-in-Ok-clause-err t c =
-    OnErr-map c.set_inside.result
+    on_err_weaker c.set_inside.result
     (λ same. kept c.fields.inside.items.items c.in-Ok.i c.index_mut.result.now c.set_inside.new.value c.index_mut.ensures.value same ∙ c.fields.view_is)
     c.set_inside.ensures.err
 
@@ -38,14 +39,14 @@ set_at-returns-in_ok-copy-in-Err-clause-ok t c =
     let names = c.args.names.now in
     let more : 0 < length names = omega arith in
     let first = first_name names key c.key-item.result c.as_str.ensures.value c.key-item.is in
-    OnOk-map c.put.result
+    on_ok_weaker c.put.result
     (set_missing key c.in_ok-copy-in-Err.field-0 names (view c.args.v) c.args.fields.now c.put.new.self (view c.in_ok-made-in-Err.made) more first
     (c.in_ok-copy-in-Err.ensures ∙ sym c.as_str.ensures.value) c.in-Err.ensures.missing c.in_ok-made-in-Err.ensures)
     c.put.ensures.ok
 
 pub set_inside-returns-then-not-is_empty-clause-ok : goal.set_inside-returns-then-not-is_empty-clause-ok
 set_inside-returns-then-not-is_empty-clause-ok t c =
-    OnOk-map c.set_at.result
+    on_ok_weaker c.set_at.result
     (set_map c.args.names.now (view c.args.v) (view c.args.value.now) c.in-Map.fields c.set_at.new.fields (grind arith) (ap view c.in-Map.is))
     c.set_at.ensures.ok
 

@@ -3,7 +3,7 @@ use Rattle.std.specs.Prelude.{IfOk, IfSome}
 use Rattle.std.specs.List.{filter}
 use Rattle.fs_path.specs.NameOrder.{name_cmp_total}
 use Rattle.fs_path.specs.Scope.{covers}
-use Rattle.fs_value.specs.Tree.{entries_tree}
+use Rattle.fs_value.proofs.Tree.{entries_tree}
 use Rattle.fs_versions.specs.Between.{LieBetween}
 use Rattle.fs_versions.specs.Listed.{all_shown}
 use Rattle.fs_versions.proofs.Bounds.{all_between}

@@ -39,7 +39,7 @@ returns-clause-ok c =
     record {
       after = had.after;
       done = had.so_far ∙ ap (λ ws. all_writes (Ok (had.after, c.loop-write.results)) ws c.args.time) (none_left c.args.writes.now c.as_slice-write-items.result.now c.loop-write.write-index c.as_slice-write-items.ensures c.loop-write-test.false);
-      changed = batch_changes (docs_of c.args.docs.now) had.after c.loop-write.stage.entries c.in_ok-changes_of.field-0 had.shows c.in_ok-changes_of.ensures;
+      changed = batch_changes (docs_of c.args.docs.now) had.after c.loop-write.stage.entries c.in_ok-changes_of.field-0 had.staged c.in_ok-changes_of.ensures;
     }
 
 pub returns-clause-named : goal.returns-clause-named

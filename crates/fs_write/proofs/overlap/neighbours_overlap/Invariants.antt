@@ -1,5 +1,6 @@
 use Rattle.std.proofs.Common.{◌≡◌, ◌-◌, drop}
-use Rattle.fs_write.specs.Neighbours.{paths_at, neighbours_overlap}
+use Rattle.fs_path.specs.FieldOrder.{paths_at}
+use Rattle.fs_write.specs.Neighbours.{neighbours_overlap}
 use Rattle.fs_write.proofs.overlap.neighbours_overlap.Given as goal
 
 -- no path so far overlaps the next, so the rest decides

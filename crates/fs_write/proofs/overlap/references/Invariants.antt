@@ -1,5 +1,5 @@
 use Rattle.std.proofs.Common.{◌≡◌, take}
-use Rattle.fs_write.specs.Neighbours.{paths_at}
+use Rattle.fs_path.specs.FieldOrder.{paths_at}
 use Rattle.fs_write.proofs.overlap.references.Given as goal
 
 abbrev pub invariant-loop-path : goal.invariant-loop-path

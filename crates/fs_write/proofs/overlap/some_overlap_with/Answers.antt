@@ -1,5 +1,6 @@
 use Rattle.std.proofs.Common.{ap, ◌∙◌}
-use Rattle.fs_write.specs.Neighbours.{paths_at, neighbours_overlap}
+use Rattle.fs_path.specs.FieldOrder.{paths_at}
+use Rattle.fs_write.specs.Neighbours.{neighbours_overlap}
 use Rattle.fs_write.specs.Rules.{some_overlap}
 use Rattle.fs_write.proofs.Overlaps.{sorted_overlap}
 use Rattle.fs_write.proofs.overlap.some_overlap_with.Goals as goal

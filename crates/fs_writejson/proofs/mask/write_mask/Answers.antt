@@ -4,7 +4,7 @@ use Rattle.serde_json.specs.Data.{no_members}
 use Rattle.serde_json.specs.View.{members_view}
 use Rattle.serde_json.specs.Written.{has_float}
 use Rattle.serde_json.proofs.Views.{view-Array, view-Object}
-use Rattle.fs_writejson.specs.Held.{IsPathHeld}
+use Rattle.fs_json.specs.Paths.{IsPathHeld}
 use Rattle.fs_writejson.specs.Mask.{mask_at}
 use Rattle.fs_writejson.proofs.Again.{mask_again}
 use Rattle.fs_writejson.proofs.Floats.{mask_float}

@@ -1,13 +1,12 @@
 use Rattle.std.proofs.Common.{◌≡◌, map, take}
 use Rattle.std.specs.List.{AllByRecursion}
-use Rattle.serde_json.specs.View.{view}
-use Rattle.fs_writejson.specs.Held.{IsPathHeld}
-use Rattle.fs_writejson.specs.Mask.{path_json}
+use Rattle.serde_json.specs.View.{view as json}
+use Rattle.fs_json.specs.Paths.{IsPathHeld, path_json}
 use Rattle.fs_writejson.proofs.mask.write_paths.Given as goal
 
 -- the paths so far are written
 abbrev pub invariant-loop-path : goal.invariant-loop-path
 invariant-loop-path l = record {
-  written : map view l.items.items ≡ map path_json (take l.path-index l.paths);
+  written : map json l.items.items ≡ map path_json (take l.path-index l.paths);
   held : AllByRecursion IsPathHeld (take l.path-index l.paths);
 }

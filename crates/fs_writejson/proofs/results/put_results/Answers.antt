@@ -2,7 +2,7 @@ use Rattle.std.proofs.Common.{◌≡◌, ℕ, List, Ok, sym, ap, ◌∙◌}
 use Rattle.fs_value.specs.Data.{items_of}
 use Rattle.fs_valjson.specs.Reading.{list_at}
 use Rattle.fs_valjson.specs.Writing.{list_json, ItemsHaveNames}
-use Rattle.fs_writejson.proofs.Written.{on_ok_always}
+use Rattle.fs_json.proofs.Writings.{on_ok_always}
 use Rattle.fs_writejson.proofs.results.put_results.Goals as goal
 
 pub returns-clause-held : goal.returns-clause-held

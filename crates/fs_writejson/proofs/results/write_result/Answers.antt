@@ -4,7 +4,7 @@ use Rattle.serde_json.specs.View.{members_view}
 use Rattle.serde_json.specs.Written.{has_float}
 use Rattle.serde_json.proofs.Views.{view-Object}
 use Rattle.fs_writejson.specs.Results.{result_json}
-use Rattle.fs_writejson.specs.FloatLaws.{result_float}
+use Rattle.fs_writejson.proofs.WriteResults.{result_float}
 use Rattle.fs_writejson.proofs.Put.{result_put}
 use Rattle.fs_writejson.proofs.results.write_result.Goals as goal
 

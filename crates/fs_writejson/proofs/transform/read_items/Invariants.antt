@@ -5,7 +5,7 @@ use Rattle.serde_json.specs.View.{items_view}
 use Rattle.fs_write.specs.declared.transform.Transform.{Transform}
 use Rattle.fs_writejson.specs.Transform.{transform_at}
 use Rattle.fs_json.specs.Walk.{each_at}
-use Rattle.fs_json.specs.WalkLaws.{behind}
+use Rattle.fs_json.proofs.Walks.{behind}
 use Rattle.fs_writejson.proofs.transform.read_items.Given as goal
 
 -- those that were read so far, and then the rest, are all
@@ -14,5 +14,5 @@ invariant-loop-i l = record {
   done : List (Transform × Bool);
   transforms : l.transforms ≡ map (λ t. t.0) done;
   numeric : l.is_numeric ≡ list_all (λ t. t.1) done;
-  reading : behind done (each_at transform_at (items_view (drop l.i l.items)) l.i (place_of l.place)) ≡ each_at transform_at (items_view l.items) 0 (place_of l.place);
+  reading : behind done (each_at transform_at (items_view (drop l.i l.items)) l.i (place_of l.way)) ≡ each_at transform_at (items_view l.items) 0 (place_of l.way);
 }

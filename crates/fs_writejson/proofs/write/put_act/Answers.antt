@@ -2,7 +2,7 @@ use Rattle.std.proofs.Common.{sym, ap, subst, ◌∙◌}
 use Rattle.fs_valjson.specs.Document.{document_at}
 use Rattle.fs_writejson.specs.Held.{IsMaskHeld, IsUpdateHeld}
 use Rattle.fs_writejson.specs.Mask.{mask_at}
-use Rattle.fs_writejson.proofs.Written.{on_ok_always}
+use Rattle.fs_json.proofs.Writings.{on_ok_always}
 use Rattle.fs_writejson.proofs.write.put_act.Goals as goal
 
 pub returns-in_ok-write_mask-in-Merge-clause-held : goal.returns-in_ok-write_mask-in-Merge-clause-held

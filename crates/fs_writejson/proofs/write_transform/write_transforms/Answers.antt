@@ -1,6 +1,6 @@
 use Rattle.fs_writejson.specs.Held.{IsTransformHeld}
 use Rattle.fs_writejson.specs.Transform.{transform_json}
-use Rattle.fs_json.specs.WrittenLaws.{all_next, written_next}
+use Rattle.fs_json.proofs.Writings.{all_next, written_next}
 use Rattle.fs_writejson.proofs.write_transform.write_transforms.Goals as goal
 
 pub loop-transform-preserved : goal.loop-transform-preserved

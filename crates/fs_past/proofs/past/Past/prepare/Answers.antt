@@ -9,7 +9,7 @@ pub invariant_of-self : goal.invariant_of-self
 invariant_of-self c =
     let s = c.self.inside in
     let view = c.self.view_is in
-    subst (λ t. IsKept s.journal.history (Some c.args.commit) s.store t s.moment) (sym c.time_of-self-inside.ensures)
+    subst (λ t. IsKept s.journal.history (Some c.args.commit) s.store t s.moment) (sym c.time-self-inside.ensures)
     (kept_prepared s.journal.history s.under_way s.store s.last s.moment c.self.invariant c.args.commit (ap (λ (p : Past). p.unreleased) view ∙ c.requires.none)
     (none_is c.args.commit.results c.requires.pending)
     (c.requires.time ∙ ap next_time (sym view)))
@@ -18,6 +18,6 @@ pub returns : goal.returns
 returns c =
     let s = c.self.inside in
     let view = c.self.view_is in
-    ap (λ t. past_of s.journal.history (Some c.args.commit) s.store t s.moment) c.time_of-self-inside.ensures
+    ap (λ t. past_of s.journal.history (Some c.args.commit) s.store t s.moment) c.time-self-inside.ensures
     ∙ after_prepare s.journal.history s.under_way s.store s.last s.moment c.self.invariant c.args.commit (ap (λ (p : Past). p.unreleased) view ∙ c.requires.none)
     ∙ ap (λ p. past_prepared p c.args.commit) view

@@ -3,15 +3,17 @@ use Rattle.fs_rpc.specs.declared.message.Message.TheVariants as message
 use Rattle.fs_write.specs.Batch.{Docs}
 use Rattle.fs_write.specs.declared.write_result.WriteResult.{WriteResult}
 use Rattle.fs_history.specs.History.{whole}
-use Rattle.fs_machine.specs.Alone.{accepted_alone, with_batch}
-use Rattle.fs_machine.specs.IdsAreDrawn.{IdsAreDrawn, ids_decided, ids_released}
+use Rattle.fs_machine.specs.Alone.{with_batch}
+use Rattle.fs_machine.proofs.Alone.{accepted_alone}
+use Rattle.fs_machine.specs.IdsAreDrawn.{IdsAreDrawn}
+use Rattle.fs_machine.proofs.IdsAreDrawn.{ids_decided, ids_released}
 use Rattle.fs_machine.specs.Settle.{past_decided}
 use Rattle.fs_machine.specs.State.{Machine}
 use Rattle.fs_machine.specs.UnreleasedRise.{UnreleasedRise}
 use Rattle.fs_machine.specs.declared.unreleased.Unreleased.{Unreleased}
 use Rattle.fs_past.specs.UnderWay.{IsUnderWay}
-use Rattle.fs_server.specs.Place.{told_more}
-use Rattle.fs_server.proofs.Settling.{state_told, state_as_before}
+use Rattle.fs_server.specs.Place.{with_message}
+use Rattle.fs_server.proofs.Settling.{state_delivered, state_as_before}
 use Rattle.fs_server.proofs.server.Server.accept.Goals as goal
 
 pub invariant_of-self-in-Ok : goal.invariant_of-self-in-Ok
@@ -36,17 +38,17 @@ returns-in-Ok-clause-state c = λ u under.
     let above = subst (λ (n : Machine). UnreleasedRise n.past) (sym c.self.view_is) c.stand.ensures.facts.past.unreleased in
     let here : IsUnderWay s.past u = subst (λ (n : Machine). IsUnderWay n.past u) (sym c.self.view_is) under in
     let commit = c.under_way-commit.ensures u under in
-    state_told m c.accept.new.self c.tell.new.self c.session_of-session.result c.in_ok-message.message c.in_ok-tell.ensures.ok c.tell.ensures.given
+    state_delivered m c.accept.new.self c.deliver.new.self c.session_of-session.result c.in_ok-message.message c.in_ok-deliver.ensures.ok c.deliver.ensures.given
     (with_batch s.past u) u.session reply
     (c.in-Ok.ensures.ok u done here ∙ accepted_alone s.past u done above here.alone)
     (c.session_of-session.ensures ∙ ap (λ (v : Unreleased). v.session) commit)
     (c.in_ok-message.ensures ∙ ap (λ (v : Unreleased). message.Commit v.request v.batch.time c.args.results) commit)
-    ∙ ap (λ (n : Machine). record n { past = with_batch n.past u; sessions = told_more u.session reply n.sessions }) c.self.view_is
+    ∙ ap (λ (n : Machine). record n { past = with_batch n.past u; sessions = with_message u.session reply n.sessions }) c.self.view_is
 
 pub returns-in-Err-clause-err : goal.returns-in-Err-clause-err
 returns-in-Err-clause-err c =
     let s = c.self.inside in
     let m : Machine = record { config = s.config; limits = s.limits; past = s.past; sessions = s.sessions; ids = s.ids } in
-    state_as_before m c.accept.new.self c.tell.new.self c.session_of-session.result c.in_ok-message.message c.in_ok-tell.ensures.ok c.tell.ensures.given
+    state_as_before m c.accept.new.self c.deliver.new.self c.session_of-session.result c.in_ok-message.message c.in_ok-deliver.ensures.ok c.deliver.ensures.given
     c.take_back.new.self c.in-Err.ensures.err c.take_back.ensures.list c.take_back.ensures.given
     ∙ c.self.view_is

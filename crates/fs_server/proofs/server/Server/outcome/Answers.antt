@@ -4,7 +4,7 @@ use Rattle.fs_machine.specs.Past.{Past}
 use Rattle.fs_machine.specs.Settle.{ComesTo}
 use Rattle.fs_machine.specs.State.{Machine}
 use Rattle.fs_machine.specs.declared.unreleased.Unreleased.{Unreleased}
-use Rattle.fs_past.specs.UnderWay.{ComesTo as comes_to, IsUnderWay}
+use Rattle.fs_past.specs.UnderWay.{IsOutcomeUnderWay, IsUnderWay}
 use Rattle.fs_server.proofs.Settling.{gives_comes, under_of}
 use Rattle.fs_server.proofs.server.Server.outcome.Goals as goal
 
@@ -16,5 +16,5 @@ returns c =
     let a = c.alone.ensures in
     let is = ap (λ (m : Machine). m.past) c.self.view_is in
     let under = subst (λ (q : Past). IsUnderWay q a.commit) (sym is) (under_of p id a) in
-    IfOk-weaker c.outcome.result (λ o. (u : Unreleased) → IsUnderWay s u → comes_to s u o) (ComesTo p id)
-    (λ o gives. gives_comes p id a o (subst (λ (q : Past). comes_to q a.commit o) is (gives a.commit under))) c.outcome.ensures
+    IfOk-weaker c.outcome.result (λ o. (u : Unreleased) → IsUnderWay s u → IsOutcomeUnderWay s u o) (ComesTo p id)
+    (λ o gives. gives_comes p id a o (subst (λ (q : Past). IsOutcomeUnderWay q a.commit o) is (gives a.commit under))) c.outcome.ensures

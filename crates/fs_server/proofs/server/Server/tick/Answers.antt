@@ -1,6 +1,7 @@
 use Rattle.std.proofs.Common.{[], ◌∷◌, sym, ap, ◌∙◌, subst}
 use Rattle.fs_machine.specs.Event.{Event}
-use Rattle.fs_machine.specs.IdsAreDrawn.{IdsAreDrawn, ids_released}
+use Rattle.fs_machine.specs.IdsAreDrawn.{IdsAreDrawn}
+use Rattle.fs_machine.proofs.IdsAreDrawn.{ids_released}
 use Rattle.fs_machine.specs.Release.{past_released}
 use Rattle.fs_machine.specs.State.{Machine}
 use Rattle.fs_machine.specs.Stays.{Stays}

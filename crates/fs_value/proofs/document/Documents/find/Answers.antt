@@ -7,7 +7,7 @@ use Rattle.fs_path.specs.declared.name.DocName.{DocName}
 use Rattle.fs_path.specs.NameOrder.{name_cmp, name_cmp_total}
 use Rattle.fs_value.specs.Named.{by_name}
 use Rattle.fs_value.specs.declared.document.Document.{Document}
-use Rattle.fs_value.specs.Search.{searched}
+use Rattle.fs_value.proofs.Search.{searched}
 use Rattle.fs_value.proofs.document.Documents.find.Goals as goal
 
 Found : DocName → List Document → Result ℕ ℕ → Type 0

@@ -5,8 +5,8 @@ use Rattle.fs_path.specs.NameOrder.{name_cmp, name_cmp_total}
 use Rattle.fs_value.specs.Named.{by_name}
 use Rattle.fs_value.proofs.Copied.{all_copied}
 use Rattle.fs_value.proofs.Named.{by_own_names, one_map}
-use Rattle.fs_value.specs.Rising.{rising_entries}
-use Rattle.fs_value.specs.Tree.{values_tree}
+use Rattle.fs_value.proofs.Rising.{rising_entries}
+use Rattle.fs_value.proofs.Tree.{values_tree}
 use Rattle.fs_value.proofs.document_map.DocumentMap.documents.Goals as goal
 
 pub returns-clause-value : goal.returns-clause-value

@@ -4,7 +4,7 @@ use Rattle.std.specs.FinMap.{get}
 use Rattle.fs_path.specs.NameOrder.{name_cmp_total}
 use Rattle.fs_value.specs.declared.document.Document.{Document}
 use Rattle.fs_value.proofs.Named.{found_named}
-use Rattle.fs_value.specs.Tree.{get_tree}
+use Rattle.fs_value.proofs.Tree.{get_tree}
 use Rattle.fs_value.proofs.document_map.DocumentMap.get.Goals as goal
 
 of_lent : (P : Document → Type 0) (found : Option (Bor Document)) → IfSome (option_copied found) P → IfSome found (λ d. P d.now)

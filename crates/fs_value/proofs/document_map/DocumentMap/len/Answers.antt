@@ -1,7 +1,7 @@
 use Rattle.std.proofs.Common.{ap, ◌∙◌}
 use Rattle.std.specs.FinMap.{len}
 use Rattle.fs_path.specs.NameOrder.{name_cmp_total}
-use Rattle.fs_value.specs.Tree.{len_tree}
+use Rattle.fs_value.proofs.Tree.{len_tree}
 use Rattle.fs_value.proofs.document_map.DocumentMap.len.Goals as goal
 
 pub returns : goal.returns

@@ -3,7 +3,7 @@ use Rattle.std.specs.FinMap.{insert, from_entries}
 use Rattle.fs_path.specs.NameOrder.{name_cmp, name_cmp_total, name_same}
 use Rattle.fs_value.specs.Named.{StandAtNames}
 use Rattle.fs_value.proofs.Named.{named_inserted}
-use Rattle.fs_value.specs.Tree.{insert_tree}
+use Rattle.fs_value.proofs.Tree.{insert_tree}
 use Rattle.fs_value.proofs.document_map.DocumentMap.put.Goals as goal
 
 pub invariant_of-self-2 : goal.invariant_of-self-2

@@ -4,7 +4,7 @@ use Rattle.std.specs.BTreeMap.{is_at}
 use Rattle.fs_path.specs.NameOrder.{name_cmp, name_cmp_total, name_same}
 use Rattle.fs_value.specs.Named.{StandAtNames}
 use Rattle.fs_value.proofs.Named.{named_removed}
-use Rattle.fs_value.specs.Tree.{get_tree, remove_tree}
+use Rattle.fs_value.proofs.Tree.{get_tree, remove_tree}
 use Rattle.fs_value.proofs.document_map.DocumentMap.remove.Goals as goal
 
 pub invariant_of-self : goal.invariant_of-self

@@ -9,7 +9,7 @@ use Rattle.fs_path.specs.TextOrder.{text_cmp, text_cmp_total, text_same}
 use Rattle.fs_value.specs.FieldPlace.{IsFoundAt, IsMissingAt}
 use Rattle.fs_value.specs.View.{field_view}
 use Rattle.fs_value.specs.declared.fields.Field.{Field}
-use Rattle.fs_value.specs.Search.{rising_sorted, find-tied, find-apart}
+use Rattle.fs_value.proofs.Search.{rising_sorted, find-tied, find-apart}
 use Rattle.fs_value.proofs.Places.{key-tied, put-tied, put-apart}
 use Rattle.fs_value.proofs.fields.Fields.place.Goals as goal
 

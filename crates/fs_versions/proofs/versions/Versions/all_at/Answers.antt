@@ -1,7 +1,7 @@
 use Rattle.std.proofs.Common.{sym, ap, ◌∙◌}
 use Rattle.std.specs.FinMap.{entries}
 use Rattle.fs_path.specs.NameOrder.{name_cmp_total}
-use Rattle.fs_value.specs.Tree.{entries_tree}
+use Rattle.fs_value.proofs.Tree.{entries_tree}
 use Rattle.fs_versions.specs.Chains.{Chains}
 use Rattle.fs_versions.specs.Listed.{all_shown}
 use Rattle.fs_versions.proofs.Listing.{shown_values, none_left}

@@ -2,8 +2,8 @@ use Rattle.std.proofs.Common.{rules, refl, sym, ap, ◌∙◌}
 use Rattle.std.specs.FinMap.{from_entries, get}
 use Rattle.std.specs.Prelude.{unwrap_or, []}
 use Rattle.fs_path.specs.NameOrder.{name_cmp, name_cmp_total}
-use Rattle.fs_value.specs.Rising.{rising_entries}
-use Rattle.fs_value.specs.Tree.{entries_tree}
+use Rattle.fs_value.proofs.Rising.{rising_entries}
+use Rattle.fs_value.proofs.Tree.{entries_tree}
 use Rattle.fs_versions.specs.Chain.{cut}
 use Rattle.fs_versions.specs.Chains.{Chains, all_cut, compacted}
 use Rattle.fs_versions.specs.Sound.{found}

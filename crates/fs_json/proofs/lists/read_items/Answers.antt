@@ -1,0 +1,20 @@
+use Rattle.std.proofs.Common.{◌≡◌, ◌+◌, ◌∷◌, Ok, drop, sym, ap, ◌∙◌, arith}
+use Rattle.std.proofs.lemmas.List.{drop_more}
+use Rattle.serde_json.specs.View.{view as json, items_view}
+use Rattle.fs_path.specs.Place.{item_place}
+use Rattle.fs_path.specs.Way.{place_of}
+use Rattle.fs_json.specs.Walk.{each_at}
+use Rattle.fs_json.proofs.Walks.{behind, next_one}
+use Rattle.fs_json.proofs.lists.read_items.Goals as goal
+
+pub loop-i-preserved : goal.loop-i-preserved
+loop-i-preserved g c =
+    let reading = g.R.ReadsItem.reading c.args.reader.now in
+    let items = c.args.items.now in
+    let place = place_of c.args.way.now in
+    let i = c.loop-i.i in
+    let x = c.index-items-i.result in
+    let here : drop i items ≡ x ∷ drop (i + 1) items = drop_more items i x (omega arith) ∙ ap (λ y. y ∷ drop (i + 1) items) (sym c.index-items-i.is) in
+    let read : reading (json x) (item_place place i) ≡ Ok c.in_ok-one.one = ap (reading (json x)) (sym c.item.ensures) ∙ c.in_ok-one.ensures in
+    let step = next_one reading c.loop-i.found (json x) (items_view (drop (i + 1) items)) i place c.in_ok-one.one read in
+    rw c.in_ok-push.ensures.ok (sym step ∙ ap (λ ys. behind c.loop-i.found (each_at reading (items_view ys) i place)) (sym here) ∙ c.loop-i.invariant)

@@ -1,0 +1,12 @@
+use Rattle.std.proofs.Common.{◌≡◌, drop}
+use Rattle.fs_path.specs.Way.{place_of}
+use Rattle.serde_json.specs.View.{items_view}
+use Rattle.fs_json.specs.Walk.{each_at}
+use Rattle.fs_json.proofs.Walks.{behind}
+use Rattle.fs_json.proofs.lists.read_items.Given as goal
+
+-- those that were read so far, and then the rest, are all
+abbrev pub invariant-loop-i : goal.invariant-loop-i
+invariant-loop-i g l =
+    let reading = g.R.ReadsItem.reading l.reader in
+    behind l.found (each_at reading (items_view (drop l.i l.items)) l.i (place_of l.way)) ≡ each_at reading (items_view l.items) 0 (place_of l.way)

@@ -1,6 +1,0 @@
-use Rattle.std.proofs.Common.{◌≡◌, take}
-use Rattle.fs_path.proofs.ids.Ids.copy.Given as goal
-
--- the ids so far are copied
-abbrev pub invariant-loop-id : goal.invariant-loop-id
-invariant-loop-id l = l.items.items ≡ take l.id-index l.id-items
