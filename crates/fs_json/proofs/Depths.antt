@@ -11,7 +11,7 @@ use Rattle.fs_path.specs.declared.place.Rule.TheVariants.{G}
 use Rattle.serde_json.specs.Data as json
 use Rattle.serde_json.specs.Data.{depth, items_depth, members_depth}
 use Rattle.serde_json.specs.Find.{get_member}
-use Rattle.serde_json.specs.View.{items_view, members_view, view}
+use Rattle.serde_json.specs.View.{items_view, members_view, view as json_view}
 use Rattle.serde_json.specs.declared.value.Value.{Value}
 use Rattle.serde_json.proofs.Views.{Entry}
 use Rattle.fs_json.specs.Answer.{or_fault, ◌>>=◌}
@@ -131,11 +131,11 @@ inside P name d place next each =
 
 -- ---- as code walks them
 
-pub item_falls : (vs : List Value) (i : ℕ) (v : Value) → v ≡ get_or vs i v → i < length vs → depth (view v) ≤ items_depth (items_view vs)
+pub item_falls : (vs : List Value) (i : ℕ) (v : Value) → v ≡ get_or vs i v → i < length vs → depth (json_view v) ≤ items_depth (items_view vs)
 item_falls [] i v e h = absurd (omega arith)
-item_falls (x ∷ vs) zero v e h = omega (arith, ap (λ y. depth (view y)) e)
+item_falls (x ∷ vs) zero v e h = omega (arith, ap (λ y. depth (json_view y)) e)
 item_falls (x ∷ vs) (suc i) v e h = omega (arith, item_falls vs i v e (omega arith))
 
-pub entry_falls : (done : List Entry) (e : Entry) (left : List Entry) → depth (view e.1) ≤ members_depth (members_view (done ++ e ∷ left))
+pub entry_falls : (done : List Entry) (e : Entry) (left : List Entry) → depth (json_view e.1) ≤ members_depth (members_view (done ++ e ∷ left))
 entry_falls [] e left = omega arith
 entry_falls (x ∷ done) e left = omega (arith, entry_falls done e left)

@@ -1,11 +1,13 @@
 -- What holds of whatever is read, reading by reading. Each crate that reads JSON may cite it.
-use Rattle.std.proofs.Common.{◌≡◌, ℕ, List, Bool, true, false, Option, Some, None, Result, Ok, Err, IfOk, cond, refl, subst}
+use Rattle.std.proofs.Common.{◌≡◌, ℕ, List, Bool, true, false, Option, Some, None, Result, Ok, Err, IfOk, cond, inl, inr, refl, subst}
 use Rattle.std.specs.Option.{option_map_or}
 use Rattle.fs_path.specs.Place.{member_place}
 use Rattle.serde_json.specs.Data.{Data}
-use Rattle.fs_json.specs.Answer.{Gives, made, ◌>>=◌}
+use Rattle.fs_json.specs.Answer.{Gives, IsBadAt, made, ◌>>=◌}
 use Rattle.fs_json.specs.Members.{member_at, member_or, required_as, required_at}
 use Rattle.fs_json.specs.declared.bad.Bad.{Bad}
+use Rattle.fs_json.specs.declared.bad.Bad.TheVariants.{At, Method, Memory}
+use Rattle.fs_path.specs.declared.place.Rule.{Rule}
 
 -- what holds of whatever a reading is holds of what is answered
 pub of_reading : {X Y : Type 0} (view : X → Y) (P : Y → Type 0) (answer : Result X Bad) (reading : Result Y Bad) → Gives view answer reading → IfOk reading P
@@ -69,3 +71,14 @@ member_holds P absent read name d place each none =
 pub required_holds : {A : Type 0} (P : A → Type 0) (read : Data → List ℕ → Result A Bad) (name : List ℕ) (d : Data) (place : List ℕ)
     → ((x : Data) (p : List ℕ) → IfOk (read x p) P) → IfOk (required_as read name d place) P
 required_holds P read name d place each = at_last_holds P (required_at name d place) _ (λ x. each x (member_place place name))
+
+-- ---- refusals
+
+-- what tells a fault gives a reading that is that fault
+pub told : {X Y : Type 0} (view : X → Y) (rule : Rule) (place : List ℕ) (bad : Bad) (reading : Result Y Bad) → IsBadAt rule place bad → reading ≡ Err (At rule place)
+    → Gives view (Err bad) reading
+told view rule place (At r p) reading (inl e) is = cc
+told view rule place (At r p) reading (inr e) is = absurd (cc)
+told view rule place (Method name) reading (inl e) is = absurd (cc)
+told view rule place (Method name) reading (inr e) is = absurd (cc)
+told view rule place (Memory e) reading h is = record {}

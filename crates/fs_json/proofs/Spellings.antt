@@ -1,14 +1,15 @@
 -- A key without a `_` is no name's second spelling.
 use Rattle.std.proofs.Common.{◌≡◌, ◌||◌, ◌&&◌, ℕ, List, [], ◌∷◌, Bool, true, false, cond, refl, sym, ◌∙◌, ap, true≢false}
-use Rattle.std.specs.Prelude.{◌==◌, not, is_some}
-use Rattle.std.proofs.lemmas.Bool.{or_parts}
+use Rattle.std.specs.Bool.{OnFalse}
+use Rattle.std.specs.Prelude.{◌==◌, not, is_some, Some}
+use Rattle.std.proofs.lemmas.Bool.{and_right, or_parts}
 use Rattle.std.specs.Char.{is_ascii_uppercase, to_ascii_lowercase}
 use Rattle.std.specs.List.{list_any}
 use Rattle.std.specs.Str.{bytes_eq}
 use Rattle.std.proofs.lemmas.Slice.Eq.{bytes_eq-Decides}
-use Rattle.serde_json.specs.Data.{Members}
+use Rattle.serde_json.specs.Data.{Data, Members, member}
 use Rattle.fs_json.specs.Names.{snake_of}
-use Rattle.fs_json.specs.Members.{given_at, is_second}
+use Rattle.fs_json.specs.Members.{first_twice, given_at, is_given, is_second}
 
 -- whether a text has a `_`
 abbrev pub has_low_line : List ℕ → Bool
@@ -44,3 +45,18 @@ pub none_second : (names : List (List ℕ)) (all : Members) (key : List ℕ) →
 none_second [] all key none = refl
 none_second (name ∷ names) all key none =
     ap (λ b. b || is_second names all key) (not_second name key (is_some (given_at name all)) none) ∙ none_second names all key none
+
+-- so no member is given a second time by it
+pub not_twice : (names : List (List ℕ)) (all : Members) (key : List ℕ) (d : Data) (ms : Members) → is_second names all key ≡ false
+    → first_twice names all (member key d ms) ≡ first_twice names all ms
+not_twice names all key d ms none = ap (λ b. cond b (Some key) (first_twice names all ms)) (and_right (is_given key d) (is_second names all key) none)
+
+-- ---- what holds where a test fails
+
+pub on_false : (b : Bool) {P : Type 0} → (b ≡ false → P) → OnFalse b P
+on_false true h = tt
+on_false false h = h refl
+
+pub where_false : (b : Bool) {P Q : Type 0} → OnFalse b P → (P → Q) → OnFalse b Q
+where_false true h more = tt
+where_false false h more = more h

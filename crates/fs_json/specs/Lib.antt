@@ -1,7 +1,9 @@
 pub mod Answer
 pub mod Names
 pub mod Members
+pub mod Spellings
 pub mod Integer
+pub mod Scalars
 pub mod Base64
 pub mod Paths
 pub mod Time

@@ -1,12 +1,12 @@
 -- The members of an object that a request may have.
-use Rattle.std.specs.Prelude.{ℕ, Bool, true, not, ◌&&◌, List, [], ◌∷◌, ◌++◌, Option, Some, None, Result, Ok, Err, codes, is_some, option_map, option_and_then, if◌then◌else◌, ⊤}
+use Rattle.std.specs.Prelude.{ℕ, Bool, true, false, not, ◌&&◌, List, [], ◌∷◌, ◌++◌, Option, Some, None, Result, Ok, Err, codes, is_none, is_some, option_map, option_and_then, if◌then◌else◌, ⊤}
 use Rattle.std.specs.Option.{option_or, option_map_or, option_to_list}
 use Rattle.std.specs.List.{list_any}
 use Rattle.std.specs.Str.{bytes_eq}
 use Rattle.fs_path.specs.Place.{member_place}
 use Rattle.fs_path.specs.declared.place.Rule.TheVariants.{G}
 use Rattle.serde_json.specs.Data.{Data, null, boolean, number, string, array, object, Members, no_members, member}
-use Rattle.serde_json.specs.Find.{get_member, as_object}
+use Rattle.serde_json.specs.Find.{as_null, as_object, get, get_member}
 use Rattle.fs_json.specs.Names.{snake_of, spells}
 use Rattle.fs_json.specs.Answer.{or_fault, ◌>>=◌}
 use Rattle.fs_json.specs.declared.bad.Bad.{Bad}
@@ -24,6 +24,10 @@ is_given key (object ms) = true
 -- the value under this very key, if it counts as there
 abbrev pub given_at : List ℕ → Members → Option Data
 given_at key ms = option_and_then (λ d. if is_given key d then Some d else None) (get_member key ms)
+
+-- whether an object has a member under this very key, whose value isn't null
+abbrev pub is_there : List ℕ → Data → Bool
+is_there key d = option_map_or (λ v. is_none (as_null v)) (get key d) false
 
 -- ---- one member
 

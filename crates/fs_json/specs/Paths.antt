@@ -10,10 +10,9 @@ use Rattle.fs_path.specs.declared.field.FieldPath.{FieldPath}
 use Rattle.fs_path.specs.declared.name.DocName.{DocName}
 use Rattle.fs_path.specs.declared.name.Root.{Root}
 use Rattle.fs_path.specs.declared.place.Rule.{Rule}
-use Rattle.fs_path.specs.declared.place.Rule.TheVariants.{G}
 use Rattle.serde_json.specs.Data.{Data, string}
-use Rattle.serde_json.specs.Find.{as_str}
-use Rattle.fs_json.specs.Answer.{or_fault, ◌>>=◌}
+use Rattle.fs_json.specs.Answer.{◌>>=◌}
+use Rattle.fs_json.specs.Scalars.{text_at}
 use Rattle.fs_json.specs.declared.bad.Bad.{Bad}
 use Rattle.fs_json.specs.declared.bad.Bad.TheVariants.{At, Memory}
 
@@ -29,11 +28,11 @@ path_at place (Err e) = Err (rule_at place (rule_of e))
 
 -- the name of a document of any project and database
 abbrev pub reference_at : Data → List ℕ → Result DocName Bad
-reference_at d place = or_fault G place (as_str d) >>= λ text. path_at place (reference_of text)
+reference_at d place = text_at d place >>= λ text. path_at place (reference_of text)
 
 -- the name of a document of this root
 abbrev pub document_name_at : Root → Data → List ℕ → Result DocName Bad
-document_name_at root d place = or_fault G place (as_str d) >>= λ text. path_at place (document_of root text)
+document_name_at root d place = text_at d place >>= λ text. path_at place (document_of root text)
 
 -- the path of these names, of which there is at least one
 abbrev pub path_of : List (List ℕ) → Result FieldPath PathError
@@ -50,7 +49,7 @@ field_path_of text = named (field_of text)
 
 -- a field path
 abbrev pub field_path_at : Data → List ℕ → Result FieldPath Bad
-field_path_at d place = or_fault G place (as_str d) >>= λ text. path_at place (field_path_of text)
+field_path_at d place = text_at d place >>= λ text. path_at place (field_path_of text)
 
 -- a field path as it is written
 abbrev pub path_json : FieldPath → Data

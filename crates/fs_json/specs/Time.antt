@@ -1,13 +1,13 @@
 -- Times in JSON: strings of RFC 3339 (proto3 JSON: `google.protobuf.Timestamp`).
 use Rattle.std.specs.Prelude.{◌≡◌, ℕ, ℤ, List, Option, Some, None, Result, Ok, Err}
-use Rattle.fs_path.specs.declared.place.Rule.TheVariants.{G, T}
+use Rattle.fs_path.specs.declared.place.Rule.TheVariants.{T}
 use Rattle.fs_time.specs.Rfc3339.{time_of, time_text}
 use Rattle.fs_time.specs.declared.error.TimeError.{TimeError}
 use Rattle.fs_time.specs.declared.error.TimeError.TheVariants.{BadText, OutOfRange, Memory as NoMemory}
 use Rattle.serde_json.specs.Data.{Data, string}
-use Rattle.serde_json.specs.Find.{as_str}
-use Rattle.fs_json.specs.Answer.{made, or_fault, ◌>>=◌}
+use Rattle.fs_json.specs.Answer.{made, ◌>>=◌}
 use Rattle.fs_json.specs.Members.{member_or, required_as}
+use Rattle.fs_json.specs.Scalars.{text_at}
 use Rattle.fs_json.specs.declared.bad.Bad.{Bad}
 use Rattle.fs_json.specs.declared.bad.Bad.TheVariants.{At, Memory}
 
@@ -19,7 +19,7 @@ moment_at place (Err OutOfRange) = Err (At (T 2) place)
 moment_at place (Err (NoMemory e)) = Err (Memory e)
 
 abbrev pub time_at : Data → List ℕ → Result ℤ Bad
-time_at d place = or_fault G place (as_str d) >>= λ text. moment_at place (time_of text)
+time_at d place = text_at d place >>= λ text. moment_at place (time_of text)
 
 -- a time that has to be a member
 abbrev pub required_time_at : List ℕ → Data → List ℕ → Result ℤ Bad

@@ -16,7 +16,10 @@ pub enum Bad {
 }
 
 impl Bad {
-    /// The refusal that tells that this rule is broken where the way leads to. Only here a place is made of a way.
+    /// The refusal that tells that this rule is broken where the way leads to. Only here a place is made of a way, out of
+    /// line, since most of what is read is refused nowhere.
+    #[cold]
+    #[inline(never)]
     pub fn at(alloc: Global, rule: Rule, way: &Way<'_>) -> Bad
         ensures { IsBadAt rule (place_of way.now) result }
     {

@@ -36,7 +36,8 @@ pub fn read_each<R: ReadsItem>(
     read_items(alloc, reader, read_json_list(alloc, v, way)?, way)
 }
 
-fn read_items<R: ReadsItem>(
+/// Reads the items of a list, up to the first that is at fault.
+pub fn read_items<R: ReadsItem>(
     alloc: Global,
     reader: &R,
     items: &[Value],

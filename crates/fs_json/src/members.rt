@@ -1,5 +1,5 @@
 //! The members of an object: which may be there, which have to be, and in which spelling.
-ghost use Rattle.std.specs.Prelude.{◌≡◌, ◌++◌, ℕ, List, Option, map, None, option_map, IfSome, false, if◌then◌else◌};
+ghost use Rattle.std.specs.Prelude.{◌≡◌, ◌++◌, ℕ, List, Option, map, None, option_map, IfSome, false, option_and_then, Some, if◌then◌else◌};
 ghost use Rattle.std.specs.Bool.{OnFalse};
 ghost use Rattle.std.specs.List.{list_any};
 ghost use Rattle.fs_path.specs.Way.{place_of};
@@ -8,10 +8,11 @@ ghost use Rattle.serde_json.specs.Data.{Data, Members};
 ghost use Rattle.serde_json.specs.View.{view as json, members_view};
 ghost use Rattle.serde_json.specs.Find.{get_member};
 ghost use Rattle.fs_json.specs.Answer.{Gives};
-ghost use Rattle.fs_json.specs.Members.{at_most_one_at, chosen, first_twice, first_unknown, given_at, is_given, is_second, member_at, first_spelled, none_or_one, one_of_at, only_at, required_at, unbuilt_at};
+ghost use Rattle.fs_json.specs.Spellings.{second_at, second_given};
+ghost use Rattle.fs_json.specs.Members.{at_most_one_at, chosen, first_twice, first_wrong, given_at, is_given, is_second, is_there, member_at, first_spelled, none_or_one, one_of_at, only_at, required_at, unbuilt_at};
 
 use crate::bad::Bad;
-use crate::names::{is_snake, spells};
+use crate::names::{is_second_spelling, is_snake, spells};
 use fs_path::{Rule, Text, Way};
 use serde_json::{Map, Value};
 use std::alloc::Global;
@@ -35,15 +36,10 @@ pub fn member<'a>(
     let Value::Object(members) = v else {
         return Ok(None);
     };
-    let first = given_at(members, name);
-    if is_snake(name.as_bytes(), name.as_bytes()) {
-        return Ok(first);
-    }
-    match (first, given_in_snake_case(members, name)) {
+    match given_in(members, name) {
+        (first, None) => Ok(first),
+        (None, Some((_, second))) => Ok(Some(second)),
         (Some(_), Some((key, _))) => Err(Bad::at(alloc, Rule::G, &way.member(key))),
-        (Some(found), None) => Ok(Some(found)),
-        (None, Some((_, found))) => Ok(Some(found)),
-        (None, None) => Ok(None),
     }
 }
 
@@ -126,7 +122,7 @@ pub fn only_of_two(
     let Value::Object(members) = v else {
         return Err(Bad::at(alloc, Rule::G, way));
     };
-    match first_unknown(members, these, those).or(first_twice(members, these, those)) {
+    match first_wrong(members, these, those) {
         Some(key) => Err(Bad::at(alloc, Rule::G, &way.member(key))),
         None => Ok(()),
     }
@@ -145,6 +141,19 @@ pub fn refuse_unbuilt(alloc: Global, v: &Value, names: &[&str], way: &Way<'_>) -
     }
 }
 
+/// Whether an object has a member under this very key, with a value that isn't null. What is no object has none.
+///
+/// It tells the form of an object whose other spellings and members are looked at only later: in `{"clock":1}` there is a
+/// `clock`, in `{"clock":null}` there is none.
+pub fn is_there(v: &Value, key: &str) -> bool
+    ensures { result ≡ is_there key.now (json v.now) }
+{
+    match v.get(key) {
+        Some(found) => !found.is_null(),
+        None => false,
+    }
+}
+
 /// Whether a member counts as there.
 fn is_given(key: &str, v: &Value) -> bool
     ensures { result ≡ is_given key.now (json v.now) }
@@ -160,7 +169,15 @@ fn given_at<'a>(members: &'a Map<String, Value>, key: &str) -> Option<&'a Value>
     ensures { option_map (λ x. json x.now) result
         ≡ given_at key.now (members_view members.now.entries) }
 {
-    match found_at(members, key) {
+    given(key, found_at(members, key))
+}
+
+// What stands under a key, if it counts as there.
+fn given<'a>(key: &str, found: Option<&'a Value>) -> Option<&'a Value>
+    ensures { option_map (λ x. json x.now) result
+        ≡ option_and_then (λ d. if is_given key.now d then Some d else None) (option_map (λ x. json x.now) found.entry) }
+{
+    match found {
         Some(v) => if is_given(key, v) { Some(v) } else { None },
         None => None,
     }
@@ -173,55 +190,69 @@ fn found_at<'a>(members: &'a Map<String, Value>, key: &str) -> Option<&'a Value>
     members.get(key)
 }
 
-/// The member in snake_case, if it counts as there, with its key.
-fn given_in_snake_case<'a>(
+// The member under the name itself, and that under its second spelling with its key, each if it counts as there.
+fn given_in<'a>(
     members: &'a Map<String, Value>,
     name: &str,
-) -> Option<(&'a str, &'a Value)>
-    ensures value { option_map (λ x. json x.1.now) result
-        ≡ given_at (snake_of name.now) (members_view members.now.entries) }
-    ensures key { IfSome result (λ x. x.0.now ≡ snake_of name.now) }
+) -> (Option<&'a Value>, Option<(&'a str, &'a Value)>)
+    ensures first { option_map (λ x. json x.now) result.0 ≡ given_at name.now (members_view members.now.entries) }
+    ensures second { option_map (λ x. json x.1.now) result.1 ≡ second_given name.now (members_view members.now.entries) }
+    ensures key { IfSome result.1 (λ x. x.0.now ≡ snake_of name.now) }
 {
-    match found_in_snake_case(members, name) {
+    let (first, second) = found_in(members, name);
+    let second = match second {
         Some((key, v)) => if is_given(key, v) {
             Some((key, v))
         } else {
             None
         },
         None => None,
-    }
+    };
+    (given(name, first), second)
 }
 
-fn found_in_snake_case<'a>(
+// Both, whether or not they count as there. Of `{"aB":2,"a_b":null}` they are those of `aB`, and of `{"a":1}` that of `a` alone.
+fn found_in<'a>(
     members: &'a Map<String, Value>,
     name: &str,
-) -> Option<(&'a str, &'a Value)>
-    ensures value { option_map (λ x. json x.1.now) result
-        ≡ get_member (snake_of name.now) (members_view members.now.entries) }
-    ensures key { IfSome result (λ x. x.0.now ≡ snake_of name.now) }
+) -> (Option<&'a Value>, Option<(&'a str, &'a Value)>)
+    ensures first { option_map (λ x. json x.now) result.0 ≡ get_member name.now (members_view members.now.entries) }
+    ensures second { option_map (λ x. json x.1.now) result.1 ≡ second_at name.now (members_view members.now.entries) }
+    ensures key { IfSome result.1 (λ x. x.0.now ≡ snake_of name.now) }
 {
+    let mut first = None;
+    let mut second = None;
     for (key, v) in members.iter() {
-        if is_snake(name.as_bytes(), key.as_bytes()) {
-            return Some((key.as_str(), v));
+        if name == key.as_str() {
+            first = first.or(Some(v));
+        } else if is_second_spelling(name, key.as_str()) {
+            second = second.or(Some((key.as_str(), v)));
         }
     }
-    None
+    (first, second)
 }
 
-fn first_unknown<'a>(
+// The first key of no name, and else the first by which a member is given a second time.
+fn first_wrong<'a>(
     members: &'a Map<String, Value>,
     these: &[&str],
     those: &[&str],
 ) -> Option<&'a str>
     ensures { option_map (λ key. key.now) result
-        ≡ first_unknown (map (λ n. n.now) these.now ++ map (λ n. n.now) those.now) (members_view members.now.entries) }
+        ≡ first_wrong (map (λ n. n.now) these.now ++ map (λ n. n.now) those.now) (members_view members.now.entries) }
 {
+    let mut may_be_twice = false;
     for (key, _) in members.iter() {
         if !is_known_of_two(these, those, key.as_str()) {
             return Some(key.as_str());
         }
+        may_be_twice = may_be_twice || may_be_second(key.as_str());
     }
-    None
+    if may_be_twice {
+        first_twice(members, these, those)
+    } else {
+        None
+    }
 }
 
 fn is_known_of_two(these: &[&str], those: &[&str], key: &str) -> bool
@@ -264,6 +295,7 @@ fn is_second_of_two(members: &Map<String, Value>, these: &[&str], those: &[&str]
 }
 
 // Whether a key can be a name's second spelling: one without a `_`, as most are, is spelled as the name itself.
+// (docs/DECISIONS.md, "A key without a `_` is never looked at as a second spelling".)
 fn may_be_second(key: &str) -> bool
     ensures { OnFalse result ((names : List (List ℕ)) (all : Members) → is_second names all key.now ≡ false) }
 {
@@ -310,10 +342,9 @@ fn chosen_by<'n>(names: &[&'n str], key: &str, v: &Value) -> Option<&'n str>
     ensures { option_map (λ name. name.now) result
         ≡ (if is_given key.now (json v.now) then first_spelled (map (λ n. n.now) names.now) key.now else None) }
 {
-    if is_given(key, v) {
-        first_spelled(names, key)
-    } else {
-        None
+    match first_spelled(names, key) {
+        Some(name) => if is_given(key, v) { Some(name) } else { None },
+        None => None,
     }
 }
 

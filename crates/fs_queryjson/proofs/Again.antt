@@ -28,7 +28,7 @@ use Rattle.fs_queryjson.specs.Filter.{filter_at, where_in}
 use Rattle.fs_path.specs.Scope.{scope_parent}
 use Rattle.fs_queryjson.specs.From.{from_json, scopes_at, scopes_in}
 use Rattle.fs_queryjson.specs.Held.{AreFirstHeld, AreLastHeld, AreValuesHeld, IsCursorHeld, IsHeld, IsLimitHeld, IsOrderHeld, IsSelectHeld, IsSmallHeld}
-use Rattle.fs_queryjson.specs.Member.{small_at}
+use Rattle.fs_json.specs.Scalars.{small_at}
 use Rattle.fs_queryjson.specs.Order.{order_at, order_json, orders_at, orders_in}
 use Rattle.fs_queryjson.specs.Query.{limit_in, offset_in, permitted_at, query_at, query_members, walked_at, unless_broken}
 use Rattle.fs_queryjson.specs.Select.{fields_json, select_at, select_in, select_json, selection_of}

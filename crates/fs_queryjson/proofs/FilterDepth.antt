@@ -1,43 +1,29 @@
 -- What is written of a filter that was read nests no deeper than what was read.
-use Rattle.std.proofs.Common.{ℕ, zero, suc, ◌+◌, ◌≤◌, ◌<◌, ℤ, pos, negsuc, List, [], ◌∷◌, map, Bool, true, false, Option, Some, None, Result, Ok, Err, IfOk, IfSome, option_map, codes, bytes_eq, arith}
+use Rattle.std.proofs.Common.{ℕ, suc, ◌+◌, ◌≤◌, ◌<◌, List, [], ◌∷◌, Bool, true, false, Result, Ok, Err, IfOk, codes, bytes_eq, arith}
 use Rattle.std.proofs.lemmas.Result.{IfOk-weaker}
 use Rattle.std.specs.List.{AllByRecursion}
 use Rattle.fs_path.specs.Place.{member_place, item_place}
 use Rattle.fs_path.specs.declared.field.FieldPath.{FieldPath}
 use Rattle.fs_path.specs.declared.place.Rule.TheVariants.{G}
-use Rattle.fs_path.specs.declared.scope.Scope.{Scope}
-use Rattle.fs_path.specs.declared.scope.Scope.TheVariants.{Collection, Group}
 use Rattle.serde_json.specs.Data as json
 use Rattle.serde_json.specs.Data.{depth, items_depth, members_depth}
-use Rattle.serde_json.specs.View.{items_of}
 use Rattle.fs_value.specs.Data.{Data}
-use Rattle.fs_json.specs.Integer.{small_json}
-use Rattle.fs_json.specs.Members.{only_at, the_one, required_as, member_or}
+use Rattle.fs_json.specs.Members.{only_at, the_one, required_as}
 use Rattle.fs_json.specs.Paths.{field_path_at}
 use Rattle.fs_json.specs.declared.bad.Bad.{Bad}
 use Rattle.fs_json.specs.declared.bad.Bad.TheVariants.{At}
-use Rattle.fs_query.specs.Asked.{Asked}
-use Rattle.fs_query.specs.Condition.{Condition, anything, compared, is_null, is_not_null, all_of, any_of, conditions_of}
-use Rattle.fs_query.specs.Rules.{rule_of_query}
-use Rattle.fs_query.specs.declared.cursor.Cursor.{Cursor}
-use Rattle.fs_query.specs.declared.order.Order.{Order}
-use Rattle.fs_query.specs.declared.rule.QueryRule.{QueryRule}
+use Rattle.fs_query.specs.Condition.{Condition, conditions_of}
 use Rattle.fs_json.proofs.Readings.{at_last_holds, either, in_turn_holds, of_made, as_it_is, both_hold}
 use Rattle.fs_json.proofs.Choices.{each_chosen, one_of, only_one_of}
-use Rattle.fs_json.proofs.Depths.{inside, inside_or}
-use Rattle.fs_valjson.proofs.Depths.{list_within, value_within}
-use Rattle.fs_valjson.specs.Reading.{list_at, value_at}
-use Rattle.fs_valjson.specs.Writing.{list_json, value_json}
-use Rattle.fs_queryjson.specs.Cursor.{cursor_at, cursor_in, cursor_json, cursor_members, with_values}
+use Rattle.fs_json.proofs.Depths.{inside}
+use Rattle.fs_valjson.proofs.Depths.{value_within}
+use Rattle.fs_valjson.specs.Reading.{value_at}
+use Rattle.fs_valjson.specs.Writing.{value_json}
 use Rattle.fs_queryjson.specs.Field.{field_at, field_in, field_members}
-use Rattle.fs_queryjson.specs.Filter.{compare_at, compare_members, composite_of, each_filter_at, filter_at, filter_kinds, filters_at, inner_in, inner_members, join_at, joined, kind_at, kinds_in, nullness, simple_at, unary_at, unary_members, where_in}
-use Rattle.fs_queryjson.specs.From.{from_json, scopes_in, the_scope}
-use Rattle.fs_queryjson.specs.Member.{truth_at}
+use Rattle.fs_queryjson.specs.Filter.{compare_at, compare_members, composite_of, each_filter_at, filter_at, filter_kinds, filters_at, inner_in, inner_members, join_at, joined, kind_at, kinds_in, nullness, simple_at, unary_at, unary_members}
 use Rattle.fs_queryjson.specs.Op.{is_null_at, op_at}
-use Rattle.fs_queryjson.specs.Order.{order_json, orders_in}
-use Rattle.fs_queryjson.specs.Query.{limit_in, offset_in, permitted_at, query_members, unless_broken, walked_at}
-use Rattle.fs_queryjson.specs.Select.{fields_json, select_in, select_json, written_paths}
-use Rattle.fs_queryjson.specs.Written.{composite_json, filter_json, filters_json, offset_json, order_by_json, query_json, query_parts, those_there, where_json, with_member}
+use Rattle.fs_queryjson.specs.Written.{composite_json, filter_json, filters_json}
+use Rattle.fs_queryjson.proofs.Simple.{simple_holds}
 
 -- a field stands in an object in an object
 field_deep : (d : json.Data) (place : List ℕ) → IfOk (field_in d place) (λ p. 1 < depth d)
@@ -76,9 +62,7 @@ unary_within d place n h =
     (λ null. in_turn_holds (λ p. 1 < depth d) P (field_in d place) _ (field_deep d place) (λ path deep. nullness_within null path n (omega (arith, deep, h)))))
 
 simple_within : (name : List ℕ) (d : json.Data) (place : List ℕ) (n : ℕ) → depth d < n → IfOk (simple_at name d place) (FilterWithin n)
-simple_within name d place n h =
-    either (FilterWithin n) (bytes_eq name (codes "fieldFilter")) _ _ (compare_within d place n h)
-    (either (FilterWithin n) (bytes_eq name (codes "unaryFilter")) _ _ (unary_within d place n h) (record {}))
+simple_within name d place n h = simple_holds (FilterWithin n) name d place (compare_within d place n h) (unary_within d place n h)
 
 -- filters that are joined, as they are written in an object
 abbrev JoinWithin : ℕ → List Condition → Type 0

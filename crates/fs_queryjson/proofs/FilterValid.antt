@@ -1,38 +1,25 @@
 -- A filter that is read asks something in each of its parts, and its references are names of documents.
-use Rattle.std.proofs.Common.{◌≡◌, ℕ, ◌+◌, List, [], ◌∷◌, Bool, true, false, Option, Some, None, Result, Ok, Err, IfOk, codes, bytes_eq, refl}
+use Rattle.std.proofs.Common.{ℕ, ◌+◌, List, [], ◌∷◌, Bool, true, false, Result, Ok, Err, IfOk, codes, bytes_eq}
 use Rattle.std.specs.List.{AllByRecursion}
 use Rattle.fs_path.specs.Place.{member_place, item_place}
 use Rattle.fs_path.specs.declared.field.FieldPath.{FieldPath}
 use Rattle.fs_path.specs.declared.place.Rule.TheVariants.{G}
-use Rattle.fs_path.specs.declared.scope.Scope.{Scope}
 use Rattle.serde_json.specs.Data as json
-use Rattle.fs_value.specs.Data.{items_of}
-use Rattle.fs_json.specs.Members.{member_at, only_at, required_at, the_one, required_as, member_or}
+use Rattle.fs_json.specs.Members.{only_at, the_one, required_as}
 use Rattle.fs_json.specs.declared.bad.Bad.{Bad}
 use Rattle.fs_json.specs.declared.bad.Bad.TheVariants.{At}
-use Rattle.fs_query.specs.Asked.{Asked}
 use Rattle.fs_query.specs.Condition.{Condition, anything, compared, is_null, is_not_null, all_of, any_of, conditions_of}
-use Rattle.fs_query.specs.Rules.{rule_of_query}
-use Rattle.fs_query.specs.declared.cursor.Cursor.{Cursor}
-use Rattle.fs_query.specs.declared.rule.QueryRule.{QueryRule}
-use Rattle.fs_json.proofs.Readings.{at_last_holds, either, found_or, in_turn_holds, of_made, member_holds, both_hold, required_holds}
+use Rattle.fs_json.proofs.Readings.{at_last_holds, either, in_turn_holds, of_made, member_holds, both_hold, required_holds}
 use Rattle.fs_json.proofs.Choices.{each_chosen, one_of, only_one_of}
-use Rattle.fs_json.proofs.Walks.{each_of_list}
-use Rattle.fs_valjson.specs.Reading.{list_at, value_at}
-use Rattle.fs_valjson.proofs.Valid.{list_names, value_names}
-use Rattle.fs_valjson.specs.Writing.{HasNames, ItemsHaveNames}
-use Rattle.fs_queryjson.specs.Cursor.{cursor_at, cursor_in, cursor_members}
+use Rattle.fs_valjson.specs.Reading.{value_at}
+use Rattle.fs_valjson.proofs.Valid.{value_names}
+use Rattle.fs_valjson.specs.Writing.{HasNames}
 use Rattle.fs_queryjson.specs.Field.{field_in}
 use Rattle.fs_queryjson.specs.Filter.{compare_at, compare_members, composite_of, each_filter_at, filter_at, filter_kinds, filters_at, inner_in, inner_members, join_at, joined, kind_at, kinds_in, nullness, simple_at, unary_at, unary_members, where_in}
-use Rattle.fs_path.specs.Scope.{scope_parent}
-use Rattle.fs_queryjson.specs.From.{from_members, scope_at, scope_of, scopes_at, scopes_in, the_scope}
-use Rattle.fs_queryjson.specs.Member.{text_at, truth_at}
 use Rattle.fs_queryjson.specs.Op.{is_null_at, op_at}
-use Rattle.fs_queryjson.specs.Order.{orders_in}
-use Rattle.fs_queryjson.specs.Query.{limit_in, offset_in, permitted_at, query_members, unless_broken, walked_at}
-use Rattle.fs_queryjson.specs.Select.{fields_in, select_at, select_in, select_members, selection_of}
-use Rattle.fs_queryjson.specs.Valid.{AreFilters, CursorHasNames, IsFilter, IsValid, IsWhere, SelectsSome}
+use Rattle.fs_queryjson.specs.Valid.{AreFilters, IsFilter, IsWhere}
 use Rattle.std.proofs.lemmas.Result.{IfOk-weaker}
+use Rattle.fs_queryjson.proofs.Simple.{simple_holds}
 
 compare_valid : (d : json.Data) (place : List ℕ) → IfOk (compare_at d place) IsFilter
 unfolding compare_at
@@ -54,9 +41,7 @@ unary_valid d place =
     (λ u. at_last_holds IsFilter (required_as is_null_at (codes "op") d place) _ (λ null. at_last_holds IsFilter (field_in d place) _ (λ path. nullness_valid null path)))
 
 simple_valid : (name : List ℕ) (d : json.Data) (place : List ℕ) → IfOk (simple_at name d place) IsFilter
-simple_valid name d place =
-    either IsFilter (bytes_eq name (codes "fieldFilter")) _ _ (compare_valid d place)
-    (either IsFilter (bytes_eq name (codes "unaryFilter")) _ _ (unary_valid d place) (record {}))
+simple_valid name d place = simple_holds IsFilter name d place (compare_valid d place) (unary_valid d place)
 
 -- filters that are joined
 abbrev AreJoined : List Condition → Type 0

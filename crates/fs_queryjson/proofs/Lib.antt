@@ -9,4 +9,5 @@ pub mod Put
 pub mod QueryDepth
 pub mod QueryValid
 pub mod Rows
+mod Simple
 pub mod Written

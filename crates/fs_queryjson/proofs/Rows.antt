@@ -1,5 +1,5 @@
 -- Members of which some are absent: which of them is found, that no others are there, and how they are put in.
-use Rattle.std.proofs.Common.{◌≡◌, ℕ, List, [], ◌∷◌, ◌&&◌, ◌||◌, Bool, true, false, cond, Option, Some, None, Ordering, Less, Equal, Greater, Ok, Err, refl, ap, ◌∙◌, bytes_eq, nat_cmp}
+use Rattle.std.proofs.Common.{◌≡◌, ℕ, List, [], ◌∷◌, ◌&&◌, Bool, true, false, cond, Option, Some, None, Ordering, Less, Equal, Greater, Ok, Err, refl, ap, ◌∙◌, bytes_eq, nat_cmp}
 use Rattle.std.specs.Prelude.{option_and_then}
 use Rattle.std.specs.Cmp.Lexicographic.{slice_cmp}
 use Rattle.std.specs.List.{list_any}

@@ -1,5 +1,5 @@
 -- What is written so far, with one more filter.
-use Rattle.std.proofs.Common.{◌≡◌, ℕ, ◌+◌, ◌<◌, List, [], ◌∷◌, ◌++◌, map, take, length, get_or, Result, Ok, Err, OnOk, refl, sym, ap, ◌∙◌}
+use Rattle.std.proofs.Common.{◌≡◌, ℕ, ◌+◌, ◌<◌, List, [], ◌∷◌, ◌++◌, map, take, length, get_or, refl, sym, ap, ◌∙◌}
 use Rattle.std.proofs.lemmas.List.{map_more}
 use Rattle.serde_json.specs.Data as json
 use Rattle.serde_json.specs.View.{view as json_view, items_view}

@@ -11,7 +11,7 @@ use Rattle.fs_value.specs.Data.{Data}
 use Rattle.fs_query.specs.declared.cursor.Cursor.{Cursor}
 use Rattle.fs_valjson.specs.Reading.{list_at}
 use Rattle.fs_valjson.specs.Writing.{list_json}
-use Rattle.fs_queryjson.specs.Member.{truth_at}
+use Rattle.fs_json.specs.Scalars.{truth_at}
 
 abbrev pub cursor_members : List (List ℕ)
 cursor_members = codes "values" ∷ codes "before" ∷ []

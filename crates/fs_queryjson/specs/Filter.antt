@@ -6,7 +6,7 @@ use Rattle.fs_path.specs.declared.field.FieldPath.{FieldPath}
 use Rattle.fs_path.specs.declared.place.Rule.TheVariants.{G}
 use Rattle.serde_json.specs.Data as json
 use Rattle.fs_json.specs.Answer.{◌>>=◌, made}
-use Rattle.fs_json.specs.Members.{if_chosen, only_at, required_at, the_one, member_or, required_as}
+use Rattle.fs_json.specs.Members.{if_chosen, only_at, the_one, member_or, required_as}
 use Rattle.fs_json.specs.declared.bad.Bad.{Bad}
 use Rattle.fs_json.specs.declared.bad.Bad.TheVariants.{At}
 use Rattle.fs_query.specs.Condition.{Condition, anything, compared, is_null, is_not_null, all_of, any_of, conditions_of}

@@ -11,7 +11,7 @@ use Rattle.fs_json.specs.Answer.{◌>>=◌}
 use Rattle.fs_json.specs.Members.{only_at, member_or}
 use Rattle.fs_json.specs.Walk.{all_at}
 use Rattle.fs_json.specs.declared.bad.Bad.{Bad}
-use Rattle.fs_queryjson.specs.Member.{text_at, truth_at}
+use Rattle.fs_json.specs.Scalars.{text_at, truth_at}
 
 abbrev pub from_members : List (List ℕ)
 from_members = codes "collectionId" ∷ codes "allDescendants" ∷ []

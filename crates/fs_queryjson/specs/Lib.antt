@@ -1,4 +1,3 @@
-pub mod Member
 pub mod Field
 pub mod Select
 pub mod From

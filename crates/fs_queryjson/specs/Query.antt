@@ -13,7 +13,7 @@ use Rattle.fs_query.specs.declared.rule.QueryRule.{QueryRule}
 use Rattle.fs_queryjson.specs.Cursor.{cursor_in}
 use Rattle.fs_queryjson.specs.Filter.{where_in}
 use Rattle.fs_queryjson.specs.From.{scopes_in, the_scope}
-use Rattle.fs_queryjson.specs.Member.{small_at}
+use Rattle.fs_json.specs.Scalars.{small_at}
 use Rattle.fs_queryjson.specs.Order.{orders_in}
 use Rattle.fs_queryjson.specs.Select.{select_in}
 

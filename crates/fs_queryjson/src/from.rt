@@ -6,7 +6,7 @@ ghost use Rattle.fs_path.specs.declared.scope.Scope.TheVariants.{Collection};
 ghost use Rattle.serde_json.specs.View.{view as json};
 ghost use Rattle.fs_json.specs.Answer.{Gives};
 ghost use Rattle.fs_queryjson.specs.From.{scope_at, scope_of, scopes_in, the_scope};
-ghost use Rattle.fs_queryjson.specs.Member.{text_at};
+ghost use Rattle.fs_json.specs.Scalars.{text_at};
 ghost use Rattle.fs_json.specs.Members.{member_or};
 
 use crate::member::read_truth_of;

@@ -4,7 +4,7 @@ ghost use Rattle.fs_path.specs.Way.{place_of};
 ghost use Rattle.serde_json.specs.View.{view as json};
 ghost use Rattle.fs_json.specs.Answer.{Gives, made};
 ghost use Rattle.fs_json.specs.Members.{member_or};
-ghost use Rattle.fs_queryjson.specs.Member.{small_at, truth_at};
+ghost use Rattle.fs_json.specs.Scalars.{small_at, truth_at};
 
 use fs_json::{Bad, member, read_small, read_truth};
 use fs_path::Way;

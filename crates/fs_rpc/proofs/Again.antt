@@ -1,5 +1,5 @@
 -- What is written of a message is read as the same message.
-use Rattle.std.proofs.Common.{◌≡◌, ℕ, ℤ, ◌+◌, true, false, List, [], ◌∷◌, map, filter_map, is_some, Option, Some, None, Result, Ok, IfSome, codes, refl, ap, ◌∙◌}
+use Rattle.std.proofs.Common.{◌≡◌, ℕ, ℤ, ◌+◌, true, false, List, [], ◌∷◌, map, filter_map, is_some, Option, Some, None, Result, Ok, codes, refl, ap, ◌∙◌}
 use Rattle.std.proofs.lemmas.Cmp.{int_eq_equiv}
 use Rattle.std.specs.List.{AllByRecursion, list_all}
 use Rattle.std.specs.Ordering.{int_eq}
@@ -18,10 +18,8 @@ use Rattle.fs_json.specs.Answer.{or_fault, ◌>>=◌}
 use Rattle.fs_json.specs.Members.{is_given}
 use Rattle.fs_json.specs.declared.bad.Bad.{Bad}
 use Rattle.fs_valjson.specs.Document.{document_at, document_json}
-use Rattle.fs_valjson.specs.Reading.{list_at}
 use Rattle.fs_json.specs.Time.{IsTimeHeld}
 use Rattle.fs_valjson.specs.Valid.{IsValid}
-use Rattle.fs_valjson.specs.Writing.{list_json}
 use Rattle.fs_value.specs.Data as value
 use Rattle.fs_value.specs.declared.document.Document.{Document}
 use Rattle.fs_write.specs.declared.write_result.WriteResult.{WriteResult}

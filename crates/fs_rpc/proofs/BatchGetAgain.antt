@@ -3,7 +3,7 @@ use Rattle.std.proofs.Common.{◌≡◌, ℕ, ℤ, ◌+◌, false, List, [], ◌
 use Rattle.std.specs.List.{list_any, AllByRecursion, IsDistinct}
 use Rattle.std.proofs.lemmas.List.Folds.{list_any-append}
 use Rattle.std.proofs.lemmas.Map.Keys.{IsDistinct-head, IsDistinct-tail}
-use Rattle.fs_path.specs.Database.{IsDatabase}
+use Rattle.fs_path.specs.Database.{database_text, IsDatabase}
 use Rattle.fs_path.specs.Document.{document_text, IsDocumentOf}
 use Rattle.fs_path.proofs.Documents.{document_only}
 use Rattle.fs_path.specs.NameOrder.{name_eq, name_eq_equiv}
@@ -23,7 +23,7 @@ use Rattle.fs_rpc.specs.RequestSteps.{IsMaskHeld}
 use Rattle.fs_rpc.specs.Requests.{batch_get_at, each_once_at, once, once_after}
 use Rattle.fs_rpc.specs.declared.request.Request.{Request}
 use Rattle.fs_rpc.specs.declared.request.Request.TheVariants.{BatchGetDocuments}
-use Rattle.fs_rpc.proofs.Parents.{database_again}
+use Rattle.fs_path.proofs.Databases.{database_taken}
 
 -- ---- names, each once
 
@@ -66,13 +66,13 @@ pub batch_get_again : (root : Root) (ns : List DocName) (mask : Option (List Fie
     → IsDistinct name_eq ns → IsMaskHeld mask → IfSome time IsTimeHeld → batch_get_at root (batch_get_json root ns mask time) place ≡ Ok (BatchGetDocuments root ns mask time)
 unfolding batch_get_at
 batch_get_again root ns None None place named valid distinct held told =
-    rw (database_again root named, names_again root ns (member_place place (codes "documents")) valid distinct) refl
+    rw ((database_taken root (database_text root)).1 (named, refl), names_again root ns (member_place place (codes "documents")) valid distinct) refl
 batch_get_again root ns None (Some time) place named valid distinct held told =
-    rw (database_again root named, names_again root ns (member_place place (codes "documents")) valid distinct, told (member_place place (codes "readTime"))) refl
+    rw ((database_taken root (database_text root)).1 (named, refl), names_again root ns (member_place place (codes "documents")) valid distinct, told (member_place place (codes "readTime"))) refl
 batch_get_again root ns (Some paths) None place named valid distinct held told =
-    rw (database_again root named, names_again root ns (member_place place (codes "documents")) valid distinct, held.again (member_place place (codes "mask"))) refl
+    rw ((database_taken root (database_text root)).1 (named, refl), names_again root ns (member_place place (codes "documents")) valid distinct, held.again (member_place place (codes "mask"))) refl
 batch_get_again root ns (Some paths) (Some time) place named valid distinct held told =
-    rw (database_again root named, names_again root ns (member_place place (codes "documents")) valid distinct, held.again (member_place place (codes "mask")), told (member_place place (codes "readTime"))) refl
+    rw ((database_taken root (database_text root)).1 (named, refl), names_again root ns (member_place place (codes "documents")) valid distinct, held.again (member_place place (codes "mask")), told (member_place place (codes "readTime"))) refl
 
 -- ---- with its id
 

@@ -1,7 +1,7 @@
 -- What is written of a commit is read as the same commit.
 use Rattle.std.proofs.Common.{◌≡◌, ℕ, ◌+◌, List, [], ◌∷◌, map, Option, Some, None, Result, Ok, Err, codes, refl}
 use Rattle.std.specs.List.{AllByRecursion}
-use Rattle.fs_path.specs.Database.{IsDatabase}
+use Rattle.fs_path.specs.Database.{database_text, IsDatabase}
 use Rattle.fs_path.specs.Place.{item_place, member_place}
 use Rattle.fs_path.specs.declared.name.Root.{Root}
 use Rattle.serde_json.specs.Data.{Data, Items, item, Members, no_members, member, object}
@@ -21,7 +21,7 @@ use Rattle.fs_rpc.specs.RequestSteps.{IsWriteHeld}
 use Rattle.fs_rpc.specs.Requests.{commit_at}
 use Rattle.fs_rpc.specs.declared.request.Request.{Request}
 use Rattle.fs_rpc.specs.declared.request.Request.TheVariants.{Commit}
-use Rattle.fs_rpc.proofs.Parents.{database_again}
+use Rattle.fs_path.proofs.Databases.{database_taken}
 
 -- ---- one write
 
@@ -69,12 +69,12 @@ some_again : (root : Root) (w : Write) (ws : List Write) (place : List ℕ) → 
     → commit_at root (commit_json root (w ∷ ws)) place ≡ Ok (Commit root (w ∷ ws))
 unfolding commit_at
 some_again root w ws place named all =
-    rw (database_again root named, all.read, judged root (writes_json (w ∷ ws)) (member_place place (codes "writes")) (w ∷ ws) all) refl
+    rw ((database_taken root (database_text root)).1 (named, refl), all.read, judged root (writes_json (w ∷ ws)) (member_place place (codes "writes")) (w ∷ ws) all) refl
 
 pub commit_again : (root : Root) (ws : List Write) (place : List ℕ) → IsDatabase root → AllByRecursion IsWriteHeld ws → AllByRecursion (IsWriteOf root) ws
     → commit_at root (commit_json root ws) place ≡ Ok (Commit root ws)
 unfolding commit_at
-commit_again root [] place named held valid = rw (database_again root named) refl
+commit_again root [] place named held valid = rw ((database_taken root (database_text root)).1 (named, refl)) refl
 commit_again root (w ∷ ws) place named held valid = some_again root w ws place named (all_drafted root (w ∷ ws) 0 (member_place place (codes "writes")) held valid)
 
 -- ---- with its id

@@ -4,7 +4,6 @@ pub mod Named
 pub mod Put
 pub mod Once
 pub mod Structured
-pub mod Parents
 pub mod CommitAgain
 pub mod GetAgain
 pub mod BatchGetAgain

@@ -8,24 +8,22 @@ use Rattle.fs_path.specs.Place.{member_place}
 use Rattle.fs_path.specs.declared.name.Root.{Root}
 use Rattle.fs_path.specs.declared.place.Rule.TheVariants.{G}
 use Rattle.fs_json.specs.Answer.{or_fault, ◌>>=◌}
-use Rattle.fs_json.specs.Members.{one_of_at, only_at}
+use Rattle.fs_json.specs.Members.{one_of_at, only_at, required_as}
+use Rattle.fs_json.specs.Scalars.{text_at}
 use Rattle.fs_json.specs.Paths.{document_name_at}
 use Rattle.fs_json.specs.Walk.{all_at, each_at}
-use Rattle.fs_value.specs.Data as value
 use Rattle.fs_value.specs.declared.document.Document.{Document}
 use Rattle.fs_json.proofs.Readings.{at_last_holds, either, in_turn_holds}
 use Rattle.fs_json.proofs.Walks.{each_inside, list_inside}
 use Rattle.fs_json.proofs.Depths.{inside_or, one_falls}
-use Rattle.fs_json.specs.Time.{optional_time_at, required_time_at}
-use Rattle.fs_valjson.proofs.Depths.{document_within, list_within}
+use Rattle.fs_json.specs.Time.{required_time_at}
+use Rattle.fs_valjson.proofs.Depths.{document_within}
 use Rattle.fs_valjson.specs.Document.{document_at, document_json}
-use Rattle.fs_valjson.specs.Reading.{list_at}
-use Rattle.fs_valjson.specs.Writing.{list_json}
 use Rattle.fs_write.specs.declared.write_result.WriteResult.{WriteResult}
 use Rattle.fs_writejson.specs.Results.{result_json, write_result_at}
 use Rattle.fs_rpc.specs.Id.{id_at}
 use Rattle.fs_rpc.specs.MessageJson.{batch_answer_json, commit_json, error_json, error_members, message_json, query_answer_json, query_answers_json, result_members}
-use Rattle.fs_rpc.specs.ReadMessage.{answers_commit, answers_names, code_named, commit_result_at, commit_result_members, documents_result_at, error_at, if_numbered, list_result_at, message_at, message_members, object_result_at, outcome_at, outcomes, query_result_at, required_integer_at, required_text_at, result_at}
+use Rattle.fs_rpc.specs.ReadMessage.{answers_commit, answers_names, code_named, commit_result_at, commit_result_members, documents_result_at, error_at, if_numbered, list_result_at, message_at, message_members, object_result_at, outcome_at, outcomes, query_result_at, required_integer_at, result_at}
 use Rattle.fs_rpc.specs.ReadMessage as read
 use Rattle.fs_rpc.specs.ReadResults.{answered, batch_answer_at, batch_answer_members, document_in, found_or_missing, query_answer_at, query_answer_members, results_in, answers_time}
 use Rattle.fs_rpc.specs.declared.message.BatchAnswer.{BatchAnswer}
@@ -174,8 +172,8 @@ error_within root id d place n =
     let P = IsWithin (n + 3) in
     at_last_holds P (only_at read.error_members d place) _
     (λ u. at_last_holds P (required_integer_at (codes "code") d place) _
-    (λ number. at_last_holds P (required_text_at (codes "message") d place) _
-    (λ message. at_last_holds P (required_text_at (codes "status") d place) _
+    (λ number. at_last_holds P (required_as text_at (codes "message") d place) _
+    (λ message. at_last_holds P (required_as text_at (codes "status") d place) _
     (λ status. at_last_holds P (or_fault G (member_place place (codes "status")) (code_named status)) _
     (λ named. at_last_holds P (or_fault G (member_place place (codes "code")) (if_numbered number named)) _
     (λ code. let low : depth (error_json code message) ≤ n + 3 = omega arith in omega (arith, with_error id (error_json code message) (n + 3) low)))))))

@@ -1,5 +1,5 @@
 -- What is read as a message is a message of the root's documents.
-use Rattle.std.proofs.Common.{ℕ, ℤ, List, [], ◌∷◌, Option, Some, None, Ok, IfOk, IfSome, codes, bytes_eq, filter_map, option_map}
+use Rattle.std.proofs.Common.{ℕ, ℤ, List, [], ◌∷◌, Option, Some, None, IfOk, IfSome, codes, bytes_eq, filter_map, option_map}
 use Rattle.std.specs.List.{AllByRecursion}
 use Rattle.serde_json.specs.Data.{Data, Items}
 use Rattle.serde_json.specs.Find.{as_array}
@@ -7,23 +7,21 @@ use Rattle.fs_path.specs.Document.{IsDocumentOf}
 use Rattle.fs_path.specs.Place.{member_place}
 use Rattle.fs_path.specs.declared.name.Root.{Root}
 use Rattle.fs_path.specs.declared.place.Rule.TheVariants.{G}
-use Rattle.fs_json.specs.Answer.{or_fault, ◌>>=◌}
-use Rattle.fs_json.specs.Members.{member_at, one_of_at, only_at}
+use Rattle.fs_json.specs.Answer.{or_fault}
+use Rattle.fs_json.specs.Members.{one_of_at, only_at, required_as}
+use Rattle.fs_json.specs.Scalars.{text_at}
 use Rattle.fs_json.specs.Paths.{document_name_at}
 use Rattle.fs_json.specs.Walk.{all_at, each_at}
-use Rattle.fs_value.specs.Data.{items_of}
 use Rattle.fs_value.specs.declared.document.Document.{Document}
 use Rattle.fs_json.proofs.Readings.{at_last_holds, either, found_or, in_turn_holds, member_holds, of_made}
 use Rattle.fs_json.proofs.Walks.{each_item, each_of_list}
 use Rattle.fs_json.proofs.Named.{document_name_is}
-use Rattle.fs_json.specs.Time.{optional_time_at, required_time_at}
+use Rattle.fs_json.specs.Time.{required_time_at}
 use Rattle.fs_valjson.specs.Document.{document_at}
-use Rattle.fs_valjson.specs.Reading.{list_at}
 use Rattle.fs_valjson.specs.Valid.{IsValid}
-use Rattle.fs_valjson.proofs.Valid.{document_valid, list_names}
-use Rattle.fs_valjson.specs.Writing.{ItemsHaveNames}
+use Rattle.fs_valjson.proofs.Valid.{document_valid}
 use Rattle.fs_rpc.specs.Id.{id_at}
-use Rattle.fs_rpc.specs.ReadMessage.{answers_commit, answers_names, code_named, commit_result_at, commit_result_members, documents_result_at, error_at, if_numbered, list_result_at, message_at, message_members, object_result_at, outcome_at, outcomes, query_result_at, required_integer_at, required_text_at, result_at}
+use Rattle.fs_rpc.specs.ReadMessage.{answers_commit, answers_names, code_named, commit_result_at, commit_result_members, documents_result_at, error_at, if_numbered, list_result_at, message_at, message_members, object_result_at, outcome_at, outcomes, query_result_at, required_integer_at, result_at}
 use Rattle.fs_rpc.specs.ReadMessage as read
 use Rattle.fs_rpc.specs.ReadResults.{answered, batch_answer_at, batch_answer_members, document_in, found_at, found_or_missing, missing_at, query_answer_at, query_answer_members, results_in, answers_time}
 use Rattle.fs_rpc.specs.ValidMessage.{IsAnswerOf, IsMessageOf}
@@ -129,8 +127,8 @@ unfolding error_at
 error_valid root id d place =
     at_last_holds (IsMessageOf root) (only_at read.error_members d place) _
     (λ u. at_last_holds (IsMessageOf root) (required_integer_at (codes "code") d place) _
-    (λ number. at_last_holds (IsMessageOf root) (required_text_at (codes "message") d place) _
-    (λ message. at_last_holds (IsMessageOf root) (required_text_at (codes "status") d place) _
+    (λ number. at_last_holds (IsMessageOf root) (required_as text_at (codes "message") d place) _
+    (λ message. at_last_holds (IsMessageOf root) (required_as text_at (codes "status") d place) _
     (λ status. at_last_holds (IsMessageOf root) (or_fault G (member_place place (codes "status")) (code_named status)) _
     (λ named. at_last_holds (IsMessageOf root) (or_fault G (member_place place (codes "code")) (if_numbered number named)) _ (λ code. tt))))))
 

@@ -1,11 +1,11 @@
 -- What is read as a request is a request of the root's documents.
-use Rattle.std.proofs.Common.{◌≡◌, ℕ, ℤ, List, [], ◌∷◌, ◌++◌, Bool, true, false, Option, Ok, IfOk, codes, cond, bytes_eq, refl, sym, subst, ◌∙◌}
+use Rattle.std.proofs.Common.{◌≡◌, ℕ, ℤ, List, [], ◌∷◌, ◌++◌, Bool, true, false, Option, IfOk, codes, cond, bytes_eq, refl, sym, subst, ◌∙◌}
 use Rattle.std.proofs.lemmas.Bool.{or_parts}
 use Rattle.std.proofs.lemmas.List.Folds.{list_any-append}
 use Rattle.std.proofs.lemmas.Map.Keys.{IsDistinct-cons}
 use Rattle.std.specs.List.{list_any, AllByRecursion, IsDistinct}
 use Rattle.serde_json.specs.Data.{Data}
-use Rattle.serde_json.specs.Find.{as_array, as_str}
+use Rattle.serde_json.specs.Find.{as_array}
 use Rattle.fs_path.specs.Database.{IsDatabase}
 use Rattle.fs_path.specs.Document.{IsDocumentOf, IsParentOf}
 use Rattle.fs_path.specs.NameOrder.{name_eq, name_eq_equiv}
@@ -14,14 +14,15 @@ use Rattle.fs_path.specs.declared.name.DocName.{DocName}
 use Rattle.fs_path.specs.declared.name.Root.{Root}
 use Rattle.fs_path.specs.declared.place.Rule.TheVariants.{G}
 use Rattle.fs_json.specs.Answer.{or_fault}
-use Rattle.fs_json.specs.Members.{member_at, only_at, required_at, unbuilt_at}
+use Rattle.fs_json.specs.Members.{only_at, required_at, unbuilt_at}
+use Rattle.fs_json.specs.Scalars.{text_at}
 use Rattle.fs_json.specs.Paths.{document_name_at as name_at}
 use Rattle.fs_json.specs.Walk.{each_at}
 use Rattle.fs_query.specs.Asked.{Asked}
 use Rattle.fs_queryjson.specs.Query.{permitted_at, walked_at}
 use Rattle.fs_queryjson.specs.Valid.{IsReadBelow, IsWalked}
 use Rattle.fs_queryjson.proofs.QueryValid.{permitted_valid, walked_valid}
-use Rattle.fs_json.proofs.Readings.{at_last_holds, either, found_or, in_turn_holds}
+use Rattle.fs_json.proofs.Readings.{at_last_holds, either, in_turn_holds, member_holds}
 use Rattle.fs_json.proofs.Walks.{each_item}
 use Rattle.fs_json.proofs.Named.{database_is, document_name_is, parent_is}
 use Rattle.fs_writejson.specs.Draft.{drafts_at}
@@ -98,13 +99,11 @@ database_valid : (root : Root) (d : Data) (place : List ℕ) → IfOk (database_
 database_valid root d place =
     let inside = member_place place (codes "database") in
     at_last_holds (λ u. IsDatabase root) (required_at (codes "database") d place) _
-    (λ x. at_last_holds (λ u. IsDatabase root) (or_fault G inside (as_str x)) _ (λ text. database_is root text inside))
+    (λ x. at_last_holds (λ u. IsDatabase root) (text_at x inside) _ (λ text. database_is root text inside))
 
 drafts_in_valid : (root : Root) (d : Data) (place : List ℕ) → IfOk (drafts_in root d place) (AllByRecursion (IsDraftOf root))
 drafts_in_valid root d place =
-    at_last_holds (AllByRecursion (IsDraftOf root)) (member_at (codes "writes") d place) _
-    (λ found. found_or (AllByRecursion (IsDraftOf root)) (λ x. drafts_at root x (member_place place (codes "writes"))) found (Ok [])
-    (λ x. drafts_valid root x (member_place place (codes "writes"))) tt)
+    member_holds (AllByRecursion (IsDraftOf root)) [] (drafts_at root) (codes "writes") d place (drafts_valid root) tt
 
 commit_valid : (root : Root) (d : Data) (place : List ℕ) → IfOk (commit_at root d place) (IsRequestOf root)
 unfolding commit_at
@@ -151,7 +150,7 @@ run_query_valid root d place =
     at_last_holds (IsRequestOf root) (only_at run_query_members d place) _
     (λ u. at_last_holds (IsRequestOf root) (required_at (codes "parent") d place) _
     (λ name. in_turn_holds (IsParentOf root) (IsRequestOf root) (parent_at root name inside) _
-    (at_last_holds (IsParentOf root) (or_fault G inside (as_str name)) _ (λ text. parent_is root text inside))
+    (at_last_holds (IsParentOf root) (text_at name inside) _ (λ text. parent_is root text inside))
     (λ parent is. in_turn_holds (λ asked. IsReadBelow parent asked.0) (IsRequestOf root) (structured_at parent d place) _ (structured_valid parent d place)
     (λ asked read. record { same = refl; parent = subst (IsParentOf root) (sym read.below) is; valid = read.valid }))))
 

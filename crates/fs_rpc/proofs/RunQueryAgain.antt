@@ -18,7 +18,7 @@ use Rattle.fs_rpc.specs.RequestJson.{run_query_json, with_read_time}
 use Rattle.fs_rpc.specs.Requests.{run_query_at, structured_at, when_at}
 use Rattle.fs_rpc.specs.declared.request.Request.{Request}
 use Rattle.fs_rpc.specs.declared.request.Request.TheVariants.{RunQuery}
-use Rattle.fs_rpc.proofs.Parents.{parent_again}
+use Rattle.fs_path.proofs.Documents.{parent_only}
 use Rattle.fs_rpc.proofs.Structured.{structured_gives, with_time}
 
 -- ---- the query
@@ -53,8 +53,8 @@ query_run : (root : Root) (ids : List (List ℕ)) (s : Data) (q : Asked) (time :
     → structured_at ids (asked_by (document_text (under root ids)) time s) place ≡ Ok (q, time)
     → run_query_at root (asked_by (document_text (under root ids)) time s) place ≡ Ok (RunQuery root q time)
 unfolding run_query_at
-query_run root ids s q None place given is h = rw (given, parent_again root ids is, h) refl
-query_run root ids s q (Some time) place given is h = rw (given, parent_again root ids is, h) refl
+query_run root ids s q None place given is h = rw (given, parent_only root (document_text (under root ids)) ids is refl, h) refl
+query_run root ids s q (Some time) place given is h = rw (given, parent_only root (document_text (under root ids)) ids is refl, h) refl
 
 pub run_query_again : (root : Root) (q : Asked) (time : Option ℤ) (place : List ℕ) → IsParentOf root (scope_parent q.scope)
     → ((p : List ℕ) → query_at (scope_parent q.scope) (query_json q) p ≡ Ok q) → IfSome time IsTimeHeld → run_query_at root (run_query_json root q time) place ≡ Ok (RunQuery root q time)

@@ -2,12 +2,12 @@
 -- the method's content is answered with the session and the id that were read.
 use Rattle.std.specs.Prelude.{ℕ, List, [], ◌++◌, Result, Ok, codes}
 use Rattle.serde_json.specs.Data.{Data}
-use Rattle.serde_json.specs.Find.{as_str}
 use Rattle.serde_json.specs.Read.{read}
 use Rattle.fs_path.specs.declared.name.Root.{Root}
 use Rattle.fs_path.specs.declared.place.Rule.TheVariants.{G}
 use Rattle.fs_json.specs.Answer.{or_fault, ◌>>=◌}
 use Rattle.fs_json.specs.Members.{member_at, only_at, one_of_at}
+use Rattle.fs_json.specs.Scalars.{text_at}
 use Rattle.fs_json.specs.declared.bad.Bad.{Bad}
 use Rattle.fs_rpc.specs.Id.{id_at}
 use Rattle.fs_rpc.specs.Methods.{methods, envelope_head, session_head}
@@ -29,7 +29,7 @@ session_request_at root d = do
   _ ← only_at (session_head ++ methods) d []
   found ← member_at (codes "session") d []
   session ← or_fault G [] found
-  name ← or_fault G (codes "session") (as_str session)
+  name ← text_at session (codes "session")
   id ← id_at d
   one ← one_of_at methods d []
   Ok (record { session = name; id = id; request = request_at root one.0 one.1 })

@@ -1,16 +1,15 @@
 -- The id by which an answer is told from others.
 use Rattle.std.specs.Prelude.{ℕ, List, [], Option, Some, None, Result, Ok, codes}
 use Rattle.serde_json.specs.Data.{Data, string, Members, put}
-use Rattle.serde_json.specs.Find.{as_str}
-use Rattle.fs_path.specs.declared.place.Rule.TheVariants.{G}
-use Rattle.fs_json.specs.Answer.{or_fault, ◌>>=◌}
+use Rattle.fs_json.specs.Answer.{◌>>=◌}
 use Rattle.fs_json.specs.Members.{member_at}
+use Rattle.fs_json.specs.Scalars.{text_at}
 use Rattle.fs_json.specs.declared.bad.Bad.{Bad}
 
 -- a text that may be absent
 abbrev pub text_if_there : Option Data → List ℕ → Result (Option (List ℕ)) Bad
 text_if_there None place = Ok None
-text_if_there (Some d) place = or_fault G place (as_str d) >>= λ text. Ok (Some text)
+text_if_there (Some d) place = text_at d place >>= λ text. Ok (Some text)
 
 -- the id of a request or of its answer
 abbrev pub id_at : Data → Result (Option (List ℕ)) Bad

@@ -1,18 +1,19 @@
 -- Which message a text is, or the first place in the walk where it is at fault.
 -- (v1 reference: `CommitResponse`, "Document", `BatchGetDocumentsResponse`, `RunQueryResponse`, and `google.rpc.Status` as
 -- REST prints it.)
-use Rattle.std.specs.Prelude.{ℕ, ℤ, pos, Bool, true, false, not, ◌||◌, List, [], ◌∷◌, Option, Some, None, Result, Ok, codes, find, is_some, if◌then◌else◌, option_and_then}
+use Rattle.std.specs.Prelude.{ℕ, ℤ, pos, Bool, true, ◌||◌, List, [], ◌∷◌, Option, Some, None, Result, Ok, codes, find, if◌then◌else◌, option_and_then}
 use Rattle.std.specs.Option.{option_map_or}
 use Rattle.std.specs.Ordering.{int_eq}
 use Rattle.std.specs.Str.{bytes_eq}
 use Rattle.serde_json.specs.Data.{Data, Items, no_items, item}
-use Rattle.serde_json.specs.Find.{as_array, as_i64, as_null, as_number, as_str, get}
+use Rattle.serde_json.specs.Find.{as_array, as_i64, as_number}
 use Rattle.serde_json.specs.Read.{read}
 use Rattle.fs_path.specs.Place.{member_place}
 use Rattle.fs_path.specs.declared.name.Root.{Root}
 use Rattle.fs_path.specs.declared.place.Rule.TheVariants.{G}
 use Rattle.fs_json.specs.Answer.{or_fault, ◌>>=◌}
-use Rattle.fs_json.specs.Members.{required_at, only_at, one_of_at}
+use Rattle.fs_json.specs.Members.{is_there, required_as, required_at, only_at, one_of_at}
+use Rattle.fs_json.specs.Scalars.{text_at}
 use Rattle.fs_json.specs.declared.bad.Bad.{Bad}
 use Rattle.fs_status.specs.Status.{http_of, status_text}
 use Rattle.fs_status.specs.declared.code.Code.{Code}
@@ -47,10 +48,6 @@ json_integer d = option_and_then as_i64 (as_number d)
 abbrev pub required_integer_at : List ℕ → Data → List ℕ → Result ℤ Bad
 required_integer_at name d place = required_at name d place >>= λ x. or_fault G (member_place place name) (json_integer x)
 
--- a text, which has to be there
-abbrev pub required_text_at : List ℕ → Data → List ℕ → Result (List ℕ) Bad
-required_text_at name d place = required_at name d place >>= λ x. or_fault G (member_place place name) (as_str x)
-
 -- the members of an error, of which none may be absent
 abbrev pub error_members : List (List ℕ)
 error_members = codes "code" ∷ codes "message" ∷ codes "status" ∷ []
@@ -60,17 +57,13 @@ unfoldable pub error_at : Option (List ℕ) → Data → List ℕ → Result Mes
 error_at id d place = do
   _ ← only_at error_members d place
   number ← required_integer_at (codes "code") d place
-  message ← required_text_at (codes "message") d place
-  status ← required_text_at (codes "status") d place
+  message ← required_as text_at (codes "message") d place
+  status ← required_as text_at (codes "status") d place
   named ← or_fault G (member_place place (codes "status")) (code_named status)
   code ← or_fault G (member_place place (codes "code")) (if_numbered number named)
   Ok (Error id code message)
 
 -- ---- results
-
--- whether an object has this member, with a value that isn't null
-abbrev pub has : List ℕ → Data → Bool
-has key d = option_map_or (λ x. not (is_some (as_null x))) (get key d) false
 
 -- the members of a commit's answer
 abbrev pub commit_result_members : List (List ℕ)
@@ -98,7 +91,7 @@ query_result_at root id items place = do
 -- whether a list answers names that were asked for, which is told by its first item
 abbrev pub answers_names : Items → Bool
 answers_names no_items = true
-answers_names (item d ds) = has (codes "found") d || has (codes "missing") d
+answers_names (item d ds) = is_there (codes "found") d || is_there (codes "missing") d
 
 -- a list, as what it answers
 abbrev pub list_result_at : Root → Option (List ℕ) → Items → List ℕ → Result Message Bad
@@ -106,7 +99,7 @@ list_result_at root id items place = if answers_names items then documents_resul
 
 -- whether an object is what a commit is answered
 abbrev pub answers_commit : Data → Bool
-answers_commit d = has (codes "commitTime") d || has (codes "commit_time") d
+answers_commit d = is_there (codes "commitTime") d || is_there (codes "commit_time") d
 
 -- an object, as what it answers: a commit, or a read of the document that it is
 abbrev pub object_result_at : Root → Option (List ℕ) → Data → List ℕ → Result Message Bad

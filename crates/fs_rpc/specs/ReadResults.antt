@@ -2,23 +2,20 @@
 -- (v1 reference: `CommitResponse`, `BatchGetDocumentsResponse`, `RunQueryResponse`.)
 use Rattle.std.specs.Prelude.{ℕ, ℤ, Bool, ◌&&◌, ◌||◌, ◌==◌, List, [], ◌∷◌, Option, Some, None, Result, Ok, codes, filter_map, is_some, length, option_map, if◌then◌else◌}
 use Rattle.std.specs.List.{list_all}
-use Rattle.std.specs.Option.{option_map_or}
 use Rattle.std.specs.Ordering.{int_eq}
 use Rattle.std.specs.Str.{bytes_eq}
 use Rattle.serde_json.specs.Data as json
 use Rattle.fs_path.specs.Place.{member_place}
 use Rattle.fs_path.specs.declared.name.Root.{Root}
 use Rattle.fs_json.specs.Answer.{◌>>=◌, made}
-use Rattle.fs_json.specs.Members.{member_at, only_at, one_of_at, member_or}
+use Rattle.fs_json.specs.Members.{only_at, one_of_at, member_or}
 use Rattle.fs_json.specs.Paths.{document_name_at}
 use Rattle.fs_json.specs.declared.bad.Bad.{Bad}
 use Rattle.fs_valjson.specs.Document.{document_at}
-use Rattle.fs_valjson.specs.Reading.{list_at}
-use Rattle.fs_value.specs.Data.{Data}
 use Rattle.fs_value.specs.declared.document.Document.{Document}
 use Rattle.fs_write.specs.declared.write_result.WriteResult.{WriteResult}
 use Rattle.fs_json.specs.Walk.{all_at}
-use Rattle.fs_json.specs.Time.{optional_time_at, required_time_at}
+use Rattle.fs_json.specs.Time.{required_time_at}
 use Rattle.fs_rpc.specs.declared.message.BatchAnswer.{BatchAnswer}
 use Rattle.fs_rpc.specs.declared.message.BatchAnswer.TheVariants.{Found, Missing}
 use Rattle.fs_writejson.specs.Results.{write_result_at}

@@ -2,10 +2,9 @@
 -- (v1 reference: `CommitRequest`, `GetDocumentRequest`, `BatchGetDocumentsRequest`, `RunQueryRequest`.)
 use Rattle.std.specs.Prelude.{ℕ, ℤ, List, [], ◌∷◌, ◌++◌, Option, Some, None, Result, Ok, Err, codes, if◌then◌else◌, ⊤}
 use Rattle.std.specs.List.{list_any}
-use Rattle.std.specs.Option.{option_map_or}
 use Rattle.std.specs.Str.{bytes_eq}
 use Rattle.serde_json.specs.Data.{Data, Items}
-use Rattle.serde_json.specs.Find.{as_array, as_str}
+use Rattle.serde_json.specs.Find.{as_array}
 use Rattle.fs_path.specs.Database.{database_of}
 use Rattle.fs_path.specs.Document.{parent_of}
 use Rattle.fs_path.specs.NameOrder.{name_eq}
@@ -14,9 +13,10 @@ use Rattle.fs_path.specs.declared.field.FieldPath.{FieldPath}
 use Rattle.fs_path.specs.declared.name.DocName.{DocName}
 use Rattle.fs_path.specs.declared.name.Root.{Root}
 use Rattle.fs_path.specs.declared.place.Rule.TheVariants.{G}
-use Rattle.fs_json.specs.Answer.{or_fault, ◌>>=◌}
-use Rattle.fs_json.specs.Members.{member_at, required_at, only_at, at_most_one_at, unbuilt_at}
+use Rattle.fs_json.specs.Answer.{made, or_fault, ◌>>=◌}
+use Rattle.fs_json.specs.Members.{member_or, required_at, only_at, at_most_one_at, unbuilt_at}
 use Rattle.fs_json.specs.Paths.{path_at, document_name_at as name_at}
+use Rattle.fs_json.specs.Scalars.{text_at}
 use Rattle.fs_json.specs.declared.bad.Bad.{Bad}
 use Rattle.fs_json.specs.declared.bad.Bad.TheVariants.{Method}
 use Rattle.fs_query.specs.Asked.{Asked}
@@ -35,17 +35,15 @@ use Rattle.fs_rpc.specs.declared.request.Request.TheVariants.{Commit, GetDocumen
 -- the name of the root's database
 abbrev pub database_at : Root → Data → List ℕ → Result ⊤ Bad
 database_at root d place = required_at (codes "database") d place >>= λ x.
-    or_fault G (member_place place (codes "database")) (as_str x) >>= λ text. path_at (member_place place (codes "database")) (database_of root text)
+    text_at x (member_place place (codes "database")) >>= λ text. path_at (member_place place (codes "database")) (database_of root text)
 
 -- an absent list has no writes
 abbrev pub drafts_in : Root → Data → List ℕ → Result (List Draft) Bad
-drafts_in root d place = member_at (codes "writes") d place >>= λ found.
-    option_map_or (λ x. drafts_at root x (member_place place (codes "writes"))) found (Ok [])
+drafts_in root d place = member_or [] (drafts_at root) (codes "writes") d place
 
 -- without a mask all fields are shown
 abbrev pub mask_in : Data → List ℕ → Result (Option (List FieldPath)) Bad
-mask_in d place = member_at (codes "mask") d place >>= λ found.
-    option_map_or (λ x. mask_at x (member_place place (codes "mask")) >>= λ paths. Ok (Some paths)) found (Ok None)
+mask_in d place = member_or None (λ x p. made Some (mask_at x p)) (codes "mask") d place
 
 -- when documents are read, of which at most one way is given
 abbrev pub when_members : List (List ℕ)
@@ -57,7 +55,7 @@ when_at d place = at_most_one_at when_members d place >>= λ _. unbuilt_at (code
 
 -- what has collections: the root's documents, or one of them, by its ids
 abbrev pub parent_at : Root → Data → List ℕ → Result (List (List ℕ)) Bad
-parent_at root d place = or_fault G place (as_str d) >>= λ text. path_at place (parent_of root text)
+parent_at root d place = text_at d place >>= λ text. path_at place (parent_of root text)
 
 -- names, each once, where it stands first
 abbrev pub once_after : List DocName → List DocName → List DocName

@@ -14,8 +14,10 @@ use crate::names::{
     BATCH_ANSWER_MEMBERS, DOCUMENT, FOUND, FOUND_OR_MISSING, MISSING, QUERY_ANSWER_MEMBERS,
     READ_TIME,
 };
-use fs_json::{Bad, member, one_of, only, read_document_name, read_required_time};
-use fs_path::{Root, Way};
+use fs_json::{
+    Bad, ReadsItem, member, one_of, only, read_document_name, read_items, read_required_time,
+};
+use fs_path::{List as Items, Root, Way};
 use fs_time::Micros;
 use fs_valjson::read_document;
 use fs_value::{Document, Documents};
@@ -32,12 +34,23 @@ pub(crate) fn read_answers(
     ensures { Gives (λ xs. xs) result
         (each_at (batch_answer_at root.now) (items_view items.now) 0 (place_of way.now)) }
 {
-    let mut answers = Answers::new(alloc);
-    for (i, item) in items.iter().enumerate() {
-        let answer = read_answer(alloc, root, item, &way.item(i as u64))?;
-        answers.push(answer)?;
+    read_items(alloc, &AnswerReader { root }, items, way)
+}
+
+/// Reads what was told of a name of a list.
+#[derive(Drop)]
+struct AnswerReader<'a> {
+    root: &'a Root,
+}
+
+impl ReadsItem for AnswerReader<'_> {
+    type Item = BatchAnswer;
+
+    ghost reading = { λ reader. batch_answer_at reader.root.now };
+
+    fn read(&self, alloc: Global, item: &Value, way: &Way<'_>) -> Result<BatchAnswer, Bad> {
+        read_answer(alloc, self.root, item, way)
     }
-    Ok(answers)
 }
 
 /// Reads what was told of one name. (v1 reference, `BatchGetDocumentsResponse`.)
@@ -86,16 +99,32 @@ pub(crate) fn read_query_answers(
     root: &Root,
     items: &[Value],
     way: &Way<'_>,
-) -> Result<Vec<(Option<Document>, Micros)>, Bad>
-    ensures { Gives {Y = List (Option Document × ℤ)} (λ l. l.items) result
+) -> Result<Items<(Option<Document>, Micros)>, Bad>
+    ensures { Gives {Y = List (Option Document × ℤ)} (λ l. l) result
         (each_at (query_answer_at root.now) (items_view items.now) 0 (place_of way.now)) }
 {
-    let mut answers = Vec::new(alloc);
-    for (i, item) in items.iter().enumerate() {
-        let answer = read_query_answer(alloc, root, item, &way.item(i as u64))?;
-        answers.push(answer)?;
+    read_items(alloc, &QueryAnswerReader { root }, items, way)
+}
+
+/// Reads an item of a query's answer.
+#[derive(Drop)]
+struct QueryAnswerReader<'a> {
+    root: &'a Root,
+}
+
+impl ReadsItem for QueryAnswerReader<'_> {
+    type Item = (Option<Document>, Micros);
+
+    ghost reading = { λ reader. query_answer_at reader.root.now };
+
+    fn read(
+        &self,
+        alloc: Global,
+        item: &Value,
+        way: &Way<'_>,
+    ) -> Result<(Option<Document>, Micros), Bad> {
+        read_query_answer(alloc, self.root, item, way)
     }
-    Ok(answers)
 }
 
 /// Reads one item: a document, which may be absent, and the time of the read. (v1 reference, `RunQueryResponse`.)
@@ -133,12 +162,12 @@ fn read_document_of(
 /// The documents of a query's answer and its time, if its items are one answer.
 pub(crate) fn answered(
     alloc: Global,
-    items: Vec<(Option<Document>, Micros)>,
+    items: Items<(Option<Document>, Micros)>,
 ) -> Result<Option<(Documents, Micros)>, AllocError>
-    ensures { IfOk result (λ one. one ≡ answered items.items) }
+    ensures { IfOk result (λ one. one ≡ answered items) }
 {
     match answers_time(items.as_slice()) {
-        Some(time) => Ok(Some((documents_of(alloc, items)?, time))),
+        Some(time) => Ok(Some((documents_of(alloc, items.into_vec())?, time))),
         None => Ok(None),
     }
 }

@@ -9,7 +9,7 @@ ghost use Rattle.fs_json.specs.Answer.{Gives, or_fault};
 ghost use Rattle.fs_status.specs.Status.{status_text};
 ghost use Rattle.fs_status.specs.declared.code.Code.{Code};
 ghost use Rattle.fs_rpc.specs.MessageJson.{message_json};
-ghost use Rattle.fs_rpc.specs.ReadMessage.{answers_commit, answers_names, code_named, commit_result_at, documents_result_at, error_at, has, if_numbered, list_result_at, message_at, message_of, object_result_at, outcome_at, query_result_at, required_integer_at, required_text_at, result_at};
+ghost use Rattle.fs_rpc.specs.ReadMessage.{answers_commit, answers_names, code_named, commit_result_at, documents_result_at, error_at, if_numbered, list_result_at, message_at, message_of, object_result_at, outcome_at, query_result_at, required_integer_at, result_at};
 ghost use Rattle.fs_rpc.specs.ValidMessage.{IsMessageOf};
 
 use crate::answers::{answered, read_answers, read_query_answers};
@@ -20,7 +20,7 @@ use crate::names::{
     MISSING, OUTCOMES, RESULT, STATUS,
 };
 use crate::results::read_results;
-use fs_json::{Bad, one_of, only, read_required_time, read_text, required};
+use fs_json::{Bad, is_there, one_of, only, read_required_text, read_required_time, required};
 use fs_path::{Root, Rule, Text, Way};
 use fs_status::Code;
 use fs_valjson::read_document;
@@ -112,13 +112,6 @@ fn read_required_integer(alloc: Global, v: &Value, name: &str, way: &Way<'_>) ->
         Some(number) => Ok(number),
         None => Err(Bad::at(alloc, Rule::G, &way.member(name))),
     }
-}
-
-fn read_required_text(alloc: Global, v: &Value, name: &str, way: &Way<'_>) -> Result<Text, Bad>
-    ensures { Gives (λ t. t) result (required_text_at name.now (json v.now) (place_of way.now)) }
-{
-    let found = required(alloc, v, name, way)?;
-    read_text(alloc, found, &way.member(name))
 }
 
 /// The codes that refusals have.
@@ -257,7 +250,7 @@ fn answers_names(items: &[Value]) -> bool
 {
     match items {
         [] => true,
-        [first, ..] => has(first, FOUND) || has(first, MISSING),
+        [first, ..] => is_there(first, FOUND) || is_there(first, MISSING),
     }
 }
 
@@ -265,15 +258,5 @@ fn answers_names(items: &[Value]) -> bool
 fn answers_commit(v: &Value) -> bool
     ensures { result ≡ answers_commit (json v.now) }
 {
-    has(v, COMMIT_TIME) || has(v, "commit_time")
-}
-
-/// Whether an object has this member, with a value that isn't null.
-fn has(v: &Value, key: &str) -> bool
-    ensures { result ≡ has key.now (json v.now) }
-{
-    match v.get(key) {
-        Some(found) => !found.is_null(),
-        None => false,
-    }
+    is_there(v, COMMIT_TIME) || is_there(v, "commit_time")
 }

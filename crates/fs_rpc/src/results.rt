@@ -1,15 +1,14 @@
 //! Reads the results of a commit's writes.
 ghost use Rattle.fs_path.specs.Way.{place_of};
-ghost use Rattle.serde_json.specs.View.{items_view, view as json};
+ghost use Rattle.serde_json.specs.View.{view as json};
 ghost use Rattle.fs_json.specs.Answer.{Gives};
-ghost use Rattle.fs_json.specs.Walk.{all_at, each_at};
 ghost use Rattle.fs_writejson.specs.Results.{write_result_at};
 ghost use Rattle.fs_rpc.specs.ReadResults.{results_in};
 
 use crate::names::WRITE_RESULTS;
-use fs_json::{Bad, member, read_json_list};
+use fs_json::{Bad, ReadsItem, member, read_each};
 use fs_path::Way;
-use fs_write::WriteResults;
+use fs_write::{WriteResult, WriteResults};
 use fs_writejson::read_result;
 use serde_json::Value;
 use std::alloc::Global;
@@ -20,24 +19,20 @@ pub(crate) fn read_results(alloc: Global, v: &Value, way: &Way<'_>) -> Result<Wr
     ensures { Gives (λ rs. rs) result (results_in (json v.now) (place_of way.now)) }
 {
     match member(alloc, v, WRITE_RESULTS, way)? {
-        Some(results) => read_list_of(alloc, results, &way.member(WRITE_RESULTS)),
+        Some(results) => read_each(alloc, &ResultReader, results, &way.member(WRITE_RESULTS)),
         None => Ok(WriteResults::new(alloc)),
     }
 }
 
-fn read_list_of(alloc: Global, v: &Value, way: &Way<'_>) -> Result<WriteResults, Bad>
-    ensures { Gives (λ rs. rs) result (all_at write_result_at (json v.now) (place_of way.now)) }
-{
-    read_items(alloc, read_json_list(alloc, v, way)?, way)
-}
+/// Reads a result of a list.
+struct ResultReader;
 
-fn read_items(alloc: Global, items: &[Value], way: &Way<'_>) -> Result<WriteResults, Bad>
-    ensures { Gives (λ rs. rs) result (each_at write_result_at (items_view items.now) 0 (place_of way.now)) }
-{
-    let mut results = WriteResults::new(alloc);
-    for (i, item) in items.iter().enumerate() {
-        let answer = read_result(alloc, item, &way.item(i as u64))?;
-        results.push(answer)?;
+impl ReadsItem for ResultReader {
+    type Item = WriteResult;
+
+    ghost reading = { λ _. write_result_at };
+
+    fn read(&self, alloc: Global, item: &Value, way: &Way<'_>) -> Result<WriteResult, Bad> {
+        read_result(alloc, item, way)
     }
-    Ok(results)
 }

@@ -4,12 +4,11 @@ use Rattle.fs_path.specs.Document.{IsDocument}
 use Rattle.fs_path.specs.declared.name.DocName.{DocName}
 use Rattle.fs_path.specs.declared.place.Rule.TheVariants.{G}
 use Rattle.serde_json.specs.Data as json
-use Rattle.serde_json.specs.Find.{as_bool, as_str}
 use Rattle.fs_value.specs.Data.{Data, null, boolean, integer, timestamp, string, bytes, reference}
 use Rattle.fs_json.specs.Answer.{or_fault}
 use Rattle.fs_json.specs.Base64.{bytes_of}
-use Rattle.fs_json.specs.Integer.{integer_of}
 use Rattle.fs_json.specs.Paths.{reference_at}
+use Rattle.fs_json.specs.Scalars.{integer_at, text_at, truth_at}
 use Rattle.fs_json.specs.Time.{time_at}
 use Rattle.fs_json.proofs.Named.{reference_is}
 use Rattle.fs_json.proofs.Readings.{at_last_holds, either, in_turn_holds}
@@ -31,9 +30,9 @@ pub plain_holds : (P : Data → Type 0) → P null → ((b : Bool) → P (boolea
     → ((b : List ℕ) → P (bytes b)) → ((n : DocName) → IsDocument n → P (reference n)) → (name : List ℕ) (d : json.Data) (place : List ℕ) → IfOk (plain_at name d place) P
 plain_holds P of_null of_boolean of_integer of_timestamp of_string of_bytes of_reference name d place =
     either P (bytes_eq name (codes "nullValue")) _ _ (null_holds P d place of_null)
-    (either P (bytes_eq name (codes "booleanValue")) _ _ (at_last_holds P (or_fault G place (as_bool d)) _ of_boolean)
-    (either P (bytes_eq name (codes "integerValue")) _ _ (at_last_holds P (or_fault G place (integer_of d)) _ of_integer)
+    (either P (bytes_eq name (codes "booleanValue")) _ _ (at_last_holds P (truth_at d place) _ of_boolean)
+    (either P (bytes_eq name (codes "integerValue")) _ _ (at_last_holds P (integer_at d place) _ of_integer)
     (either P (bytes_eq name (codes "timestampValue")) _ _ (at_last_holds P (time_at d place) _ of_timestamp)
-    (either P (bytes_eq name (codes "stringValue")) _ _ (at_last_holds P (or_fault G place (as_str d)) _ of_string)
+    (either P (bytes_eq name (codes "stringValue")) _ _ (at_last_holds P (text_at d place) _ of_string)
     (either P (bytes_eq name (codes "bytesValue")) _ _ (at_last_holds P (or_fault G place (bytes_of d)) _ of_bytes)
     (either P (bytes_eq name (codes "referenceValue")) _ _ (in_turn_holds IsDocument P (reference_at d place) _ (reference_is d place) of_reference) (record {})))))))

@@ -5,14 +5,13 @@ use Rattle.std.specs.Str.{bytes_eq}
 use Rattle.fs_path.specs.Place.{member_place, item_place}
 use Rattle.fs_path.specs.declared.place.Rule.TheVariants.{G}
 use Rattle.serde_json.specs.Data as json
-use Rattle.serde_json.specs.Find.{as_bool, as_str}
 use Rattle.fs_value.specs.Data.{Data, null, boolean, integer, timestamp, string, bytes, reference, array, items_of}
 use Rattle.fs_value.specs.FieldPaths.{map_of}
 use Rattle.fs_json.specs.Answer.{made, or_fault, ◌>>=◌}
 use Rattle.fs_json.specs.Base64.{bytes_of}
-use Rattle.fs_json.specs.Integer.{integer_of}
 use Rattle.fs_json.specs.Members.{if_chosen, only_at, the_one}
 use Rattle.fs_json.specs.Paths.{reference_at}
+use Rattle.fs_json.specs.Scalars.{integer_at, text_at, truth_at}
 use Rattle.fs_json.specs.Time.{time_at}
 use Rattle.fs_json.specs.declared.bad.Bad.{Bad}
 use Rattle.fs_json.specs.declared.bad.Bad.TheVariants.{At}
@@ -41,10 +40,10 @@ null_of _ = None
 abbrev pub plain_at : List ℕ → json.Data → List ℕ → Result Data Bad
 plain_at name d place =
     if bytes_eq name (codes "nullValue") then or_fault G place (null_of d)
-    else if bytes_eq name (codes "booleanValue") then made boolean (or_fault G place (as_bool d))
-    else if bytes_eq name (codes "integerValue") then made integer (or_fault G place (integer_of d))
+    else if bytes_eq name (codes "booleanValue") then made boolean (truth_at d place)
+    else if bytes_eq name (codes "integerValue") then made integer (integer_at d place)
     else if bytes_eq name (codes "timestampValue") then made timestamp (time_at d place)
-    else if bytes_eq name (codes "stringValue") then made string (or_fault G place (as_str d))
+    else if bytes_eq name (codes "stringValue") then made string (text_at d place)
     else if bytes_eq name (codes "bytesValue") then made bytes (or_fault G place (bytes_of d))
     else if bytes_eq name (codes "referenceValue") then made reference (reference_at d place)
     else Err (At G place)

@@ -3,12 +3,11 @@ use Rattle.std.specs.Prelude.{ℕ, List, [], ◌∷◌, Result, Ok, codes, if◌
 use Rattle.std.specs.Option.{option_map_or}
 use Rattle.std.specs.Str.{bytes_eq}
 use Rattle.fs_path.specs.Place.{member_place}
-use Rattle.fs_path.specs.declared.place.Rule.TheVariants.{G}
 use Rattle.serde_json.specs.Data.{Data}
-use Rattle.serde_json.specs.Find.{as_bool}
-use Rattle.fs_json.specs.Answer.{or_fault, ◌>>=◌, made}
+use Rattle.fs_json.specs.Answer.{◌>>=◌, made}
 use Rattle.fs_json.specs.Members.{at_most_one_at, member_at, only_at}
 use Rattle.fs_json.specs.Time.{time_at}
+use Rattle.fs_json.specs.Scalars.{truth_at}
 use Rattle.fs_json.specs.declared.bad.Bad.{Bad}
 use Rattle.fs_write.specs.declared.write.Precondition.{Precondition}
 use Rattle.fs_write.specs.declared.write.Precondition.TheVariants as condition
@@ -19,7 +18,7 @@ condition_members = codes "exists" ∷ codes "updateTime" ∷ []
 -- what the member of this name asks for
 abbrev pub condition_of : List ℕ → Data → List ℕ → Result Precondition Bad
 condition_of name d place =
-    if bytes_eq name (codes "exists") then made condition.Exists (or_fault G place (as_bool d))
+    if bytes_eq name (codes "exists") then made condition.Exists (truth_at d place)
     else made condition.UpdateTime (time_at d place)
 
 -- an object of at most one of them; an empty one asks for nothing
