@@ -225,3 +225,8 @@ law_named docs other ws t cs rs agree had =
 
 pub law_named_refused : (docs other : Docs) (ws : List Write) (t : ℤ) (e : Refusal) → Agree ws docs other → batch docs ws t ≡ Err e → batch other ws t ≡ Err e
 law_named_refused docs other ws t e agree is = refused_alike ws docs other [] t e agree is
+
+-- and those of a commit that isn't refused have the same results
+pub law_named_results : (docs other : Docs) (ws : List Write) (t : ℤ) (p : Docs × List WriteResult) → Agree ws docs other → batch docs ws t ≡ Ok p → (m : Docs) × (batch other ws t ≡ Ok (m, p.1))
+unfolding Alike
+law_named_results docs other ws t p agree is = let a = all_alike ws docs other [] t p agree is in (a.0, a.1)

@@ -86,6 +86,11 @@ changes_found (e ∷ es) h q =
 pub staged_changes : (es : List (DocName × Staged)) (changes : List Change) → IsStrictlySortedBy name_cmp (keys_of es) → changes ≡ changes_in es → AreStagedChanges es changes
 staged_changes es changes h is = subst (AreStagedChanges es) (sym is) (record { rise = changes_rise es h; named_changes = changes_found es h })
 
+-- of one entry
+pub one_change : (name : DocName) (s : Staged) (changes : List Change) → changes ≡ with_change (change_of name s.before s.now) [] → AreStagedChanges ((name, s) ∷ []) changes
+unfolding IsStrictlySortedBy
+one_change name s changes is = staged_changes ((name, s) ∷ []) changes (tt, tt) is
+
 -- ---- and so they are those of the batch
 
 pub unchanged_itself : (o : Option Document) → is_unchanged o o ≡ true

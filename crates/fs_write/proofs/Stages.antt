@@ -56,6 +56,17 @@ module _ (docs after : Docs) (old mid new : List (DocName × Staged)) (name : Do
         ∙ chosen (is_at (name_cmp name) q) docs after name q s (staged_at q old) (name_is name q) (kept ∙ taken_before) (stage q)
         ∙ ap (λ o. (get docs q, o)) (sym (get-with_document after name s.now q))
 
+-- one write alone
+alone : (b : Bool) (docs : Docs) (name q : DocName) (s : Staged) → (b ≡ true → name ≡ q) → s.before ≡ get docs name → both_of (get docs q) (cond b (Some s) None) ≡ (get docs q, cond b s.now (get docs q))
+alone true docs name q s same before = (λ i. ((before ∙ ap (get docs) (same refl)) i, s.now))
+alone false docs name q s same before = refl
+
+pub one_staged : (docs : Docs) (name : DocName) (s : Staged) → s.before ≡ get docs name → IsStage docs ((name, s) ∷ []) (with_document docs name s.now)
+one_staged docs name s before q =
+    ap (λ b. both_of (get docs q) (cond b (Some s) None)) ((eq_by_cmp_equiv name_cmp_total).symm q name)
+    ∙ alone (is_at (name_cmp name) q) docs name q s (name_is name q) before
+    ∙ ap (λ o. (get docs q, o)) (sym (get-with_document docs name s.now q))
+
 -- one more write, from what was taken out and put in
 pub next_stage : (docs after : Docs) (old mid new : List (DocName × Staged)) (write : Write) (time : ℤ) (answer : WriteResult) (name : DocName) (there : Option Document) (s : Staged)
     → IsStage docs old after → name ≡ written_name write

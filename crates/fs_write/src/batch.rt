@@ -1,5 +1,5 @@
 //! The writes of a commit, one after another.
-ghost use Rattle.std.specs.Prelude.{◌≡◌, ◌≢◌, ◌<◌, ◌^◌, ◌++◌, IsTrue, IfOk, IfErr, OnOk, Ok, Err, Some, [], length};
+ghost use Rattle.std.specs.Prelude.{◌≡◌, ◌≢◌, ◌<◌, ◌^◌, ◌∷◌, ◌++◌, IsTrue, IfOk, IfErr, OnOk, Ok, Err, Some, [], length};
 ghost use Rattle.std.specs.FinMap.{get, is_sorted};
 ghost use Rattle.std.specs.List.{AllByRecursion};
 ghost use Rattle.fs_path.specs.NameOrder.{name_cmp};
@@ -201,9 +201,54 @@ pub fn apply_batch(
     ensures named { IfOk result (λ r. AllByRecursion IsNamed r.0) }
     ensures err { IfErr result (λ e. e ≢ refusal_of Memory → batch (docs_of docs.now) writes.now time ≡ Err e) }
 {
+    match writes.as_slice() {
+        // Most commits have one write, which wants no map of the documents that are written.
+        [write] => apply_one(alloc, docs, write, time),
+        writes => apply_all(alloc, docs, writes, time),
+    }
+}
+
+// One write alone.
+fn apply_one(
+    alloc: Global,
+    docs: &Documents,
+    write: &Write,
+    time: Micros,
+) -> Result<(Changes, WriteResults), Refusal>
+    requires { IsTrue (is_sorted name_cmp (by_name docs.now)) }
+    ensures ok { IfOk result (λ r. IsOutcome (docs_of docs.now) (write.now ∷ []) time r.0 r.1) }
+    ensures named { IfOk result (λ r. AllByRecursion IsNamed r.0) }
+    ensures err { IfErr result (λ e. e ≢ refusal_of Memory → batch (docs_of docs.now) (write.now ∷ []) time ≡ Err e) }
+{
+    let name = write.name();
+    let staged = stage_first(alloc, docs, name)?;
+    let (now, answer) = carry_out(alloc, staged.now, write, 0, time)?;
+    let written = Staged {
+        before: staged.before,
+        now,
+    };
+    let mut changes = Changes::new(alloc);
+    add_change(&mut changes, name.copy(alloc)?, written)?;
+    let mut results = WriteResults::new(alloc);
+    results.push(answer)?;
+    Ok((changes, results))
+}
+
+fn apply_all(
+    alloc: Global,
+    docs: &Documents,
+    writes: &[Write],
+    time: Micros,
+) -> Result<(Changes, WriteResults), Refusal>
+    requires rising { IsTrue (is_sorted name_cmp (by_name docs.now)) }
+    requires few { length writes.now < 2 ^ 32 }
+    ensures ok { IfOk result (λ r. IsOutcome (docs_of docs.now) writes.now time r.0 r.1) }
+    ensures named { IfOk result (λ r. AllByRecursion IsNamed r.0) }
+    ensures err { IfErr result (λ e. e ≢ refusal_of Memory → batch (docs_of docs.now) writes.now time ≡ Err e) }
+{
     let mut stage = BTreeMap::new(alloc);
     let mut results = WriteResults::new(alloc);
-    for write in writes.as_slice() {
+    for write in writes {
         let number = results.len() as u32;
         let answer = write_next(alloc, docs, &mut stage, write, number, time)?;
         results.push(answer)?;

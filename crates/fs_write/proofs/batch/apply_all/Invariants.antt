@@ -1,7 +1,7 @@
 use Rattle.std.proofs.Common.{◌≡◌, length, drop}
 use Rattle.fs_write.specs.Batch.{docs_of}
 use Rattle.fs_write.proofs.Stages.{SoFar}
-use Rattle.fs_write.proofs.batch.apply_batch.Given as goal
+use Rattle.fs_write.proofs.batch.apply_all.Given as goal
 
 abbrev pub invariant-loop-write : goal.invariant-loop-write
 invariant-loop-write l = record {
