@@ -1,10 +1,15 @@
-//! Tests of names, times, refusals, the edge, values and changes of fields, by the public calls of their libraries.
+//! Tests of names, times, refusals, the edge, values, changes of fields, commit times and holds, by the public calls of their
+//! libraries.
 #![tactic(auto)]
 
+#[cfg(test)]
+mod board;
 #[cfg(test)]
 mod edge;
 #[cfg(test)]
 mod edit;
+#[cfg(test)]
+mod locks;
 #[cfg(test)]
 mod path;
 #[cfg(test)]

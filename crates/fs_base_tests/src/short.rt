@@ -1,9 +1,11 @@
 //! What tests are given, in short. Of fields `a{b1c2}d3` has the map `a` and the number 3 at `d`, and `a[12]` is the array of
 //! 1 and 2. Where memory runs out, or a text is none of these, the process ends.
 use fs_path::{DocName, FieldPath, Text, parse_field};
+use fs_status::Id;
 use fs_time::Micros;
 use fs_value::{Fields, Value, Values, fields_same};
 use std::alloc::Global;
+use std::fmt::Write;
 use std::mem::replace;
 use std::process::Abort;
 
@@ -28,6 +30,14 @@ pub(crate) fn path(rt: &impl Abort, alloc: Global, text: &str) -> FieldPath {
 
 pub(crate) fn push(rt: &impl Abort, told: &mut String, part: &str) {
     told.push_str(part).expect(rt, "memory");
+}
+
+/// Tells the number of a commit, if there is one.
+pub(crate) fn push_id(rt: &impl Abort, told: &mut String, id: Option<Id>) {
+    match id {
+        Some(id) => write!(told, "{}", id.get()).expect(rt, "memory"),
+        None => push(rt, told, "none"),
+    }
 }
 
 pub(crate) fn append(rt: &impl Abort, values: &mut Values, value: Value) {

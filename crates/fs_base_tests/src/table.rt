@@ -53,10 +53,36 @@ pub(crate) fn holds(rt: &impl Abort, alloc: Global, says: Line, table: &str) {
     }
 }
 
-fn check(rt: &impl Abort, alloc: Global, says: Line, line: &str) {
+// What stands before and behind the arrow of a line.
+fn split_at_arrow<'a>(rt: &impl Abort, line: &'a str) -> (&'a str, &'a str) {
     let (asked, wanted) = line.split_once(" =>").expect(rt, "an arrow");
-    let wanted = wanted.strip_prefix(" ").unwrap_or(wanted);
+    (asked, wanted.strip_prefix(" ").unwrap_or(wanted))
+}
+
+fn check(rt: &impl Abort, alloc: Global, says: Line, line: &str) {
+    let (asked, wanted) = split_at_arrow(rt, line);
     let mut told = String::new(alloc);
     let is_so = is_so(rt, alloc, says, asked, wanted, &mut told);
     assert!(rt; is_so, "{line} gives {told}");
+}
+
+/// What is called again and again, and tells what each call gives.
+pub(crate) trait Called {
+    fn call(&mut self, rt: &impl Abort, alloc: Global, asked: &str, told: &mut String);
+}
+
+/// Asserts that the calls of a table, made one after another, give what its lines want.
+pub(crate) fn goes(rt: &impl Abort, alloc: Global, on: &mut impl Called, table: &str) {
+    for line in table.lines() {
+        if !line.is_empty() {
+            check_call(rt, alloc, on, line);
+        }
+    }
+}
+
+fn check_call(rt: &impl Abort, alloc: Global, on: &mut impl Called, line: &str) {
+    let (asked, wanted) = split_at_arrow(rt, line);
+    let mut told = String::new(alloc);
+    on.call(rt, alloc, asked, &mut told);
+    assert!(rt; told.as_str() == wanted, "{line} gives {told}");
 }

@@ -11,8 +11,8 @@ use std::process::Abort;
 
 const ROOT: &str = "projects/demo/databases/(default)/documents";
 
-// The first word of a text, and the others.
-fn split(text: &str) -> (&str, &str) {
+/// The first word of a text, and the others.
+pub(crate) fn split(text: &str) -> (&str, &str) {
     text.split_once(" ").unwrap_or((text, ""))
 }
 
@@ -137,7 +137,8 @@ fn ids_of(rt: &impl Abort, alloc: Global, path: &str) -> Ids {
     ids
 }
 
-fn scope(rt: &impl Abort, alloc: Global, kind: &str, path: &str, id: &str) -> Scope {
+/// What a query goes over: a collection or a group, below the ids of a path.
+pub(crate) fn scope(rt: &impl Abort, alloc: Global, kind: &str, path: &str, id: &str) -> Scope {
     let parent = ids_of(rt, alloc, path);
     let id = text(rt, alloc, id);
     match kind {
@@ -199,7 +200,7 @@ fn push_form(rt: &impl Abort, alloc: Global, told: &mut String, name: &str) {
     push(rt, told, if is_bad_field_name(name) { " bad" } else { "" });
 }
 
-fn names_of(rt: &impl Abort, alloc: Global, words: &str) -> Names {
+pub(crate) fn names_of(rt: &impl Abort, alloc: Global, words: &str) -> Names {
     let mut names = Names::new(alloc);
     for word in words.split_whitespace() {
         names.push(name(rt, alloc, word)).expect(rt, "memory");
@@ -218,7 +219,8 @@ fn push_same_names(rt: &impl Abort, told: &mut String, names: &Names, again: &Na
     }
 }
 
-fn push_count(rt: &impl Abort, told: &mut String, is_empty: bool, count: usize) {
+/// Tells how many there are.
+pub(crate) fn push_count(rt: &impl Abort, told: &mut String, is_empty: bool, count: usize) {
     if is_empty {
         push(rt, told, "none");
     } else {

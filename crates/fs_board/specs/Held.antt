@@ -1,0 +1,34 @@
+-- Only the model of a board and private clauses cite this: what it is made of.
+use Rattle.std.specs.Prelude.{◌≡◌, ℕ, ℤ, ◌<ℤ◌, List, [], ◌∷◌, map, Option, Some, None, if◌then◌else◌}
+use Rattle.std.specs.BTreeMap.{is_at}
+use Rattle.std.specs.List.{AllByRecursion}
+use Rattle.std.specs.Map.{lookup}
+use Rattle.std.specs.Ordering.{nat_cmp}
+use Rattle.fs_time.specs.Moment.{first_moment}
+use Rattle.fs_board.specs.declared.entry.Entry.{Entry}
+use Rattle.fs_board.specs.Board.{Commit, is_pending, time_in}
+use Rattle.fs_board.specs.Rising.{RiseTo, Differ}
+
+module _ {A B : Type 0} where
+  -- what stands at a time
+  abbrev pub commit_at : ℤ × Entry A B → Commit A B
+  commit_at e = record { time = e.0; id = e.1.id; asked = e.1.asked; batch = e.1.batch }
+
+  abbrev pub posted : List (ℤ × Entry A B) → List (Commit A B)
+  posted es = map commit_at es
+
+  -- by id they have the times of these commits
+  abbrev pub AreTimesOf : List (ℕ × ℤ) → List (Commit A B) → Type 0
+  AreTimesOf times cs = (id : ℕ) → lookup (is_at (nat_cmp id)) times ≡ time_in id cs
+
+  -- the time and the id of the first pending one
+  abbrev pub first_pending_in : List (Commit A B) → Option (ℤ × ℕ)
+  first_pending_in [] = None
+  first_pending_in (c ∷ cs) = if is_pending c then Some (c.time, c.id) else first_pending_in cs
+
+  pub record IsKept (cs : List (Commit A B)) (times : List (ℕ × ℤ)) (last : ℤ) : Type 0 where
+    pub rise : RiseTo last cs
+    pub differ : Differ cs
+    pub stand : AreTimesOf times cs
+    -- so there is a time before each
+    pub late : AllByRecursion (λ c. first_moment <ℤ c.time) cs

@@ -1,0 +1,5 @@
+pub mod Holding
+pub mod Ids
+pub mod Searching
+pub mod Trees
+pub mod Views

@@ -1,0 +1,108 @@
+//! What commits hold.
+use crate::held::Held;
+use crate::hold::put_new;
+use crate::holders::Holders;
+use crate::taken::Taken;
+use crate::tree::{first_among, first_at, first_in, fresh, take_all};
+use fs_path::{DocName, Names};
+use fs_status::Id;
+use std::alloc::{AllocError, Global};
+use std::collections::BTreeMap;
+use std::marker::Model;
+
+/// Which commits hold which names. A commit holds exclusively the names that it writes, until it is released. Several may hold
+/// a name at once: they go one after another, and each waits for those before it. Contracts see a list of holds, in the order
+/// of names, and for one name of ids. (Cloud Firestore documentation, "Transaction serializability and isolation".)
+///
+///     1 holds c/a and c/b, 3 holds c/b       by name: c/a: 1        by id: 1: c/a, c/b
+///                                                     c/b: 1, 3            3: c/b
+///     `behind([c/b, c/d], 3)` is 1, and `behind([c/b, c/d], 1)` is 3
+///     after `release_all(1)`                 by name: c/b: 3        by id: 3: c/b
+///
+/// A name costs a search for it and one among the ids that hold it, whether it is taken, looked up or released. Only
+/// `behind_scope` goes over all names, where it is asked for a scope.
+/// (docs/DECISIONS.md, "A hold stands twice", "Those that hold a name are an ordered set".)
+#[derive(Drop)]
+pub struct Locks {
+    // who holds each name; none is there that nobody holds
+    by_name: BTreeMap<DocName, Holders>,
+    // all that an id holds is among what it took
+    by_id: BTreeMap<Id, Taken>,
+}
+
+impl Model for Locks {
+    ghost use Rattle.std.specs.Prelude.{List};
+    ghost use Rattle.std.specs.Coded.{coded_list};
+    ghost use Rattle.fs_locks.specs.Holds.{Hold, hold_code};
+
+    ghost Value = { List Hold };
+
+    ghost coded = { coded_list hold_code };
+
+    ghost use Rattle.fs_locks.specs.Tree.{holds_of, AreTaken};
+
+    ghost view = { λ l. holds_of l.by_name.entries };
+
+    ghost invariant = { λ l. AreTaken l.by_name.entries l.by_id.entries };
+}
+
+impl Locks {
+    ghost use Rattle.std.specs.Prelude.{◌≡◌, ◌||◌, ◌&&◌, ◌==◌, ℕ, [], OnOk, OnErr, not};
+    ghost use Rattle.fs_path.specs.declared.name.DocName.{DocName};
+    ghost use Rattle.fs_locks.specs.Holds.{is_in, is_held, HoldsOne, HoldsTouched, IsLeastOther};
+    ghost use Rattle.fs_locks.specs.HoldOrder.{IsCanonical};
+
+    /// Nothing is held. The allocator serves the holds that come.
+    pub fn new(alloc: Global) -> Locks
+        ensures value { result ≡ [] }
+        ensures canonical { IsCanonical result }
+    {
+        Locks {
+            by_name: BTreeMap::new(alloc),
+            by_id: BTreeMap::new(alloc),
+        }
+    }
+
+    /// From now on an id holds these names, beside those that it held. Others may hold the same ones. Where memory runs out,
+    /// nothing is changed.
+    pub fn hold_exclusive(&mut self, alloc: Global, id: Id, names: Names) -> Result<(), AllocError>
+        ensures ok { OnOk result ((i : ℕ) (n : DocName) → is_held self.new i n ≡ (is_held self.old i n || ((i == id) && is_in n names))) }
+        ensures err { OnErr result (self.new ≡ self.old) }
+        ensures canonical { IsCanonical self.new }
+    {
+        let mut more = fresh(&self.by_name, names, id);
+        if let Err(error) = put_new(alloc, &mut self.by_name, &mut self.by_id, id, &mut more) {
+            take_all(&mut self.by_name, more.as_slice(), id);
+            return Err(error);
+        }
+        Ok(())
+    }
+
+    /// The least id other than `by` that holds one of these names. It takes no memory.
+    pub fn behind(&self, names: &Names, by: Id) -> Option<Id>
+        ensures value { IsLeastOther (HoldsOne self.now names.now) by result }
+        ensures canonical { IsCanonical self.now }
+    {
+        first_among(&self.by_name, names.as_slice(), by)
+    }
+
+    /// The least id other than `by` that holds what is touched: the name, or a name that the scope covers. It takes no memory.
+    pub fn behind_scope(&self, scope: &Held, by: Id) -> Option<Id>
+        ensures { IsLeastOther (HoldsTouched self.now scope.now) by result }
+    {
+        match scope {
+            Held::Name(name) => first_at(&self.by_name, name, by),
+            Held::Scope(scope) => first_in(&self.by_name, scope, by),
+        }
+    }
+
+    /// An id holds nothing any more. It takes no memory.
+    pub fn release_all(&mut self, id: Id)
+        ensures value { (i : ℕ) (n : DocName) → is_held self.new i n ≡ (not (i == id) && is_held self.old i n) }
+        ensures canonical { IsCanonical self.new }
+    {
+        if let Some(taken) = self.by_id.remove(&id) {
+            take_all(&mut self.by_name, taken.as_slice(), id);
+        }
+    }
+}
