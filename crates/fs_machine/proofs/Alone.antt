@@ -11,21 +11,27 @@ use Rattle.fs_status.specs.declared.refusal.Refusal.{Refusal}
 use Rattle.fs_write.specs.Batch.{Docs}
 use Rattle.fs_write.specs.declared.write_result.WriteResult.{WriteResult}
 use Rattle.fs_history.specs.History.{whole}
+use Rattle.fs_machine.specs.Facts.{PastFacts}
 use Rattle.fs_machine.specs.declared.unreleased.Unreleased.{Unreleased}
 use Rattle.fs_machine.specs.Past.{Past, is_pending}
 use Rattle.fs_machine.specs.Release.{all_delivered, freed, joined, kept_back, let_out, past_released, released}
 use Rattle.fs_machine.specs.Sessions.{delivered}
-use Rattle.fs_machine.specs.Settle.{accepted_in, decided_if, decided_with, docs_for, dropped_from, is_before, outcome_of, past_decided, pending_in, pending_of, settled, settled_answer, settled_answer_if, settled_as}
+use Rattle.fs_machine.specs.Settle.{accepted_in, decided_if, decided_with, docs_for, dropped_from, is_before, is_it, outcome_of, past_decided, pending_in, pending_of, settled, settled_answer, settled_answer_if, settled_as}
 use Rattle.fs_machine.specs.declared.answer.Settled.TheVariants.{Released, Waiting, Dropped}
 use Rattle.fs_machine.specs.State.{Machine}
 use Rattle.fs_machine.specs.UnreleasedRise.{RiseFrom, UnreleasedRise}
+use Rattle.fs_machine.proofs.HistoryRises.{ends_before}
 use Rattle.fs_machine.specs.Alone.{IsAlone, with_batch, without_batch}
 
-found_here : (u : Unreleased) (us : List Unreleased) (id : ℕ) → u.results ≡ None → u.batch.id ≡ id → pending_in id (u ∷ us) ≡ Some u
-found_here u us id pending number =
+is_itself : (u : Unreleased) (id : ℕ) → u.results ≡ None → u.batch.id ≡ id → is_it id u ≡ true
+is_itself u id pending number =
     let here : (u.batch.id == id) ≡ true = grind (arith, nat_tests) in
     let still : is_pending u ≡ true = ap is_none pending in
     rw (here, still) refl
+
+found_here : (u : Unreleased) (us : List Unreleased) (id : ℕ) → u.results ≡ None → u.batch.id ≡ id → pending_in id (u ∷ us) ≡ Some u
+found_here u us id pending number =
+    rw (is_itself u id pending number) refl
 
 pub alone_is_found : (p : Past) (id : ℕ) (a : IsAlone p id) → pending_of p id ≡ Some a.commit
 alone_is_found p id a = ap (pending_in id) a.alone ∙ found_here a.commit [] id a.pending a.number
@@ -38,15 +44,11 @@ pub alone_is_pending : (p : Past) (id : ℕ) → IsAlone p id → IsSome (pendin
 alone_is_pending p id a = some_there _ _ (alone_is_found p id a)
 
 -- a commit with its results, which is released up to a time that isn't before its own
-accepted_only : (u : Unreleased) (results : List WriteResult) → accepted_in u.batch.id results (u ∷ []) ≡ record u { results = Some results } ∷ []
-accepted_only u results =
-    let here : (u.batch.id == u.batch.id) ≡ true = grind (arith, nat_tests) in
-    rw here refl
+accepted_only : (u : Unreleased) (results : List WriteResult) → u.results ≡ None → accepted_in u.batch.id results (u ∷ []) ≡ record u { results = Some results } ∷ []
+accepted_only u results pending = rw (is_itself u u.batch.id pending refl) refl
 
-dropped_only : (u : Unreleased) → dropped_from u.batch.id (u ∷ []) ≡ []
-dropped_only u =
-    let here : (u.batch.id == u.batch.id) ≡ true = grind (arith, nat_tests) in
-    rw here refl
+dropped_only : (u : Unreleased) → u.results ≡ None → dropped_from u.batch.id (u ∷ []) ≡ []
+dropped_only u pending = rw (is_itself u u.batch.id pending refl) refl
 
 freed_only : (u : Unreleased) (results : List WriteResult) (to : ℤ) → u.batch.time ≤ℤ to → freed to (record u { results = Some results } ∷ []) ≡ record u { results = Some results } ∷ []
 freed_only u results to within = rw (not_after u.batch.time to within) refl
@@ -57,25 +59,38 @@ kept_none u results to within = rw (not_after u.batch.time to within) refl
 last_above : (p : Past) (u : Unreleased) → UnreleasedRise p → p.unreleased ≡ u ∷ [] → u.batch.time ≤ℤ p.last
 last_above p u above alone = let rest : RiseFrom p.released p.last (u ∷ []) = subst (RiseFrom p.released p.last) alone above in rest.1
 
-pub accepted_alone : (p : Past) (u : Unreleased) (done : Docs × List WriteResult) → UnreleasedRise p → p.unreleased ≡ u ∷ [] → past_released (past_decided p u (Ok done)) ≡ with_batch p u
-accepted_alone p u done above alone =
+pub accepted_alone : (p : Past) (u : Unreleased) (done : Docs × List WriteResult) → UnreleasedRise p → p.unreleased ≡ u ∷ [] → u.results ≡ None → past_released (past_decided p u (Ok done)) ≡ with_batch p u
+accepted_alone p u done above alone pending =
     let within = last_above p u above alone in
-    let only : accepted_in u.batch.id done.1 p.unreleased ≡ record u { results = Some done.1 } ∷ [] = ap (accepted_in u.batch.id done.1) alone ∙ accepted_only u done.1 in
+    let only : accepted_in u.batch.id done.1 p.unreleased ≡ record u { results = Some done.1 } ∷ [] = ap (accepted_in u.batch.id done.1) alone ∙ accepted_only u done.1 pending in
     ap (λ us. past_released (record p { unreleased = us })) only
     ∙ (λ i. record p { history = joined p.history (freed_only u done.1 p.last within i); unreleased = kept_none u done.1 p.last within i; released = p.last })
 
-pub let_out_alone : (p : Past) (u : Unreleased) (done : Docs × List WriteResult) → UnreleasedRise p → p.unreleased ≡ u ∷ [] → let_out (past_decided p u (Ok done)) ≡ record u { results = Some done.1 } ∷ []
-let_out_alone p u done above alone =
+pub let_out_alone : (p : Past) (u : Unreleased) (done : Docs × List WriteResult) → UnreleasedRise p → p.unreleased ≡ u ∷ [] → u.results ≡ None → let_out (past_decided p u (Ok done)) ≡ record u { results = Some done.1 } ∷ []
+let_out_alone p u done above alone pending =
     let within = last_above p u above alone in
-    let only : accepted_in u.batch.id done.1 p.unreleased ≡ record u { results = Some done.1 } ∷ [] = ap (accepted_in u.batch.id done.1) alone ∙ accepted_only u done.1 in
+    let only : accepted_in u.batch.id done.1 p.unreleased ≡ record u { results = Some done.1 } ∷ [] = ap (accepted_in u.batch.id done.1) alone ∙ accepted_only u done.1 pending in
     ap (λ us. let_out (record p { unreleased = us })) only ∙ freed_only u done.1 p.last within
 
-pub rejected_alone : (p : Past) (u : Unreleased) (refusal : Refusal) → p.unreleased ≡ u ∷ [] → past_released (past_decided p u (Err refusal)) ≡ without_batch p
-rejected_alone p u refusal alone =
-    ap (λ us. past_released (record p { unreleased = us })) (ap (dropped_from u.batch.id) alone ∙ dropped_only u)
+pub rejected_alone : (p : Past) (u : Unreleased) (refusal : Refusal) → p.unreleased ≡ u ∷ [] → u.results ≡ None → past_released (past_decided p u (Err refusal)) ≡ without_batch p
+rejected_alone p u refusal alone pending =
+    ap (λ us. past_released (record p { unreleased = us })) (ap (dropped_from u.batch.id) alone ∙ dropped_only u pending)
 
-pub none_let_out : (p : Past) (u : Unreleased) (refusal : Refusal) → p.unreleased ≡ u ∷ [] → let_out (past_decided p u (Err refusal)) ≡ []
-none_let_out p u refusal alone = ap (λ us. let_out (record p { unreleased = us })) (ap (dropped_from u.batch.id) alone ∙ dropped_only u)
+pub none_let_out : (p : Past) (u : Unreleased) (refusal : Refusal) → p.unreleased ≡ u ∷ [] → u.results ≡ None → let_out (past_decided p u (Err refusal)) ≡ []
+none_let_out p u refusal alone pending = ap (λ us. let_out (record p { unreleased = us })) (ap (dropped_from u.batch.id) alone ∙ dropped_only u pending)
+
+-- what stands still stands with it
+pub kept_with_batch : (p : Past) (u : Unreleased) → p.unreleased ≡ u ∷ [] → PastFacts p → PastFacts (with_batch p u)
+kept_with_batch p u alone facts =
+    let rise : RiseFrom p.released p.last (u ∷ []) = subst (RiseFrom p.released p.last) alone facts.unreleased in
+    let first = rise.0 in let rest = rise.1 in let floor = facts.floor in
+    record {
+      history = record { rising = (ends_before p.history p.released u.batch.time first facts.history.ends, facts.history.rising); ends = rest };
+      unreleased = omega (arith, ints);
+      floor = omega (arith, ints);
+      names = tt;
+      results = tt;
+    }
 
 -- ---- the event
 
@@ -84,17 +99,17 @@ settled_by m id a = ap (λ found. released (decided_if m found)) (alone_is_found
 
 -- it is accepted and answered with its results
 pub settled_accepted : (m : Machine) (id : ℕ) (a : IsAlone m.past id) (done : Docs × List WriteResult) → UnreleasedRise m.past → outcome_of m.past a.commit ≡ Ok done
-    → settled m id ≡ record m { past = with_batch m.past a.commit; sessions = record m.sessions { list = delivered a.commit.session (message.Commit a.commit.request a.commit.batch.time done.1) m.sessions.list } }
+    → settled m id ≡ record m { past = with_batch m.past a.commit; sessions = delivered a.commit.session (message.Commit a.commit.request a.commit.batch.time done.1) m.sessions }
 settled_accepted m id a done above is =
     settled_by m id a ∙ ap (λ r. released (decided_with m a.commit r)) is
-    ∙ (λ i. record m { past = accepted_alone m.past a.commit done above a.alone i; sessions = record m.sessions { list = all_delivered (let_out_alone m.past a.commit done above a.alone i) m.sessions.list } })
+    ∙ (λ i. record m { past = accepted_alone m.past a.commit done above a.alone a.pending i; sessions = all_delivered (let_out_alone m.past a.commit done above a.alone a.pending i) m.sessions })
 
 -- or dropped and answered with its refusal
 pub settled_rejected : (m : Machine) (id : ℕ) (a : IsAlone m.past id) (refusal : Refusal) → outcome_of m.past a.commit ≡ Err refusal
-    → settled m id ≡ record m { past = without_batch m.past; sessions = record m.sessions { list = delivered a.commit.session (refused a.commit.request refusal) m.sessions.list } }
+    → settled m id ≡ record m { past = without_batch m.past; sessions = delivered a.commit.session (refused a.commit.request refusal) m.sessions }
 settled_rejected m id a refusal is =
     settled_by m id a ∙ ap (λ r. released (decided_with m a.commit r)) is
-    ∙ (λ i. record m { past = rejected_alone m.past a.commit refusal a.alone i; sessions = record m.sessions { list = all_delivered (none_let_out m.past a.commit refusal a.alone i) (delivered a.commit.session (refused a.commit.request refusal) m.sessions.list) } })
+    ∙ (λ i. record m { past = rejected_alone m.past a.commit refusal a.alone a.pending i; sessions = all_delivered (none_let_out m.past a.commit refusal a.alone a.pending i) (delivered a.commit.session (refused a.commit.request refusal) m.sessions) })
 
 leaves_none : (m : Machine) (id : ℕ) (a : IsAlone m.past id) (r : Result (Docs × List WriteResult) Refusal) → UnreleasedRise m.past → outcome_of m.past a.commit ≡ r → (settled m id).past.unreleased ≡ []
 leaves_none m id a (Ok done) above is = ap (λ (n : Machine). n.past.unreleased) (settled_accepted m id a done above is)

@@ -15,7 +15,7 @@ ends_later : (h : List Batch) (s t : ℤ) → s ≤ℤ t → EndsBy h s → Ends
 ends_later [] s t within ends = tt
 ends_later (b ∷ h) s t within ends = omega (arith, ints)
 
-ends_before : (h : List Batch) (s t : ℤ) → s <ℤ t → EndsBy h s → EndsBefore h t
+pub ends_before : (h : List Batch) (s t : ℤ) → s <ℤ t → EndsBy h s → EndsBefore h t
 ends_before [] s t within ends = tt
 ends_before (b ∷ h) s t within ends = omega (arith, ints)
 

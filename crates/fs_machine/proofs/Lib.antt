@@ -1,8 +1,16 @@
 pub mod Alone
+pub mod Behind
 pub mod FloorIsReleased
+pub mod Grows
 pub mod HistoryRises
 pub mod IdsAreDrawn
+pub mod Moved
+pub mod NamesApart
+pub mod OutcomesStay
+pub mod Pending
 pub mod Places
+pub mod ResultsHold
 pub mod Runs
-pub mod Stays
+pub mod SessionsNumbered
+pub mod SettledInAnyOrder
 pub mod UnreleasedRise

@@ -1,6 +1,6 @@
 -- The times of the commits that aren't released rise still, after each event.
 use Rattle.std.proofs.Common.{◌≡◌, ℕ, ℤ, ◌<ℤ◌, ◌≤ℤ◌, Bool, true, false, cond, List, [], ◌∷◌, ◌++◌, refl, sym, subst, arith}
-use Rattle.std.specs.Prelude.{pos, ◌-ℤ◌, not, ◌==◌, Some, Ok, Err, Result}
+use Rattle.std.specs.Prelude.{pos, ◌-ℤ◌, not, Some, Ok, Err, Result}
 use Rattle.std.specs.List.{filter}
 use Rattle.std.proofs.lemmas.Int.{ints}
 use Rattle.fs_status.specs.declared.refusal.Refusal.{Refusal}
@@ -10,7 +10,7 @@ use Rattle.fs_machine.specs.Past.{Past, is_pending}
 use Rattle.fs_machine.specs.declared.unreleased.Unreleased.{Unreleased}
 use Rattle.fs_machine.specs.Commit.{past_prepared}
 use Rattle.fs_machine.specs.Release.{free_to, is_freed, kept_back, past_released}
-use Rattle.fs_machine.specs.Settle.{accepted_in, dropped_from, past_decided}
+use Rattle.fs_machine.specs.Settle.{accepted_in, dropped_from, is_it, past_decided}
 use Rattle.fs_machine.specs.Tick.{later, past_advanced}
 use Rattle.fs_machine.specs.UnreleasedRise.{RiseFrom, UnreleasedRise}
 
@@ -39,18 +39,18 @@ accepted_next : (u : Unreleased) (us : List Unreleased) (id : ℕ) (results : Li
 accepted_next u us id results from to true first rest more = (first, rest)
 accepted_next u us id results from to false first rest more = (first, more)
 
-rise_accepted : (us : List Unreleased) (id : ℕ) (results : List WriteResult) (from to : ℤ) → RiseFrom from to us → RiseFrom from to (accepted_in id results us)
+pub rise_accepted : (us : List Unreleased) (id : ℕ) (results : List WriteResult) (from to : ℤ) → RiseFrom from to us → RiseFrom from to (accepted_in id results us)
 rise_accepted [] id results from to above = above
-rise_accepted (u ∷ us) id results from to above = accepted_next u us id results from to (u.batch.id == id) above.0 above.1 (rise_accepted us id results u.batch.time to above.1)
+rise_accepted (u ∷ us) id results from to above = accepted_next u us id results from to (is_it id u) above.0 above.1 (rise_accepted us id results u.batch.time to above.1)
 
 dropped_next : (u : Unreleased) (us : List Unreleased) (id : ℕ) (from to : ℤ) (b : Bool) → (from <ℤ u.batch.time) → RiseFrom u.batch.time to us → RiseFrom u.batch.time to (dropped_from id us)
     → RiseFrom from to (cond b us (u ∷ dropped_from id us))
 dropped_next u us id from to true first rest more = rise_lower us from u.batch.time to (omega (arith, ints)) rest
 dropped_next u us id from to false first rest more = (first, more)
 
-rise_dropped : (us : List Unreleased) (id : ℕ) (from to : ℤ) → RiseFrom from to us → RiseFrom from to (dropped_from id us)
+pub rise_dropped : (us : List Unreleased) (id : ℕ) (from to : ℤ) → RiseFrom from to us → RiseFrom from to (dropped_from id us)
 rise_dropped [] id from to above = above
-rise_dropped (u ∷ us) id from to above = dropped_next u us id from to (u.batch.id == id) above.0 above.1 (rise_dropped us id u.batch.time to above.1)
+rise_dropped (u ∷ us) id from to above = dropped_next u us id from to (is_it id u) above.0 above.1 (rise_dropped us id u.batch.time to above.1)
 
 pub unreleased_decided : (p : Past) (u : Unreleased) (r : Result (Docs × List WriteResult) Refusal) → UnreleasedRise p → UnreleasedRise (past_decided p u r)
 unreleased_decided p u (Ok done) above = rise_accepted p.unreleased u.batch.id done.1 p.released p.last above

@@ -1,15 +1,20 @@
--- A commit comes: its number is drawn, and it is pending one microsecond after the last time that was issued, unless it would
--- pass a limit. Of several such limits the first in their order is told.
+-- A commit comes. It draws its number unless it would pass a limit; of several such limits the first in their order is told. Where
+-- a commit before it isn't released yet and writes a name that it writes, it waits (Parked.antt). Else it is pending, one
+-- microsecond after the last time that was issued.
 use Rattle.std.specs.Prelude.{ℕ, ℤ, pos, ◌+ℤ◌, ◌+◌, Bool, List, [], ◌∷◌, ◌++◌, Option, Some, None, length, nat_lt, nat_le, int_lt, sum_by, codes, if◌then◌else◌}
 use Rattle.fs_history.specs.Bytes.{batch_size, commit_size, history_size}
 use Rattle.fs_history.specs.declared.batch.Batch.{Batch}
+use Rattle.fs_history.specs.declared.read.Read.{Read}
+use Rattle.fs_rpc.specs.declared.request.Envelope.{Envelope}
 use Rattle.fs_status.specs.Refusal.{at_limit}
 use Rattle.fs_status.specs.declared.refusal.Refusal.{Refusal}
 use Rattle.fs_write.specs.declared.write.Write.{Write}
+use Rattle.fs_machine.specs.Behind.{behind}
 use Rattle.fs_machine.specs.declared.answer.Answer.{Answer}
-use Rattle.fs_machine.specs.declared.answer.Answer.TheVariants.{Prepared, Refused}
+use Rattle.fs_machine.specs.declared.answer.Answer.TheVariants.{Prepared, Held, Refused}
 use Rattle.fs_machine.specs.Outbox.{outbox_of}
 use Rattle.fs_machine.specs.Past.{Past}
+use Rattle.fs_machine.specs.declared.parked_request.ParkedRequest.{ParkedRequest}
 use Rattle.fs_machine.specs.declared.unreleased.Unreleased.{Unreleased}
 use Rattle.fs_machine.specs.State.{Machine}
 
@@ -19,14 +24,18 @@ abbrev pub next_time : Past → ℤ
 next_time p = p.last +ℤ pos 1
 
 -- the batch that it is to be
-abbrev pub next_batch : Machine → List Write → Batch
-next_batch m writes = record { time = next_time m.past; id = m.ids + 1; writes = writes; reads = [] }
+abbrev pub next_batch : Past → ℕ → List Write → List Read → Batch
+next_batch p id writes reads = record { time = next_time p; id = id; writes = writes; reads = reads }
 
-abbrev pub next_commit : Machine → ℕ → Option (List ℕ) → List Write → Unreleased
-next_commit m session request writes = record { batch = next_batch m writes; session = session; request = request; results = None }
+-- that of a request which asks for these writes
+abbrev pub next_commit : Past → ParkedRequest → List Write → Unreleased
+next_commit p r writes = record { batch = next_batch p r.id writes []; session = r.session; request = r.envelope.id; results = None }
 
 abbrev pub past_prepared : Past → Unreleased → Past
 past_prepared p u = record p { unreleased = p.unreleased ++ u ∷ []; last = u.batch.time }
+
+abbrev pub prepared : Machine → Unreleased → Machine
+prepared m u = record m { past = past_prepared m.past u }
 
 -- ---- limits
 
@@ -49,30 +58,74 @@ outbox_is_full m session = nat_le m.limits.outbox (length (outbox_of m session))
 abbrev pub outbox_refusal : Machine → ℕ → Option Refusal
 outbox_refusal m session = passed (outbox_is_full m session) (codes "outbox") m.limits.outbox None
 
+-- these two and the last are tested again where a commit that waited is tried again
+abbrev pub room_refusal : Machine → List Write → Option Refusal → Option Refusal
+room_refusal m writes others =
+    passed (nat_le m.limits.batches (journal_count m.past)) (codes "batches") m.limits.batches
+    (passed (nat_lt m.limits.journal (journal_size m.past + commit_size writes [])) (codes "journal") m.limits.journal others)
+
+abbrev pub time_limit_refusal : Machine → Option Refusal
+time_limit_refusal m = passed (int_lt (pos m.limits.time) (next_time m.past)) (codes "time") m.limits.time None
+
+-- at its arrival
 abbrev pub commit_refusal : Machine → ℕ → List Write → Option Refusal
 commit_refusal m session writes =
     passed (nat_lt m.limits.writes (length writes)) (codes "writes") m.limits.writes
     (passed (outbox_is_full m session) (codes "outbox") m.limits.outbox
-    (passed (nat_le m.limits.batches (journal_count m.past)) (codes "batches") m.limits.batches
-    (passed (nat_lt m.limits.journal (journal_size m.past + commit_size writes [])) (codes "journal") m.limits.journal
-    (passed (nat_le m.limits.ids m.ids) (codes "ids") m.limits.ids
-    (passed (int_lt (pos m.limits.time) (next_time m.past)) (codes "time") m.limits.time None)))))
+    (room_refusal m writes
+    (passed (nat_le m.limits.ids m.numbers.ids) (codes "ids") m.limits.ids
+    (time_limit_refusal m))))
+
+-- as it is tried again
+abbrev pub retry_refusal : Machine → List Write → Option Refusal
+retry_refusal m writes = room_refusal m writes (time_limit_refusal m)
+
+-- ---- what becomes of it
+
+pub data Decision : Type 0 where
+  refused : Refusal → Decision
+  -- it waits for the commit of this number
+  held : ℕ → Decision
+  goes_on : Decision
+
+-- one that would have to wait is refused where as many wait as may
+abbrev pub decision_behind : Machine → Option ℕ → Decision
+decision_behind m None = goes_on
+decision_behind m (Some id) = if nat_le m.limits.parked (length m.parked) then refused (at_limit (codes "parked") m.limits.parked) else held id
+
+abbrev pub decision : Machine → List Write → Decision
+decision m writes = decision_behind m (behind m.past writes)
+
+abbrev pub carried : Machine → ParkedRequest → List Write → Decision → Machine
+carried m r writes (refused refusal) = m
+carried m r writes (held id) = record m { parked = m.parked ++ r ∷ [] }
+carried m r writes goes_on = prepared m (next_commit m.past r writes)
+
+abbrev pub carried_answer : Past → ParkedRequest → Decision → Answer
+carried_answer p r (refused refusal) = Refused refusal
+carried_answer p r (held id) = Held id
+carried_answer p r goes_on = Prepared r.id (next_time p)
 
 -- ---- the event
 
-abbrev pub prepared : Machine → Unreleased → Machine
-prepared m u = record m { past = past_prepared m.past u; ids = u.batch.id }
+-- with one number drawn
+abbrev pub drawn : Machine → Machine
+drawn m = record m { numbers = record m.numbers { ids = m.numbers.ids + 1 } }
 
-abbrev pub prepared_unless : Option Refusal → Machine → Unreleased → Machine
-prepared_unless (Some refusal) m u = m
-prepared_unless None m u = prepared m u
+-- the request with that number
+abbrev pub arrived : Machine → ℕ → Envelope → ParkedRequest
+arrived m session e = record { session = session; id = m.numbers.ids + 1; envelope = e }
 
-abbrev pub after_commit : Machine → ℕ → Option (List ℕ) → List Write → Machine
-after_commit m session request writes = prepared_unless (commit_refusal m session writes) m (next_commit m session request writes)
+abbrev pub after_limits : Option Refusal → Machine → ParkedRequest → List Write → Machine
+after_limits (Some refusal) m r writes = m
+after_limits None m r writes = carried (drawn m) r writes (decision m writes)
 
-abbrev pub prepared_answer : Option Refusal → Batch → Answer
-prepared_answer (Some refusal) b = Refused refusal
-prepared_answer None b = Prepared b.id b.time
+abbrev pub answer_after_limits : Option Refusal → Machine → ParkedRequest → List Write → Answer
+answer_after_limits (Some refusal) m r writes = Refused refusal
+answer_after_limits None m r writes = carried_answer m.past r (decision m writes)
 
-abbrev pub commit_answer : Machine → ℕ → List Write → Answer
-commit_answer m session writes = prepared_answer (commit_refusal m session writes) (next_batch m writes)
+abbrev pub after_commit : Machine → ℕ → Envelope → List Write → Machine
+after_commit m session e writes = after_limits (commit_refusal m session writes) m (arrived m session e) writes
+
+abbrev pub commit_answer : Machine → ℕ → Envelope → List Write → Answer
+commit_answer m session e writes = answer_after_limits (commit_refusal m session writes) m (arrived m session e) writes

@@ -7,6 +7,7 @@ use Rattle.fs_machine.specs.Open.{opened}
 use Rattle.fs_machine.specs.Outbox.{taken}
 use Rattle.fs_machine.specs.Release.{released}
 use Rattle.fs_machine.specs.Request.{asked}
+use Rattle.fs_machine.specs.Retry.{retried}
 use Rattle.fs_machine.specs.Settle.{decided}
 use Rattle.fs_machine.specs.State.{Machine}
 use Rattle.fs_machine.specs.Tick.{advanced}
@@ -16,6 +17,8 @@ pub data Event : Type 0 where
   opening : Event
   leaving : (session : ℕ) → Event
   asking : (session : ℕ) → (e : Envelope) → Event
+  -- the request that waits at this place is tried again
+  retrying : (place : ℕ) → Event
   deciding : (id : ℕ) → Event
   advancing : (now : ℤ) → Event
   releasing : Event
@@ -27,6 +30,7 @@ abbrev pub step : Machine → Event → Machine
 step m opening = opened m
 step m (leaving session) = departed m session
 step m (asking session e) = asked m session e
+step m (retrying place) = retried m place
 step m (deciding id) = decided m id
 step m (advancing now) = advanced m now
 step m releasing = released m

@@ -1,9 +1,11 @@
 -- What stands at every moment.
-use Rattle.std.specs.Prelude.{ℤ}
 use Rattle.fs_machine.specs.FloorIsReleased.{FloorIsReleased}
 use Rattle.fs_machine.specs.HistoryRises.{HistoryRises}
 use Rattle.fs_machine.specs.IdsAreDrawn.{IdsAreDrawn}
+use Rattle.fs_machine.specs.NamesApart.{NamesApart}
 use Rattle.fs_machine.specs.Past.{Past}
+use Rattle.fs_machine.specs.ResultsHold.{ResultsHold}
+use Rattle.fs_machine.specs.SessionsNumbered.{SessionsNumbered}
 use Rattle.fs_machine.specs.State.{Machine}
 use Rattle.fs_machine.specs.UnreleasedRise.{UnreleasedRise}
 
@@ -12,8 +14,11 @@ pub record PastFacts (p : Past) : Type 0 where
   pub history : HistoryRises p
   pub unreleased : UnreleasedRise p
   pub floor : FloorIsReleased p
+  pub names : NamesApart p
+  pub results : ResultsHold p
 
 -- of a server
 pub record Facts (m : Machine) : Type 0 where
   pub past : PastFacts m.past
-  pub ids : IdsAreDrawn m.past m.ids
+  pub ids : IdsAreDrawn m.past m.parked m.numbers.ids
+  pub sessions : SessionsNumbered m.sessions m.numbers.sessions

@@ -7,9 +7,12 @@ pub mod Open
 pub mod Leave
 pub mod Tick
 pub mod Read
+pub mod Behind
 pub mod Commit
 pub mod Request
+pub mod Retry
 pub mod Settle
+pub mod Pending
 pub mod Compact
 pub mod Outbox
 pub mod Event
@@ -17,7 +20,10 @@ pub mod HistoryRises
 pub mod UnreleasedRise
 pub mod FloorIsReleased
 pub mod IdsAreDrawn
+pub mod NamesApart
+pub mod ResultsHold
+pub mod SessionsNumbered
 pub mod Facts
-pub mod Stays
+pub mod Grows
 pub mod Laws
 pub mod Alone

@@ -8,6 +8,7 @@ greatest = record {
   writes = 500;
   outbox = 1000;
   sessions = 64;
+  parked = 1000;
   batches = 1000000;
   journal = 134217728;
   ids = 18446744073709551615;
@@ -23,6 +24,7 @@ pub record AreAllowed (limits : Limits) : Type 0 where
   pub writes : limits.writes ≤ greatest.writes
   pub outbox : limits.outbox ≤ greatest.outbox
   pub sessions : limits.sessions ≤ greatest.sessions
+  pub parked : limits.parked ≤ greatest.parked
   pub batches : limits.batches ≤ greatest.batches
   pub journal : limits.journal ≤ greatest.journal
   pub ids : limits.ids ≤ greatest.ids

@@ -5,7 +5,7 @@ use Rattle.fs_machine.specs.Sessions.{outbox_in, emptied}
 use Rattle.fs_machine.specs.State.{Machine}
 
 abbrev pub outbox_of : Machine → ℕ → List Message
-outbox_of m session = outbox_in session m.sessions.list
+outbox_of m session = outbox_in session m.sessions
 
 abbrev pub taken : Machine → ℕ → Machine
-taken m session = record m { sessions = record m.sessions { list = emptied session m.sessions.list } }
+taken m session = record m { sessions = emptied session m.sessions }

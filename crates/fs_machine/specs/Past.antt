@@ -4,7 +4,7 @@
 --     unreleased    8 pending, 9 accepted               9 waits for 8, since a reader of 9 has to see 8 too
 --     last 9, released 7, floor 4, moment 3             documents can be read at 4 to 7; the next commit is at 10
 -- (v1 reference, "Commit": `commitTime`; "GetDocument", "RunQuery": `readTime`.)
-use Rattle.std.specs.Prelude.{ℤ, List, [], Bool, is_none, refl}
+use Rattle.std.specs.Prelude.{ℤ, List, [], Bool, is_none, map, refl}
 use Rattle.std.specs.Coded.{Coded, code_by, coded×, coded_ℤ, coded_list}
 use Rattle.fs_history.specs.contracts.batch.Batch as batch
 use Rattle.fs_history.specs.declared.batch.Batch.{Batch}
@@ -39,3 +39,7 @@ past_from start = record { history = []; unreleased = []; last = start; released
 
 abbrev pub is_pending : Unreleased → Bool
 is_pending u = is_none u.results
+
+-- what commits are to be in the history
+abbrev pub batches : List Unreleased → List Batch
+batches us = map (λ u. u.batch) us

@@ -50,4 +50,4 @@ abbrev pub let_out : Past → List Unreleased
 let_out p = freed (free_to p.last p.unreleased) p.unreleased
 
 abbrev pub released : Machine → Machine
-released m = record m { past = past_released m.past; sessions = record m.sessions { list = all_delivered (let_out m.past) m.sessions.list } }
+released m = record m { past = past_released m.past; sessions = all_delivered (let_out m.past) m.sessions }

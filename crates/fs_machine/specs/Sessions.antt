@@ -1,22 +1,7 @@
 -- The sessions that are open, each with the messages that it has still to be sent.
-use Rattle.std.specs.Prelude.{ℕ, List, [], ◌∷◌, ◌++◌, ◌==◌, if◌then◌else◌, refl}
-use Rattle.std.specs.Coded.{Coded, code_by, coded×, coded_ℕ, coded_list}
+use Rattle.std.specs.Prelude.{ℕ, List, [], ◌∷◌, ◌++◌, ◌==◌, if◌then◌else◌}
 use Rattle.fs_rpc.specs.declared.message.Message.{Message}
-use Rattle.fs_machine.specs.contracts.session.Session as session
 use Rattle.fs_machine.specs.declared.session.Session.{Session}
-
-pub record Sessions : Type 0 where
-  -- in the order of opening
-  pub list : List Session
-  -- how many were opened so far: the number of the next
-  pub given : ℕ
-
--- they are stored as the pair of their parts
-abbrev pub sessions_code : Coded Sessions
-sessions_code = code_by (List Session × ℕ) (coded× (coded_list session.the_row.coded) coded_ℕ) (λ s. (s.list, s.given)) (λ p. record { list = p.0; given = p.1 }) (λ _. refl)
-
-abbrev pub no_sessions : Sessions
-no_sessions = record { list = []; given = 0 }
 
 -- the messages of a session; none where it isn't open
 abbrev pub outbox_in : ℕ → List Session → List Message

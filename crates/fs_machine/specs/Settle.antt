@@ -18,10 +18,13 @@ use Rattle.fs_machine.specs.Release.{joined, released}
 use Rattle.fs_machine.specs.Sessions.{delivered}
 use Rattle.fs_machine.specs.State.{Machine}
 
--- the pending commit of a number
+-- it is the pending commit of a number
+abbrev pub is_it : ℕ → Unreleased → Bool
+is_it id u = u.batch.id == id && is_pending u
+
 abbrev pub pending_in : ℕ → List Unreleased → Option Unreleased
 pending_in id [] = None
-pending_in id (u ∷ us) = if u.batch.id == id && is_pending u then Some u else pending_in id us
+pending_in id (u ∷ us) = if is_it id u then Some u else pending_in id us
 
 abbrev pub pending_of : Past → ℕ → Option Unreleased
 pending_of p id = pending_in id p.unreleased
@@ -58,15 +61,15 @@ ComesTo p id o = IsOutcomeOfPending p (pending_of p id) o
 
 -- ---- accepting and dropping
 
--- with these results at the commit of a number
+-- with these results at the pending commit of a number
 abbrev pub accepted_in : ℕ → List WriteResult → List Unreleased → List Unreleased
 accepted_in id results [] = []
-accepted_in id results (u ∷ us) = if u.batch.id == id then record u { results = Some results } ∷ us else u ∷ accepted_in id results us
+accepted_in id results (u ∷ us) = if is_it id u then record u { results = Some results } ∷ us else u ∷ accepted_in id results us
 
 -- without it
 abbrev pub dropped_from : ℕ → List Unreleased → List Unreleased
 dropped_from id [] = []
-dropped_from id (u ∷ us) = if u.batch.id == id then us else u ∷ dropped_from id us
+dropped_from id (u ∷ us) = if is_it id u then us else u ∷ dropped_from id us
 
 abbrev pub past_decided : Past → Unreleased → Result (Docs × List WriteResult) Refusal → Past
 past_decided p u (Ok done) = record p { unreleased = accepted_in u.batch.id done.1 p.unreleased }
@@ -75,7 +78,7 @@ past_decided p u (Err refusal) = record p { unreleased = dropped_from u.batch.id
 abbrev pub decided_with : Machine → Unreleased → Result (Docs × List WriteResult) Refusal → Machine
 decided_with m u (Ok done) = record m { past = past_decided m.past u (Ok done) }
 decided_with m u (Err refusal) =
-    record m { past = past_decided m.past u (Err refusal); sessions = record m.sessions { list = delivered u.session (refused u.request refusal) m.sessions.list } }
+    record m { past = past_decided m.past u (Err refusal); sessions = delivered u.session (refused u.request refusal) m.sessions }
 
 abbrev pub decided_if : Machine → Option Unreleased → Machine
 decided_if m None = m

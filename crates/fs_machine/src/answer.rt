@@ -11,6 +11,8 @@ pub enum Answer {
     Reply(Message),
     /// It is a commit, which is pending: by its number and its commit time. Its reply comes to the session's outbox.
     Prepared(Id, Micros),
+    /// It waits, and is tried again: by the number of what it waits for, the least of several.
+    Held(Id),
     /// It isn't carried out.
     Refused(Refusal),
 }

@@ -7,6 +7,8 @@ mod config;
 mod laws;
 mod limits;
 mod messages;
+mod numbers;
+mod parked_request;
 mod session;
 mod unreleased;
 
@@ -15,5 +17,7 @@ pub use config::Config;
 pub use laws::machines_are_lawful;
 pub use limits::Limits;
 pub use messages::Messages;
+pub use numbers::Numbers;
+pub use parked_request::ParkedRequest;
 pub use session::Session;
 pub use unreleased::Unreleased;

@@ -11,6 +11,8 @@ pub struct Limits {
     pub outbox: u64,
     /// Sessions that are open at a time.
     pub sessions: u64,
+    /// Requests that wait.
+    pub parked: u64,
     /// Batches in the history, and commits that aren't in it yet.
     pub batches: u64,
     /// What these count together, in bytes.
@@ -33,6 +35,7 @@ impl Limits {
             writes: 500,
             outbox: 1_000,
             sessions: 64,
+            parked: 1_000,
             batches: 1_000_000,
             journal: 134_217_728,
             ids: u64::MAX,
@@ -48,6 +51,7 @@ impl Limits {
         self.writes <= greatest.writes
             && self.outbox <= greatest.outbox
             && self.sessions <= greatest.sessions
+            && self.parked <= greatest.parked
             && self.batches <= greatest.batches
             && self.journal <= greatest.journal
             && self.ids <= greatest.ids

@@ -1,169 +1,263 @@
 -- What is kept of a past after each of its calls.
-use Rattle.std.proofs.Common.{◌≡◌, ℤ, ◌≤ℤ◌, List, [], ◌∷◌, ◌++◌, Option, Some, None, Ok, refl, sym, ap, ◌∙◌, subst}
-use Rattle.std.specs.Prelude.{IfSome, IsNone, unwrap_or}
+use Rattle.std.proofs.Common.{◌≡◌, ℕ, ◌+◌, ◌-◌, ◌^◌, ◌<◌, ◌≤◌, min, ℤ, ◌<ℤ◌, true, List, [], ◌∷◌, ◌++◌, length, Option, Some, None, Ok, refl, sym, ap, ◌∙◌, subst, arith}
+use Rattle.std.specs.Prelude.{pos, ◌+ℤ◌, IsSome, IsNone}
 use Rattle.std.specs.Borrow.{Bor}
-use Rattle.std.specs.Option.{option_copied, option_to_list}
-use Rattle.std.specs.Int.Signed.{≤ℤ_refl}
-use Rattle.fs_write.specs.Batch.{Docs, AreChanges, IsOutcome}
+use Rattle.std.specs.List.{AllByRecursion}
+use Rattle.std.specs.Option.{option_copied}
+use Rattle.std.proofs.lemmas.Int.{ints}
+use Rattle.fs_board.specs.Board.{Posted, accepted_with, asked_in, free_to as board_free_to, pending_in as board_pending, prepared as board_prepared, ticked, without}
+use Rattle.fs_board.specs.Rising.{Differ}
+use Rattle.fs_history.specs.Bytes.{batch_size}
+use Rattle.fs_history.specs.History.{whole}
+use Rattle.fs_history.specs.Journal.{Recorded}
+use Rattle.fs_history.specs.Laws.{ChangesOfTheLast}
+use Rattle.fs_history.specs.declared.batch.Batch.{Batch}
+use Rattle.fs_store.proofs.Absorbing.{floor_all}
+use Rattle.fs_store.specs.Brings.{Brings}
+use Rattle.fs_store.specs.Fits.{AreNext, Fits, TimesRise}
+use Rattle.fs_store.specs.Shows.{Shows}
+use Rattle.fs_store.specs.Stored.{Stored, absorbed}
+use Rattle.fs_write.proofs.BatchLaws.{law_named}
+use Rattle.fs_write.specs.Batch.{IsOutcome}
 use Rattle.fs_write.specs.declared.change.Change.{Change}
 use Rattle.fs_write.specs.declared.timed_change.TimedChange.{TimedChange}
 use Rattle.fs_write.specs.declared.write_result.WriteResult.{WriteResult}
-use Rattle.fs_history.specs.History.{whole}
-use Rattle.fs_history.specs.Laws.{ChangesOfTheLast}
-use Rattle.fs_history.specs.declared.batch.Batch.{Batch}
-use Rattle.fs_store.specs.Brings.{Brings}
-use Rattle.fs_store.specs.Fits.{Fits}
-use Rattle.fs_store.specs.Shows.{Shows}
-use Rattle.fs_store.specs.Stored.{Stored, absorbed, started}
+use Rattle.fs_machine.specs.declared.answer.Outcome.{Outcome}
+use Rattle.fs_machine.specs.declared.answer.Outcome.TheVariants as outcome
 use Rattle.fs_machine.specs.declared.unreleased.Unreleased.{Unreleased}
-use Rattle.fs_machine.proofs.Alone.{accepted_alone}
+use Rattle.fs_machine.specs.Behind.{behind}
 use Rattle.fs_machine.specs.Commit.{next_time, past_prepared}
 use Rattle.fs_machine.specs.Facts.{PastFacts}
-use Rattle.fs_machine.specs.Past.{Past, past_from}
-use Rattle.fs_machine.specs.Release.{free_to, let_out, past_released}
-use Rattle.fs_machine.specs.Settle.{past_decided}
-use Rattle.fs_machine.specs.UnreleasedRise.{RiseFrom}
-use Rattle.fs_machine.proofs.Runs.{past_kept_at_release, past_kept_at_deciding}
-use Rattle.fs_machine.proofs.UnreleasedRise.{free_above}
-use Rattle.fs_past.specs.Kept.{past_of, IsKept}
+use Rattle.fs_machine.specs.IdsAreDrawn.{times_in}
+use Rattle.fs_machine.specs.Past.{Past, batches}
+use Rattle.fs_machine.specs.Release.{free_to, past_released}
+use Rattle.fs_machine.specs.Settle.{ComesTo, IsOutcomeOf, IsOutcomeOfPending, IsOutcomeOn, accepted_in, docs_for, dropped_from, pending_of}
+use Rattle.fs_machine.proofs.Behind.{free_behind_none}
+use Rattle.fs_machine.proofs.NamesApart.{apart_dropped, names_prepared}
+use Rattle.fs_machine.proofs.OutcomesStay.{found_of, outcome_alike}
+use Rattle.fs_machine.proofs.Pending.{number_found}
+use Rattle.fs_machine.proofs.ResultsHold.{docs_agree, results_dropped, results_prepared}
+use Rattle.fs_machine.proofs.Runs.{past_kept_advanced, past_kept_at_deciding, past_kept_at_release}
+use Rattle.fs_machine.proofs.UnreleasedRise.{rise_dropped, unreleased_prepared}
+use Rattle.fs_past.specs.declared.accepted.Accepted.{Accepted}
+use Rattle.fs_past.specs.Kept.{BringsEffects, GoOn, IsKept, Stands, all_history, all_unreleased, bytes_of, changes_of, left, past_of, unreleased_of}
 use Rattle.fs_past.specs.Next.{next_release}
-use Rattle.fs_past.specs.UnderWay.{AreChangesUnderWay, IsUnderWay}
-use Rattle.fs_past.proofs.Fitting.{fits_none, fits_one}
-use Rattle.fs_past.proofs.Moving.{facts_prepared, free_pending, released_none, released_pending, lets_none}
+use Rattle.fs_past.proofs.Fitting.{go_in, stand_left, times_rise}
+use Rattle.fs_past.proofs.OnBoard.{Posted1, accepted_there, all_dropped, all_more, asked_there, bytes_accepted, bytes_and_more, bytes_dropped, dropped_there, fewer_dropped, free_there, fresh_there, length_accepted, length_more, pending_there, stand_accepted, unreleased_more, with_none}
+use Rattle.fs_past.proofs.Releasing.{go_on, moves}
 
--- ---- the commit that is under way
-
-pub only_one : (o : Option Unreleased) (u : Unreleased) → option_to_list o ≡ u ∷ [] → o ≡ Some u
-only_one None u is = absurd (cc)
-only_one (Some v) u is = cc
-
-some_same : (v u : Unreleased) → Some v ≡ Some u → v ≡ u
-some_same v u is = ap (λ o. unwrap_or o v) is
-
-pub none_is : {A : Type 0} (o : Option A) → IsNone o → o ≡ None
+none_is : {A : Type 0} (o : Option A) → IsNone o → o ≡ None
 none_is None none = refl
 none_is (Some x) none = absurd (cc)
 
-pub is_under_way : (p : Past) (o : Option Unreleased) (r : Option (Bor Unreleased)) → option_copied r ≡ o → option_to_list o ≡ p.unreleased → IfSome o (λ u. u.results ≡ None)
-    → IfSome r (λ u. IsUnderWay p u.now)
-is_under_way p o None is unreleased pending = tt
-is_under_way p o (Some b) is unreleased pending = record {
-  alone = sym unreleased ∙ ap option_to_list (sym is);
-  pending = subst (λ x. IfSome x (λ u. u.results ≡ None)) (sym is) pending;
-}
+some_of : {A : Type 0} (o : Option A) (x : A) → o ≡ Some x → IsSome o
+some_of None x is = absurd (cc)
+some_of (Some y) x is = refl
 
--- ---- the start
+lent_some : {A : Type 0} (o : Option (Bor A)) → IsSome (option_copied o) → IsSome o
+lent_some None some = absurd (cc)
+lent_some (Some x) some = refl
 
-pub started_from : (h : List Batch) (s : Stored) (start : ℤ) → h ≡ [] → s ≡ started start → past_of h None s start start ≡ past_from start
-started_from h s start none is = ap (λ g. past_of g None s start start) none ∙ ap (λ t. past_of [] None t start start) is
+module _ (j : Recorded) (b : Posted Unreleased Accepted) (s : Stored) (moment : ℤ) (bytes : ℕ) (kept : IsKept j b s moment bytes) where
+  abbrev held : Past
+  held = past_of j.history b s moment
 
-pub kept_from : (h : List Batch) (s : Stored) (start : ℤ) → h ≡ [] → s ≡ started start → Shows [] s → IsKept h None s start start
-kept_from h s start none is shows =
-    let facts : PastFacts (past_from start) = record { history = record { rising = tt; ends = tt }; unreleased = ≤ℤ_refl start; floor = ≤ℤ_refl start } in
-    record {
-      facts = subst PastFacts (sym (started_from h s start none is)) facts;
-      shows = subst (λ g. Shows g s) (sym none) shows;
-      pending = tt;
-    }
+  -- ---- the clock
 
--- ---- a release
+  pub kept_ticked : (now : ℤ) → IsKept j (ticked b now) s now bytes
+  kept_ticked now = record { facts = past_kept_advanced held now kept.facts; shows = kept.shows; stand = kept.stand; room = kept.room; waiting = kept.waiting }
 
-module _ (h : List Batch) (o : Option Unreleased) (s : Stored) (last moment : ℤ) (kept : IsKept h o s last moment) where
-  abbrev before : Past
-  before = past_of h o s last moment
+  -- ---- a new commit
 
-  pub fits_free : (to : ℤ) (cs : List TimedChange) → to ≡ free_to last (option_to_list o) → cs ≡ [] → Fits s (next_release s to cs)
-  fits_free to cs is none =
-      subst (λ x. Fits s (next_release s to x)) (sym none)
-      (fits_none s to (subst (λ t. s.absorbed ≤ℤ t) (sym is) (free_above (option_to_list o) s.absorbed last kept.facts.unreleased)))
+  module _ (p : Past) (view : held ≡ p) (k : Recorded) (same : k.history ≡ j.history) (u : Unreleased) (none : IsNone u.results) (time : u.batch.time ≡ next_time p) where
+    time_is : u.batch.time ≡ b.last +ℤ pos 1
+    time_is = time ∙ ap next_time (sym view)
 
-  brings_none : (cs : List TimedChange) → cs ≡ [] → Brings h cs h
-  brings_none cs none = subst (λ x. Brings h x h) (sym none) refl
+    abbrev more : Posted1
+    more = record { time = b.last +ℤ pos 1; id = u.batch.id; asked = u; batch = None }
 
-  shown_still : (t : Stored) (cs : List TimedChange) → cs ≡ [] → ((f k : List Batch) → Shows f s → Brings f cs k → Shows k t) → Shows h t
-  shown_still t cs none shows = shows h h kept.shows (brings_none cs none)
+    more_is : unreleased_of more ≡ u
+    more_is = with_none u (none_is u.results none)
 
-  brought_none : (t : Stored) (to to' : ℤ) (cs : List TimedChange) → cs ≡ [] → to ≡ to' → t ≡ absorbed s (next_release s to cs) → past_of h o t last moment ≡ record before { released = to' }
-  brought_none t to to' cs none is brought =
-      ap (λ x. past_of h o x last moment) (brought ∙ ap (λ x. absorbed s (next_release s to x)) none ∙ ap (λ x. absorbed s (next_release s x [])) is)
+    prepared_held : past_of j.history (board_prepared b u.batch.id u) s moment ≡ past_prepared held u
+    prepared_held = λ i. record held { unreleased = unreleased_more more u more_is b.commits i; last = sym time_is i }
 
-released_as : (o : Option Unreleased) (h : List Batch) (s : Stored) (last moment : ℤ) → IfSome o (λ u. u.results ≡ None)
-    → record (past_of h o s last moment) { released = free_to last (option_to_list o) } ≡ past_released (past_of h o s last moment)
-released_as None h s last moment pending = sym (released_none (past_of h None s last moment) refl)
-released_as (Some u) h s last moment pending =
-    let p = past_of h (Some u) s last moment in
-    ap (λ t. record p { released = t }) (free_pending p u refl pending) ∙ sym (released_pending p u refl pending)
+    facts_prepared : behind p u.batch.writes ≡ None → PastFacts (past_prepared held u)
+    facts_prepared free =
+        let later : b.last <ℤ u.batch.time = subst (λ t. b.last <ℤ t) (sym time_is) (omega (arith, ints)) in
+        let apart = free_behind_none (all_unreleased b.commits) u.batch.writes (ap (λ q. behind q u.batch.writes) view ∙ free) in
+        record {
+          history = kept.facts.history;
+          unreleased = unreleased_prepared held u later kept.facts.unreleased;
+          floor = kept.facts.floor;
+          names = names_prepared held u apart kept.facts.names;
+          results = results_prepared held u (none_is u.results none) kept.facts.results;
+        }
 
-pub none_let_out : (o : Option Unreleased) (h : List Batch) (s : Stored) (last moment : ℤ) → IfSome o (λ u. u.results ≡ None) → let_out (past_of h o s last moment) ≡ []
-none_let_out None h s last moment pending = refl
-none_let_out (Some u) h s last moment pending = lets_none (past_of h (Some u) s last moment) u refl pending
+    pub kept_prepared : behind p u.batch.writes ≡ None → length b.commits + 1 ≤ k.room → (then : ℕ) → then ≡ bytes + batch_size u.batch → IsKept k (board_prepared b u.batch.id u) s moment then
+    kept_prepared free room then is =
+        let shape = length_more more u more_is b.commits in
+        record {
+          facts = subst (λ h. PastFacts (past_of h (board_prepared b u.batch.id u) s moment)) (sym same) (subst PastFacts (sym prepared_held) (facts_prepared free));
+          shows = subst (λ h. Shows h s) (sym same) kept.shows;
+          stand = subst (λ h. AllByRecursion (Stands (whole h)) (b.commits ++ more ∷ [])) (sym same)
+              (all_more (Stands (whole j.history)) b.commits more kept.stand (record { time = time_is; id = refl; pending = none_is u.results none; effects = tt }));
+          room = omega arith;
+          waiting = is ∙ ap (λ n. n + batch_size u.batch) kept.waiting ∙ sym (bytes_and_more more u more_is b.commits);
+        }
 
-module _ (h : List Batch) (o : Option Unreleased) (s t : Stored) (last moment to : ℤ) (cs : List TimedChange) (kept : IsKept h o s last moment) (none : cs ≡ []) (brought : t ≡ absorbed s (next_release s to cs)) where
-  pub after_release : to ≡ free_to last (option_to_list o) → past_of h o t last moment ≡ past_released (past_of h o s last moment)
-  after_release is =
-      brought_none h o s last moment kept t to (free_to last (option_to_list o)) cs none is brought ∙ released_as o h s last moment kept.pending
+  -- no commit has a new number
+  pub fresh_on_board : (p : Past) → held ≡ p → (id : ℕ) → times_in id (batches p.unreleased) ≡ 0 → Rattle.fs_board.specs.Board.HasNo id b.commits
+  fresh_on_board p view id none = fresh_there (whole j.history) b.commits id kept.stand (ap (λ (q : Past). times_in id (batches q.unreleased)) view ∙ none)
 
-  pub kept_released : to ≡ free_to last (option_to_list o) → ((f k : List Batch) → Shows f s → Brings f cs k → Shows k t) → IsKept h o t last moment
-  kept_released is shows = record {
-    facts = subst PastFacts (sym (after_release is)) (past_kept_at_release (past_of h o s last moment) kept.facts);
-    shows = shown_still h o s last moment kept t cs none shows;
-    pending = kept.pending;
-  }
+  -- ---- a pending one
 
--- ---- it is accepted
+  module _ (differ : Differ b.commits) (id : ℕ) where
+    pub pending_on_board : IsSome (pending_of held id) → board_pending id b.commits ≡ true
+    pending_on_board some = pending_there (whole j.history) b.commits id kept.stand differ some
 
-module _ (h : List Batch) (o : Option Unreleased) (s : Stored) (last moment : ℤ) (kept : IsKept h o s last moment) (p : Past) (view : past_of h o s last moment ≡ p) (u : Unreleased) (under : IsUnderWay p u) where
-  pub it_is : o ≡ Some u
-  it_is = only_one o u (ap (λ (q : Past). q.unreleased) view ∙ under.alone)
+    pub lent_there : IsSome (pending_of held id) → (o : Option (Bor Unreleased)) → option_copied o ≡ asked_in id b.commits → IsSome o
+    lent_there some o is =
+        lent_some o (subst IsSome (sym (is ∙ asked_there (whole j.history) b.commits id kept.stand differ (sym (pending_on_board some)))) some)
 
-  rises : RiseFrom s.absorbed last (u ∷ [])
-  rises = subst (λ x. RiseFrom s.absorbed last (option_to_list x)) it_is kept.facts.unreleased
+    pub found_held : (w : Unreleased) → asked_in id b.commits ≡ Some w → board_pending id b.commits ≡ true → pending_of held id ≡ Some w
+    found_held w at pending = sym (asked_there (whole j.history) b.commits id kept.stand differ (sym pending)) ∙ at
 
-  -- the history with it
-  pub joined_is : (v : Unreleased) (g j : List Batch) → o ≡ Some v → g ≡ h → j ≡ v.batch ∷ g → j ≡ u.batch ∷ h
-  joined_is v g j is same with_it = with_it ∙ ap (λ x. v.batch ∷ x) same ∙ ap (λ (x : Unreleased). x.batch ∷ h) (some_same v u (sym is ∙ it_is))
+  module _ (id : ℕ) where
+    pub comes_pending : (o : Outcome) → ComesTo held id o → IsSome (pending_of held id)
+    comes_pending o comes = let f = found_of held o (pending_of held id) comes in some_of (pending_of held id) f.0 f.1
 
-  module _ (changes : List Change) (cs : List TimedChange) (is : cs ≡ record { time = u.batch.time; id = u.batch.id; changes = changes } ∷ []) where
-    pub after_accept : (j : List Batch) (t : Stored) (done : Docs × List WriteResult) → j ≡ u.batch ∷ h → t ≡ absorbed s (next_release s last cs)
-        → past_of j None t last moment ≡ past_released (past_decided p u (Ok done))
-    after_accept j t done with_it brought =
-        ap (λ x. past_of x None t last moment) with_it
-        ∙ ap (λ x. past_of (u.batch ∷ h) None x last moment) (brought ∙ ap (λ x. absorbed s (next_release s last x)) is)
-        ∙ sym (accepted_alone (past_of h o s last moment) u done kept.facts.unreleased (ap option_to_list it_is))
-        ∙ ap (λ q. past_released (past_decided q u (Ok done))) view
+    -- what its writes come to
+    pub comes_by : (w : Unreleased) (o : Outcome) → pending_of held id ≡ Some w → IsOutcomeOn (whole j.history) w.batch.writes w.batch.time o → ComesTo held id o
+    comes_by w o found is =
+        subst (λ f. IsOutcomeOfPending held f o) (sym found)
+        (outcome_alike (whole j.history) (docs_for held w) w.batch o (λ x at. sym (docs_agree held id w found kept.facts.unreleased kept.facts.names x at)) is)
 
-    module _ (law : ChangesOfTheLast) (comes : AreChangesUnderWay p u changes) where
-      are : AreChanges (whole h) (whole (u.batch ∷ h)) changes
-      are = law u.batch h changes comes.0.0 (subst (λ (q : Past). IsOutcome (whole q.history) u.batch.writes u.batch.time changes comes.0.0) (sym view) comes.0.1)
+    -- it is accepted
+    module _ (w : Unreleased) (found : pending_of held id ≡ Some w) (at : asked_in id b.commits ≡ Some w) (pending : board_pending id b.commits ≡ true) (t : ℤ) (time : t ≡ w.batch.time)
+        (changes : List Change) (results : List WriteResult) where
+      abbrev brought : Accepted
+      brought = record { results = results; change = record { time = t; id = id; changes = changes } }
 
-      pub fits_alone : Fits s (next_release s last cs)
-      fits_alone =
-          subst (λ x. Fits s (next_release s last x)) (sym is)
-          (fits_one h s u.batch changes kept.shows are comes.1 (record { time = u.batch.time; id = u.batch.id; changes = changes }) last refl rises.0 rises.1)
+      abbrev accepted : Posted Unreleased Accepted
+      accepted = record b { commits = accepted_with id brought b.commits }
 
-      brings_alone : Brings h cs (u.batch ∷ h)
-      brings_alone = subst (λ x. Brings h x (u.batch ∷ h)) (sym is) (u.batch, record { time = refl; changes = are }, refl)
+      pub after_accept : past_of j.history accepted s moment ≡ record held { unreleased = accepted_in id results held.unreleased }
+      after_accept = ap (λ us. record held { unreleased = us }) (accepted_there (whole j.history) b.commits id brought kept.stand pending)
 
-      pub kept_accepted : (j : List Batch) (t : Stored) → j ≡ u.batch ∷ h → t ≡ absorbed s (next_release s last cs)
-          → ((f k : List Batch) → Shows f s → Brings f cs k → Shows k t) → IsKept j None t last moment
-      kept_accepted j t with_it brought shows = record {
-        facts =
-            let done : Docs × List WriteResult = (whole h, []) in
-            subst PastFacts (sym (after_accept j t done with_it brought))
-            (past_kept_at_release (past_decided p u (Ok done)) (past_kept_at_deciding p u (Ok done) (subst PastFacts view kept.facts)));
-        shows = subst (λ x. Shows x t) (sym with_it) (shows h (u.batch ∷ h) kept.shows brings_alone);
-        pending = tt;
+      module _ (comes : ComesTo held id (outcome.Effects changes results)) where
+        own : IsOutcomeOf held w (outcome.Effects changes results)
+        own = subst (λ f. IsOutcomeOfPending held f (outcome.Effects changes results)) found comes
+
+        had : IsOutcome (whole j.history) w.batch.writes w.batch.time changes results
+        had = law_named (docs_for held w) (whole j.history) w.batch.writes w.batch.time changes results (docs_agree held id w found kept.facts.unreleased kept.facts.names) own.0
+
+        facts_accepted : PastFacts (record held { unreleased = accepted_in id results held.unreleased })
+        facts_accepted =
+            subst (λ n. PastFacts (record held { unreleased = accepted_in n results held.unreleased })) (number_found held.unreleased id w found)
+            (past_kept_at_deciding held id w (Ok (own.0.after, results)) found own.0.done kept.facts)
+
+        stands_accepted : (c : Posted1) → Stands (whole j.history) c → c.asked ≡ w → Stands (whole j.history) (record c { batch = Some brought })
+        stands_accepted c stands same = record {
+          time = stands.time;
+          id = stands.id;
+          pending = stands.pending;
+          effects = subst (λ x. BringsEffects (whole j.history) x (Some brought)) (sym same) (time, had, own.1);
+        }
+
+        pub kept_accepted : IsKept j accepted s moment bytes
+        kept_accepted = record {
+          facts = subst PastFacts (sym after_accept) facts_accepted;
+          shows = kept.shows;
+          stand = stand_accepted (whole j.history) b.commits id brought w kept.stand at stands_accepted;
+          room = subst (λ n. n ≤ j.room) (sym (length_accepted b.commits id brought)) kept.room;
+          waiting = kept.waiting ∙ sym (bytes_accepted b.commits id brought);
+        }
+
+    -- it is dropped
+    module _ (w : Unreleased) (at : asked_in id b.commits ≡ Some w) (pending : board_pending id b.commits ≡ true) (told : ℕ) (tells : told ≡ min (batch_size w.batch) (2 ^ 128 - 1)) (within : bytes < 2 ^ 128) where
+      abbrev dropped : Posted Unreleased Accepted
+      dropped = record b { commits = without id b.commits }
+
+      pub after_reject : past_of j.history dropped s moment ≡ record held { unreleased = dropped_from id held.unreleased }
+      after_reject = ap (λ us. record held { unreleased = us }) (dropped_there (whole j.history) b.commits id kept.stand pending)
+
+      both : bytes ≡ batch_size w.batch + bytes_of (without id b.commits)
+      both = kept.waiting ∙ bytes_dropped b.commits id w at
+
+      pub size_within : told ≤ bytes
+      size_within = let x = both in omega arith
+
+      bytes_left : bytes - told ≡ bytes_of (without id b.commits)
+      bytes_left = let x = both in omega arith
+
+      facts_dropped : PastFacts (record held { unreleased = dropped_from id held.unreleased })
+      facts_dropped = record {
+        history = kept.facts.history;
+        unreleased = rise_dropped held.unreleased id held.released held.last kept.facts.unreleased;
+        floor = kept.facts.floor;
+        names = apart_dropped held.unreleased id kept.facts.names;
+        results = results_dropped held.unreleased id (whole j.history) kept.facts.results;
       }
 
--- ---- another comes
+      pub kept_dropped : IsKept j dropped s moment (bytes - told)
+      kept_dropped = record {
+        facts = subst PastFacts (sym after_reject) facts_dropped;
+        shows = kept.shows;
+        stand = all_dropped (Stands (whole j.history)) b.commits id kept.stand;
+        room = let r = kept.room in let f = fewer_dropped b.commits id in omega arith;
+        waiting = bytes_left;
+      }
 
-module _ (h : List Batch) (o : Option Unreleased) (s : Stored) (last moment : ℤ) (kept : IsKept h o s last moment) where
-  pub after_prepare : (u : Unreleased) → option_to_list o ≡ [] → past_of h (Some u) s u.batch.time moment ≡ past_prepared (past_of h o s last moment) u
-  after_prepare u none = ap (λ us. record (past_of h (Some u) s u.batch.time moment) { unreleased = us ++ u ∷ [] }) (sym none)
+  -- ---- a release
 
-  pub kept_prepared : (u : Unreleased) → option_to_list o ≡ [] → u.results ≡ None → u.batch.time ≡ next_time (past_of h o s last moment) → IsKept h (Some u) s u.batch.time moment
-  kept_prepared u none pending is = record {
-    facts = facts_prepared (past_of h o s last moment) u none is kept.facts;
-    shows = kept.shows;
-    pending = pending;
-  }
+  pub go_on_board : GoOn j.history b.commits
+  go_on_board = go_on b.commits j.history s.absorbed b.last kept.facts.history.ends kept.facts.unreleased
+
+  module _ (law : ChangesOfTheLast) (to : ℤ) (cs : List TimedChange) (free : to ≡ board_free_to b.last b.commits) (is : cs ≡ changes_of b.commits) where
+    to_is : to ≡ free_to b.last (all_unreleased b.commits)
+    to_is = free ∙ free_there (whole j.history) b.last b.commits kept.stand
+
+    goes : AreNext s.chains (changes_of b.commits) × Brings j.history (changes_of b.commits) (all_history j.history b.commits)
+    goes = go_in law b.commits j.history s.chains kept.stand kept.facts.names kept.shows.versions.newest
+
+    pub fits_board : Fits s (next_release s to cs)
+    fits_board =
+        subst (λ x. Fits s (next_release s to x)) (sym is)
+        (record {
+          begins = refl;
+          times = subst (λ x. TimesRise s.absorbed x (changes_of b.commits)) (sym to_is) (times_rise (whole j.history) b.commits s.absorbed b.last kept.stand kept.facts.unreleased);
+          next = goes.0;
+        })
+
+    module _ (k : Recorded) (c : Posted Unreleased Accepted) (t : Stored) (left_bytes : ℕ) (history : k.history ≡ all_history j.history b.commits) (board : c ≡ record b { commits = left b.commits })
+        (brought : t ≡ absorbed s (next_release s to cs)) where
+      abbrev there : Past
+      there = record held { history = all_history j.history b.commits; unreleased = all_unreleased (left b.commits); released = free_to b.last (all_unreleased b.commits) }
+
+      there_is : past_of k.history c t moment ≡ there
+      there_is = λ i. record there {
+        history = history i;
+        unreleased = all_unreleased (board i).commits;
+        last = (board i).last;
+        released = (ap (λ (x : Stored). x.absorbed) brought ∙ to_is) i;
+        floor = (ap (λ (x : Stored). x.chains.floor) brought ∙ floor_all s.chains cs) i;
+      }
+
+      released_is : there ≡ past_released held
+      released_is =
+          let m = moves b.commits s.absorbed b.last kept.facts.unreleased j.history in
+          λ i. record there { history = sym m.0 i; unreleased = sym m.1 i }
+
+      pub after_release : past_of k.history c t moment ≡ past_released held
+      after_release = there_is ∙ released_is
+
+      pub kept_released : ((f g : List Batch) → Shows f s → Brings f cs g → Shows g t) → length c.commits ≤ k.room → left_bytes ≡ bytes_of c.commits → IsKept k c t moment left_bytes
+      kept_released shows room waiting = record {
+        facts = subst PastFacts (sym after_release) (past_kept_at_release held kept.facts);
+        shows = subst (λ h. Shows h t) (sym history) (shows j.history (all_history j.history b.commits) kept.shows (subst (λ x. Brings j.history x (all_history j.history b.commits)) (sym is) goes.1));
+        stand = subst (λ h. AllByRecursion (Stands (whole h)) c.commits) (sym history)
+            (subst (λ (x : Posted Unreleased Accepted). AllByRecursion (Stands (whole (all_history j.history b.commits))) x.commits) (sym board) (stand_left b.commits j.history kept.stand kept.facts.names));
+        room = room;
+        waiting = waiting;
+      }

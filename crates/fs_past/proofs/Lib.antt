@@ -1,4 +1,6 @@
 mod Fitting
 mod Keeping
-mod Moving
+mod Lone
 mod Naming
+mod OnBoard
+mod Releasing

@@ -1,25 +1,87 @@
--- Only the model of a past cites this: what it is made of.
-use Rattle.std.specs.Prelude.{◌≡◌, ℤ, List, Option, None, IfSome}
-use Rattle.std.specs.Option.{option_to_list}
+-- Only the model of a past and private clauses cite this: what it is made of.
+--
+--     the journal     c/b at 7, c/a at 5
+--     the board       8 pending, 9 accepted with its results and changes, last 9
+--     the store       what 5 and 7 leave, up to 7
+use Rattle.std.specs.Prelude.{◌≡◌, ℕ, ℤ, ◌≤◌, ⊤, List, [], ◌∷◌, Option, Some, None, is_none, length, map, sum_by, if◌then◌else◌}
+use Rattle.std.specs.List.{AllByRecursion}
+use Rattle.std.specs.Option.{option_map}
+use Rattle.fs_board.specs.Board.{Commit, Posted, all_ready}
+use Rattle.fs_history.specs.Bytes.{batch_size}
+use Rattle.fs_history.specs.History.{EndsBefore, whole}
+use Rattle.fs_history.specs.Journal.{Recorded}
 use Rattle.fs_history.specs.declared.batch.Batch.{Batch}
 use Rattle.fs_store.specs.Shows.{Shows}
 use Rattle.fs_store.specs.Stored.{Stored}
+use Rattle.fs_write.specs.Batch.{Docs, IsNamed, IsOutcome}
+use Rattle.fs_write.specs.declared.timed_change.TimedChange.{TimedChange}
 use Rattle.fs_machine.specs.declared.unreleased.Unreleased.{Unreleased}
 use Rattle.fs_machine.specs.Facts.{PastFacts}
 use Rattle.fs_machine.specs.Past.{Past}
+use Rattle.fs_past.specs.declared.accepted.Accepted.{Accepted}
 
-abbrev pub past_of : List Batch → Option Unreleased → Stored → ℤ → ℤ → Past
-past_of history under_way store last moment = record {
+-- the commit that stands on the board, with its results once it is accepted
+abbrev pub unreleased_of : Commit Unreleased Accepted → Unreleased
+unreleased_of c = record c.asked { results = option_map (λ a. a.results) c.batch }
+
+abbrev pub all_unreleased : List (Commit Unreleased Accepted) → List Unreleased
+all_unreleased cs = map unreleased_of cs
+
+abbrev pub past_of : List Batch → Posted Unreleased Accepted → Stored → ℤ → Past
+past_of history board store moment = record {
   history = history;
-  unreleased = option_to_list under_way;
-  last = last;
+  unreleased = all_unreleased board.commits;
+  last = board.last;
   released = store.absorbed;
   moment = moment;
   floor = store.chains.floor;
 }
 
-pub record IsKept (history : List Batch) (under_way : Option Unreleased) (store : Stored) (last moment : ℤ) : Type 0 where
-  pub facts : PastFacts (past_of history under_way store last moment)
+-- ---- what stands on the board
+
+-- what an accepted commit brings is what its writes come to
+abbrev pub BringsEffects : Docs → Unreleased → Option Accepted → Type 0
+BringsEffects docs u None = ⊤
+BringsEffects docs u (Some a) =
+    (a.change.time ≡ u.batch.time) × IsOutcome docs u.batch.writes u.batch.time a.change.changes a.results × AllByRecursion IsNamed a.change.changes
+
+pub record Stands (docs : Docs) (c : Commit Unreleased Accepted) : Type 0 where
+  pub time : c.asked.batch.time ≡ c.time
+  pub id : c.asked.batch.id ≡ c.id
+  pub pending : c.asked.results ≡ None
+  pub effects : BringsEffects docs c.asked c.batch
+
+-- what they count together, in bytes
+abbrev pub bytes_of : List (Commit Unreleased Accepted) → ℕ
+bytes_of cs = sum_by (λ u. batch_size u.batch) (all_unreleased cs)
+
+-- ---- what a release lets in
+
+-- the history with the accepted commits before which none is pending
+abbrev pub all_history : List Batch → List (Commit Unreleased Accepted) → List Batch
+all_history h [] = h
+all_history h (c ∷ cs) = if is_none c.batch then h else all_history (c.asked.batch ∷ h) cs
+
+-- the commits that are left
+abbrev pub left : List (Commit Unreleased Accepted) → List (Commit Unreleased Accepted)
+left [] = []
+left (c ∷ cs) = if is_none c.batch then c ∷ cs else left cs
+
+-- the changes that come to be seen
+abbrev pub changes_of : List (Commit Unreleased Accepted) → List TimedChange
+changes_of cs = map (λ a. a.change) (all_ready cs)
+
+-- each is later than those before it
+abbrev pub GoOn : List Batch → List (Commit Unreleased Accepted) → Type 0
+GoOn h [] = ⊤
+GoOn h (c ∷ cs) = EndsBefore h c.asked.batch.time × GoOn (c.asked.batch ∷ h) cs
+
+-- ---- always
+
+pub record IsKept (journal : Recorded) (board : Posted Unreleased Accepted) (store : Stored) (moment : ℤ) (bytes : ℕ) : Type 0 where
+  pub facts : PastFacts (past_of journal.history board store moment)
   -- the store has the documents of each time that can be read
-  pub shows : Shows history store
-  pub pending : IfSome under_way (λ u. u.results ≡ None)
+  pub shows : Shows journal.history store
+  pub stand : AllByRecursion (Stands (whole journal.history)) board.commits
+  pub room : length board.commits ≤ journal.room
+  pub waiting : bytes ≡ bytes_of board.commits

@@ -1,3 +1,2 @@
-pub mod UnderWay
 pub mod Next
 pub mod Kept

@@ -1,7 +1,8 @@
-//! What was committed to a Cloud Firestore database, and when: its history, the commit that is under way, its times, and the
+//! What was committed to a Cloud Firestore database, and when: its history, the commits that aren't in it yet, its times, and the
 //! documents of each time that can be read.
 #![tactic(auto)]
 
+mod accepted;
 mod answer;
 mod named;
 mod outcome;

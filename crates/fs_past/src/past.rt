@@ -1,36 +1,41 @@
 //! The past of a database.
-ghost use Rattle.std.specs.Prelude.{◌≡◌};
+ghost use Rattle.std.specs.Prelude.{◌≡◌, ◌-◌, ◌^◌, min};
+ghost use Rattle.fs_history.specs.Bytes.{batch_size as bytes_of_batch};
 
+use crate::accepted::Accepted;
 use crate::answer::answer_at;
 use crate::outcome::outcome_among;
-use crate::release::{alone, bring, nothing};
+use crate::release::{alone, bring, changes_ready, let_in};
+use fs_board::Board;
 use fs_history::{Batch, Journal, batch_size, histories_are_lawful};
 use fs_machine::{Outcome, Unreleased};
 use fs_path::DocName;
 use fs_query::Query;
+use fs_status::Id;
 use fs_store::{Chain, Store};
 use fs_time::Micros;
 use fs_value::{Document, Documents};
-use fs_write::{Changes, TimedChange};
+use fs_write::{Changes, TimedChange, TimedChanges, WriteResults};
 use std::alloc::{AllocError, Global};
 use std::marker::Model;
 
-/// The history of a database and the documents of its times, with the commit that is under way, if there is one. Until there
-/// are transactions, no second one comes before it is settled.
+/// The history of a database and the documents of its times, with the commits that aren't in it yet: those that are pending, and
+/// those that are accepted and wait for an earlier one that is pending. They may be accepted and dropped in any order.
 ///
-///     prepare at 5       5 is under way, and 4 is what can be read
-///     accept             the history has 5, and 5 can be read
-///     advance to 9       nothing can be read above 5 yet
-///     release            5 to 9 can be read, and hold the same
-///     prepare at 10, reject      the history is the same, and 10 can be read
+///     prepare 1 at 5, 2 at 6, 3 at 7     all are pending, and 4 is what can be read
+///     accept 2                           6 waits for 5
+///     accept 1, release                  the history has 5 and 6, and 6 can be read
+///     reject 3, advance to 9, release    the history is the same, and 9 can be read
 #[derive(Drop)]
 pub struct Past {
+    // it has room for all that are on the board
     journal: Journal,
-    // it is pending
-    under_way: Option<Unreleased>,
+    // the commits that aren't in it
+    board: Board<Unreleased, Accepted>,
+    // what these count in the limit of the journal, in bytes
+    waiting: u128,
     // its absorbed time is the released time, and its floor that of the past
     store: Store,
-    last: Micros,
     moment: Micros,
 }
 
@@ -43,31 +48,47 @@ impl Model for Past {
 
     ghost use Rattle.fs_past.specs.Kept.{past_of, IsKept};
 
-    ghost view = { λ p. past_of p.journal.history p.under_way p.store p.last p.moment };
+    ghost view = { λ p. past_of p.journal.history p.board p.store p.moment };
 
-    ghost invariant = { λ p. IsKept p.journal.history p.under_way p.store p.last p.moment };
+    ghost invariant = { λ p. IsKept p.journal p.board p.store p.moment p.waiting };
+}
+
+// Read by reference.
+fn id_of(commit: &Unreleased) -> Id
+    ensures { result ≡ commit.now.batch.id }
+{
+    commit.batch.id
+}
+
+fn bytes_in(commit: &Unreleased) -> u128
+    ensures { result ≡ min (bytes_of_batch commit.now.batch) (2 ^ 128 - 1) }
+{
+    batch_size(&commit.batch)
 }
 
 impl Past {
-    ghost use Rattle.std.specs.Prelude.{◌≡◌, ◌↔◌, ℤ, ◌≤ℤ◌, ◌-◌, ◌^◌, min, List, [], ◌∷◌, Option, Some, Ok, Err, IsTrue, IsNone, IfOk, IfSome, OnOk, OnErr};
+    ghost use Rattle.std.specs.Prelude.{◌≡◌, ◌↔◌, ℤ, ◌≤◌, ◌≤ℤ◌, ◌+◌, ◌-◌, ◌^◌, min, List, [], None, IsTrue, IsNone, IsSome, IfOk, IfSome, OnOk, OnErr, is_some, map};
     ghost use Rattle.std.specs.FinMap.{get, values};
-    ghost use Rattle.std.specs.Option.{option_copied, option_to_list};
+    ghost use Rattle.std.specs.Option.{option_copied};
+    ghost use Rattle.fs_history.specs.Bytes.{batch_size as bytes_of_batch};
     ghost use Rattle.fs_history.specs.History.{at};
     ghost use Rattle.fs_history.specs.Versions.{chain as chain_from};
     ghost use Rattle.fs_query.specs.AnswerTo.{answer_to};
-    ghost use Rattle.fs_status.specs.declared.refusal.Refusal.{Refusal as Refused};
     ghost use Rattle.fs_time.specs.Moment.{IsMoment};
-    ghost use Rattle.fs_write.specs.Batch.{Docs};
-    ghost use Rattle.fs_write.specs.declared.write_result.WriteResult.{WriteResult};
+    ghost use Rattle.fs_machine.specs.Alone.{IsAlone, with_batch, without_batch};
+    ghost use Rattle.fs_machine.specs.Behind.{behind};
     ghost use Rattle.fs_machine.specs.Commit.{journal_count as counted_in, journal_size as size_of, next_time as time_after, past_prepared};
     ghost use Rattle.fs_machine.specs.Compact.{floor_after, past_compacted};
     ghost use Rattle.fs_machine.specs.Facts.{PastFacts};
-    ghost use Rattle.fs_machine.specs.Past.{past_from};
-    ghost use Rattle.fs_machine.specs.Release.{free_to, let_out, past_released};
-    ghost use Rattle.fs_machine.specs.Settle.{past_decided};
+    ghost use Rattle.fs_machine.specs.IdsAreDrawn.{times_in};
+    ghost use Rattle.fs_machine.specs.Limits.{greatest};
+    ghost use Rattle.fs_machine.specs.Past.{batches, past_from};
+    ghost use Rattle.fs_machine.specs.Pending.{next_pending as next_in};
+    ghost use Rattle.fs_machine.specs.Release.{past_released};
+    ghost use Rattle.fs_machine.specs.Settle.{ComesTo, accepted_in, dropped_from, pending_of};
     ghost use Rattle.fs_machine.specs.Tick.{past_advanced};
-    ghost use Rattle.fs_machine.specs.declared.unreleased.Unreleased.{Unreleased as Commit};
-    ghost use Rattle.fs_past.specs.UnderWay.{IsUnderWay, AreChangesUnderWay, IsOutcomeUnderWay};
+    ghost use Rattle.fs_machine.specs.declared.answer.Outcome.TheVariants.{Effects};
+    ghost use Rattle.fs_write.specs.declared.write_result.WriteResult.{WriteResult};
 
     /// No commits, at a moment, which can be read. The allocator serves those that come.
     pub fn new(alloc: Global, start: Micros) -> Past
@@ -75,9 +96,9 @@ impl Past {
     {
         Past {
             journal: Journal::new(alloc),
-            under_way: None,
+            board: Board::new(alloc, start),
+            waiting: 0,
             store: Store::new(alloc, start),
-            last: start,
             moment: start,
         }
     }
@@ -87,7 +108,7 @@ impl Past {
         ensures value { result ≡ self.now.last }
         ensures facts { PastFacts self.now }
     {
-        self.last
+        self.board.last()
     }
 
     /// The time up to which all that is committed can be read.
@@ -110,31 +131,14 @@ impl Past {
     pub fn count(&self) -> u128
         ensures { result ≡ counted_in self.now }
     {
-        match self.under_way {
-            Some(_) => u128::from(self.journal.count()) + 1,
-            None => u128::from(self.journal.count()),
-        }
+        u128::from(self.journal.count()) + self.board.len() as u128
     }
 
     /// What they count in the limit of the journal, in bytes. A number that no `u128` holds is told as the greatest.
     pub fn size(&self) -> u128
         ensures { result ≡ min (size_of self.now) (2 ^ 128 - 1) }
     {
-        match &self.under_way {
-            Some(commit) => self
-                .journal
-                .bytes()
-                .saturating_add(batch_size(&commit.batch)),
-            None => self.journal.bytes(),
-        }
-    }
-
-    /// The commit that is under way, if there is one.
-    pub fn under_way(&self) -> Option<&Unreleased>
-        ensures value { option_to_list (option_copied result) ≡ self.now.unreleased }
-        ensures pending { IfSome result (λ u. IsUnderWay self.now u.now) }
-    {
-        self.under_way.as_ref()
+        self.journal.bytes().saturating_add(self.waiting)
     }
 
     /// The time that the next commit gets, one microsecond after the last.
@@ -142,47 +146,76 @@ impl Past {
         requires { IsMoment (time_after self.now) }
         ensures { result ≡ time_after self.now }
     {
-        Micros::new(self.last.get() + 1).unwrap()
+        Micros::new(self.board.last().get() + 1).unwrap()
     }
 
-    /// A commit is under way from now on, at the next time. It takes no memory.
-    pub fn prepare(&mut self, commit: Unreleased)
-        requires none { self.old.unreleased ≡ [] }
+    /// Whether the commit of a number is pending.
+    pub fn is_pending(&self, id: Id) -> bool
+        ensures { result ≡ is_some (pending_of self.now id) }
+    {
+        let _ = self.board.last();
+        self.board.is_pending(id)
+    }
+
+    /// The pending commit of the least time.
+    pub fn next_pending(&self) -> Option<Id>
+        ensures { result ≡ next_in self.now }
+    {
+        self.board.next_pending()
+    }
+
+    /// The pending commit of a number.
+    pub fn commit(&self, id: Id) -> Option<&Unreleased>
+        ensures { option_copied result ≡ pending_of self.now id }
+    {
+        let _ = self.board.last();
+        if self.board.is_pending(id) {
+            self.board.asked(id)
+        } else {
+            None
+        }
+    }
+
+    /// A commit is pending from now on, at the next time. It writes no name that a commit writes which isn't released. Where memory
+    /// runs out, nothing is changed.
+    pub fn prepare(&mut self, commit: Unreleased) -> Result<(), AllocError>
         requires pending { IsNone commit.results }
         requires time { commit.batch.time ≡ time_after self.old }
-        ensures { self.new ≡ past_prepared self.old commit }
+        requires fresh { times_in commit.batch.id (batches self.old.unreleased) ≡ 0 }
+        requires free { behind self.old commit.batch.writes ≡ None }
+        requires room { size_of self.old + bytes_of_batch commit.batch ≤ greatest.journal }
+        ensures ok { OnOk result (self.new ≡ past_prepared self.old commit) }
+        ensures err { OnErr result (self.new ≡ self.old) }
     {
-        self.last = commit.time();
-        self.under_way = Some(commit);
+        let _ = self.board.last();
+        let id = id_of(&commit);
+        let waiting = self.waiting + bytes_in(&commit);
+        let Some(more) = (self.board.len() as u64).checked_add(1) else {
+            return Err(AllocError);
+        };
+        self.journal.reserve(more)?;
+        // A time is left, since the commit has it.
+        if let Err(_) = self.board.prepare(id, commit) {
+            return Err(AllocError);
+        }
+        self.waiting = waiting;
+        Ok(())
     }
 
     /// The clock goes on to a moment. It takes no memory.
     pub fn advance(&mut self, now: Micros)
         ensures { self.new ≡ past_advanced self.old now }
     {
-        if self.last < now {
-            self.last = now;
-        }
+        self.board.tick(now);
         self.moment = now;
     }
 
-    /// Releases what can be: the time before the commit that is under way, or the last one. No commit is let out by that.
-    pub fn release(&mut self, alloc: Global) -> Result<(), AllocError>
-        ensures ok { OnOk result (self.new ≡ past_released self.old) }
-        ensures none { let_out self.old ≡ [] }
-        ensures err { OnErr result (self.new ≡ self.old) }
+    /// What the writes of a pending commit come to, on the newest documents: no other commit that isn't released writes their names.
+    pub fn outcome(&self, alloc: Global, id: Id) -> Result<Outcome, AllocError>
+        requires { IsSome (pending_of self.now id) }
+        ensures { IfOk result (λ o. ComesTo self.now id o) }
     {
-        let to = self.free_to();
-        bring(alloc, &mut self.store, to, nothing(alloc))?;
-        Ok(())
-    }
-
-    /// What the writes of the commit that is under way come to.
-    pub fn outcome(&self, alloc: Global) -> Result<Outcome, AllocError>
-        requires { (u : Commit) × IsUnderWay self.now u }
-        ensures { IfOk result (λ o. (u : Commit) → IsUnderWay self.now u → IsOutcomeUnderWay self.now u o) }
-    {
-        match &self.under_way {
+        match self.commit(id) {
             Some(commit) => outcome_among(
                 alloc,
                 &self.store,
@@ -193,33 +226,77 @@ impl Past {
         }
     }
 
-    /// The commit that is under way is accepted, with these changes, and released.
-    pub fn accept(&mut self, alloc: Global, changes: Changes) -> Result<(), AllocError>
-        requires { (u : Commit) × IsUnderWay self.old u × AreChangesUnderWay self.old u changes }
-        ensures ok { OnOk result ((u : Commit) (done : Docs × List WriteResult) → IsUnderWay self.old u
-            → self.new ≡ past_released (past_decided self.old u (Ok done))) }
+    /// A pending commit is accepted, with these changes and results. It waits for the next release. It takes no memory.
+    pub fn accept(&mut self, id: Id, changes: Changes, results: WriteResults)
+        requires { ComesTo self.old id (Effects changes results) }
+        ensures { self.new ≡ record self.old { unreleased = accepted_in id results self.old.unreleased } }
+    {
+        let _ = self.board.last();
+        let time = self.board.asked(id).unwrap().time();
+        let change = TimedChange { time, id, changes };
+        self.board.accept(id, Accepted { results, change });
+    }
+
+    /// A pending commit is dropped, and its time is used up. It takes no memory.
+    pub fn reject(&mut self, id: Id)
+        requires { IsSome (pending_of self.old id) }
+        ensures { self.new ≡ record self.old { unreleased = dropped_from id self.old.unreleased } }
+    {
+        let _ = self.board.last();
+        let size = bytes_in(self.board.asked(id).unwrap());
+        self.board.drop(id);
+        self.waiting -= size;
+    }
+
+    /// Releases what can be: the accepted commits before which none is pending are in the history, and the times before the first that
+    /// is pending can be read, or the last one. Where memory runs out, nothing is changed.
+    pub fn release(&mut self, alloc: Global) -> Result<(), AllocError>
+        ensures ok { OnOk result (self.new ≡ past_released self.old) }
         ensures err { OnErr result (self.new ≡ self.old) }
     {
         histories_are_lawful();
-        let commit = self.timed(changes);
-        let changes = alone(alloc, commit)?;
-        self.journal.reserve(1)?;
-        bring(alloc, &mut self.store, self.last, changes)?;
-        let accepted = self.under_way.take().unwrap();
-        self.journal.push(accepted.batch);
+        let to = self.board.released();
+        let changes = changes_ready(alloc, &self.board)?;
+        bring(alloc, &mut self.store, to, changes)?;
+        let_in(&mut self.journal, &mut self.board, &mut self.waiting);
         Ok(())
     }
 
-    /// The commit that is under way is dropped, and its time is used up.
-    pub fn reject(&mut self, alloc: Global) -> Result<(), AllocError>
-        requires { (u : Commit) × IsUnderWay self.old u }
-        ensures ok { OnOk result ((u : Commit) (refusal : Refused) → IsUnderWay self.old u
-            → self.new ≡ past_released (past_decided self.old u (Err refusal))) }
+    /// A pending commit that is alone is accepted, with these changes, and released. Where memory runs out, nothing is changed.
+    pub fn accept_alone(
+        &mut self,
+        alloc: Global,
+        id: Id,
+        changes: Changes,
+    ) -> Result<(), AllocError>
+        requires alone { IsAlone self.old id }
+        requires comes { (results : List WriteResult) × ComesTo self.old id (Effects changes results) }
+        ensures ok { OnOk result ((a : IsAlone self.old id) → self.new ≡ with_batch self.old a.commit) }
         ensures err { OnErr result (self.new ≡ self.old) }
     {
-        let to = self.last;
-        bring(alloc, &mut self.store, to, nothing(alloc))?;
-        self.under_way = None;
+        histories_are_lawful();
+        let to = self.board.last();
+        let time = self.board.asked(id).unwrap().time();
+        let seen = alone(alloc, TimedChange { time, id, changes })?;
+        bring(alloc, &mut self.store, to, seen)?;
+        let commit = self.board.drop(id);
+        self.waiting -= batch_size(&commit.batch);
+        self.journal.push(commit.batch);
+        Ok(())
+    }
+
+    /// A pending commit that is alone is dropped, and its time is used up and released. Where memory runs out, nothing is changed.
+    pub fn reject_alone(&mut self, alloc: Global, id: Id) -> Result<(), AllocError>
+        requires { IsAlone self.old id }
+        ensures ok { OnOk result (self.new ≡ without_batch self.old) }
+        ensures err { OnErr result (self.new ≡ self.old) }
+    {
+        histories_are_lawful();
+        let to = self.board.last();
+        let size = bytes_in(self.board.asked(id).unwrap());
+        bring(alloc, &mut self.store, to, TimedChanges::new(alloc))?;
+        self.board.drop(id);
+        self.waiting -= size;
         Ok(())
     }
 
@@ -257,36 +334,6 @@ impl Past {
         ensures none { IsNone result ↔ (chain_from self.now.history self.now.floor name.now ≡ []) }
     {
         self.store.chain(name)
-    }
-
-    // The time up to which no commit is under way.
-    fn free_to(&self) -> Micros
-        ensures { result ≡ free_to self.now.last self.now.unreleased }
-    {
-        match &self.under_way {
-            Some(commit) => {
-                // It is later than the released time, which is a moment.
-                let _ = self.store.absorbed().get();
-                Micros::new(commit.batch.time.get() - 1).unwrap()
-            }
-            None => self.last,
-        }
-    }
-
-    // The commit that is under way, with its changes.
-    fn timed(&self, changes: Changes) -> TimedChange
-        requires { (u : Commit) × IsUnderWay self.now u }
-        ensures { (u : Commit) → IsUnderWay self.now u
-            → result ≡ record { time = u.batch.time; id = u.batch.id; changes = changes } }
-    {
-        match &self.under_way {
-            Some(commit) => TimedChange {
-                time: commit.batch.time,
-                id: commit.batch.id,
-                changes,
-            },
-            None => unreachable!(),
-        }
     }
 
     // Where the floor is to rise to.

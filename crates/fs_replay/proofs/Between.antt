@@ -6,7 +6,7 @@ use Rattle.fs_write.specs.declared.write_result.WriteResult.{WriteResult}
 use Rattle.fs_machine.specs.Commit.{prepared}
 use Rattle.fs_machine.specs.Compact.{compacted}
 use Rattle.fs_machine.specs.Facts.{Facts}
-use Rattle.fs_machine.specs.Leave.{departed}
+use Rattle.fs_machine.specs.Leave.{departed, of_others}
 use Rattle.fs_machine.specs.Past.{Past}
 use Rattle.fs_machine.specs.Release.{all_delivered, freed, free_to, joined, kept_back, released}
 use Rattle.fs_machine.specs.State.{Machine}
@@ -17,7 +17,7 @@ use Rattle.fs_replay.specs.Laws.{IsBetweenLines}
 use Rattle.fs_replay.specs.declared.state.State.{State}
 use Rattle.fs_replay.proofs.Closing.{IsOwn, committed_stands, outcome_on, past_after, settling}
 use Rattle.fs_replay.proofs.Known.{all_open_departed, numbers_departed}
-use Rattle.fs_replay.proofs.Standing.{compacted_stands, ticked_stands}
+use Rattle.fs_replay.proofs.Standing.{compacted_stands, departed_stands, ticked_stands}
 use Rattle.fs_replay.proofs.Waiting.{nothing_without}
 
 -- ---- a commit
@@ -33,6 +33,7 @@ last_after p u (Err refusal) = refl
 pub settling_between : (s : State) (u : Unreleased) → IsBetweenLines s → IsOwn s u → IsBetweenLines (settling s u)
 settling_between s u b own = record {
   idle = idle_after (prepared s.server u).past u (outcome_on s.server u);
+  parked = b.parked;
   empty = b.empty;
   open_all = b.open_all;
   numbers = b.numbers;
@@ -50,7 +51,7 @@ released_idle : (m : Machine) → m.past.unreleased ≡ [] → released m ≡ al
 released_idle m idle =
     ap (λ (us : List Unreleased). record m {
       past = record m.past { history = joined m.past.history (freed (free_to m.past.last us) us); unreleased = kept_back (free_to m.past.last us) us; released = free_to m.past.last us };
-      sessions = record m.sessions { list = all_delivered (freed (free_to m.past.last us) us) m.sessions.list };
+      sessions = all_delivered (freed (free_to m.past.last us) us) m.sessions;
     }) idle
 
 pub ticked_idle : (m : Machine) (now : ℤ) → m.past.unreleased ≡ [] → ticked m now ≡ all_released (advanced m now)
@@ -63,6 +64,7 @@ clocked_to s now = record s { server = all_released (advanced s.server now); mom
 pub clocked_between : (s : State) (now : ℤ) → IsBetweenLines s → IsBetweenLines (clocked_to s now)
 clocked_between s now b = record {
   idle = refl;
+  parked = b.parked;
   empty = b.empty;
   open_all = b.open_all;
   numbers = b.numbers;
@@ -79,6 +81,7 @@ compacted_to s time = record s { server = compacted s.server time }
 pub compacted_between : (s : State) (time : ℤ) → IsBetweenLines s → IsBetweenLines (compacted_to s time)
 compacted_between s time b = record {
   idle = b.idle;
+  parked = b.parked;
   empty = b.empty;
   open_all = b.open_all;
   numbers = b.numbers;
@@ -95,9 +98,10 @@ departed_by s number name = record s { server = departed s.server number; direct
 pub departed_between : (s : State) (number : ℕ) (name : List ℕ) → number_of name s.directory ≡ Some number → IsBetweenLines s → IsBetweenLines (departed_by s number name)
 departed_between s number name is b = record {
   idle = b.idle;
-  empty = nothing_without s.server.sessions.list number b.empty;
-  open_all = all_open_departed s.directory s.server.sessions.list name number 0 s.server.sessions.given b.numbers b.open_all is;
-  numbers = numbers_departed s.directory name 0 s.server.sessions.given b.numbers;
-  facts = record { past = b.facts.past; ids = b.facts.ids };
+  parked = ap (of_others number) b.parked;
+  empty = nothing_without s.server.sessions number b.empty;
+  open_all = all_open_departed s.directory s.server.sessions name number 0 s.server.numbers.sessions b.numbers b.open_all is;
+  numbers = numbers_departed s.directory name 0 s.server.numbers.sessions b.numbers;
+  facts = departed_stands s.server number b.facts;
   limits = b.limits;
 }

@@ -16,7 +16,7 @@ use Rattle.fs_machine.specs.Settle.{outcome_of, settled}
 use Rattle.fs_machine.specs.State.{Machine}
 use Rattle.fs_machine.specs.UnreleasedRise.{UnreleasedRise}
 use Rattle.fs_machine.specs.declared.unreleased.Unreleased.{Unreleased}
-use Rattle.fs_server.specs.Pending.{next_in}
+use Rattle.fs_machine.specs.Pending.{next_in}
 use Rattle.serde_json.specs.Data.{Data}
 use Rattle.serde_json.specs.Written.{compact_text}
 use Rattle.fs_replay.specs.Laws.{IsBetweenLines, IsOneLine, is_open}
@@ -79,7 +79,7 @@ next_alone m u idle pending =
 pub committed_stands : (m : Machine) (u : Unreleased) → m.past.unreleased ≡ [] → u.results ≡ None → Facts (prepared m u) → Facts (committed m u)
 committed_stands m u idle pending facts =
     let told = subst Facts (settled_commit m u idle pending facts.past.unreleased) (settled_stands (prepared m u) u.batch.id facts) in
-    record { past = told.past; ids = told.ids }
+    record { past = told.past; ids = told.ids; sessions = facts.sessions }
 
 -- a state where a commit is prepared
 abbrev pub preparing : State → Unreleased → State
@@ -94,7 +94,7 @@ pub record IsOwn (s : State) (u : Unreleased) : Type 0 where
   pub pending : u.results ≡ None
   pub facts : Facts (prepared s.server u)
   pub known : has_number u.session s.directory ≡ true
-  pub opened : is_open u.session s.server.sessions.list ≡ true
+  pub opened : is_open u.session s.server.sessions ≡ true
 
 closed_at : (s : State) (u : Unreleased) → IsBetweenLines s → IsOwn s u → settled_next (prepared s.server u) ≡ delivering (committed s.server u) u.session (reply_after u (outcome_on s.server u))
 closed_at s u b own = next_alone s.server u b.idle own.pending ∙ settled_commit s.server u b.idle own.pending own.facts.past.unreleased

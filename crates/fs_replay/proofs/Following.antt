@@ -17,11 +17,11 @@ use Rattle.fs_history.specs.History.{whole}
 use Rattle.fs_machine.specs.Commit.{next_commit, prepared}
 use Rattle.fs_machine.specs.Event.{Event}
 use Rattle.fs_machine.specs.Facts.{Facts}
-use Rattle.fs_machine.specs.Laws.{NeverChanged}
+use Rattle.fs_machine.specs.Grows.{Grows}
+use Rattle.fs_machine.specs.Laws.{AlwaysGrows}
 use Rattle.fs_machine.specs.Past.{Past}
 use Rattle.fs_machine.specs.State.{Machine}
-use Rattle.fs_machine.specs.Stays.{Stays}
-use Rattle.fs_machine.proofs.Stays.{stays_on, stays_same}
+use Rattle.fs_machine.proofs.Grows.{grows_on, grows_same}
 use Rattle.fs_machine.specs.Tick.{later}
 use Rattle.fs_machine.specs.declared.unreleased.Unreleased.{Unreleased}
 use Rattle.fs_replay.specs.Directory.{number_of}
@@ -42,15 +42,15 @@ Unwritten = (docs : Docs) (ws : List Write) (t : ℤ) (n : DocName) → is_writt
 -- the state after a line, and what is written for it
 pub record Follows (s : State) (l : Line) (after : State) (output : List ℕ) : Type 0 where
   pub between : IsBetweenLines after
-  pub stays : Stays s.server.past after.server.past
+  pub grows : Grows s.server.past after.server.past
   pub unmoved : may_move s l ≡ false → after.server.past ≡ s.server.past
   pub rises : is_commit s l ≡ true → after.server.past.last ≡ (s.server.past.last +ℤ pos 1)
   pub kept : (name : DocName) → is_written name (asked_writes l) ≡ false → get (whole after.server.past.history) name ≡ get (whole s.server.past.history) name
   pub answered : is_answered l ≡ true → IsOneLine output
   pub silent : is_silent l ≡ true → output ≡ []
 
-same_past : (p q : Past) → q ≡ p → Stays p q
-same_past p q is = stays_same p q (ap (λ (r : Past). r.history) is) (ap (λ (r : Past). r.released) is)
+same_past : (p q : Past) → q ≡ p → Grows p q
+same_past p q is = grows_same p q (ap (λ (r : Past). r.history) is) (ap (λ (r : Past). r.released) is)
 
 never : {A : Type 0} → true ≡ false → A
 never e = absurd (cc)
@@ -60,7 +60,7 @@ same_follows : (s : State) (l : Line) (t : State) (output : List ℕ) → IsBetw
     → (is_answered l ≡ true → IsOneLine output) → (is_silent l ≡ true → output ≡ []) → Follows s l t output
 same_follows s l t output between past idle answered silent = record {
   between = between;
-  stays = same_past s.server.past t.server.past past;
+  grows = same_past s.server.past t.server.past past;
   unmoved = λ _. past;
   rises = λ yes. never (sym yes ∙ idle);
   kept = λ name _. ap (λ (p : Past). get (whole p.history) name) past;
@@ -82,22 +82,22 @@ answer_follows s a p answers =
     subst (λ (q : Played). Follows s (line.Asked a) q.state (p.output ++ q.output)) (sym closes)
     (same_follows s (line.Asked a) on (p.output ++ []) answers.between answers.past answers.no (λ _. one) (λ e. never (sym e)))
 
-module _ (unwritten : Unwritten) (unchanged : NeverChanged) where
+module _ (unwritten : Unwritten) (grow : AlwaysGrows) where
   kept_after : (p : Past) (u : Unreleased) (r : Result (Docs × List WriteResult) Refusal) (name : DocName) → is_written name u.batch.writes ≡ false
       → get (whole (past_after p u r).history) name ≡ get (whole p.history) name
   kept_after p u (Ok done) name e = unwritten (whole p.history) u.batch.writes u.batch.time name e
   kept_after p u (Err refusal) name e = refl
 
-  commit_stays : (m : Machine) (u : Unreleased) → m.past.unreleased ≡ [] → u.results ≡ None → Facts (prepared m u) → Stays m.past (committed m u).past
-  commit_stays m u idle pending facts =
-      let settles = unchanged (prepared m u) (Event.deciding u.batch.id ∷ Event.releasing ∷ []) facts in
+  commit_grows : (m : Machine) (u : Unreleased) → m.past.unreleased ≡ [] → u.results ≡ None → Facts (prepared m u) → Grows m.past (committed m u).past
+  commit_grows m u idle pending facts =
+      let settles = grow (prepared m u) (Event.deciding u.batch.id ∷ Event.releasing ∷ []) facts in
       let is = settled_commit m u idle pending facts.past.unreleased in
-      stays_on m.past (prepared m u).past (committed m u).past (stays_same _ _ refl refl) (subst (λ (n : Machine). Stays (prepared m u).past n.past) is settles)
+      grows_on m.past (prepared m u).past (committed m u).past (grows_same _ _ refl refl) (subst (λ (n : Machine). Grows (prepared m u).past n.past) is settles)
 
   commit_follows : (s : State) (a : SessionRequest) (p : Played) → Prepares s.server.past a.request (is_commit s (line.Asked a)) p → Asks s a p
   commit_follows s a p prepares =
       let on = prepares.on in
-      let u = next_commit on.server prepares.session prepares.id prepares.writes in
+      let u = next_commit on.server.past prepares.asks prepares.writes in
       let m = prepared on.server u in
       let state : (closed p.state).state ≡ settling on u = ap (λ (t : State). (closed t).state) prepares.state ∙ closed_commit on u prepares.between prepares.own in
       let told : IsOneLine (p.output ++ (closed p.state).output) =
@@ -105,7 +105,7 @@ module _ (unwritten : Unwritten) (unchanged : NeverChanged) where
       (subst (λ (o : List ℕ). IsOneLine (o ++ (closed (preparing on u)).output)) (sym prepares.output) (closed_one_line on u prepares.between prepares.own)) in
       let all : Follows s (line.Asked a) (settling on u) (p.output ++ (closed p.state).output) = record {
         between = settling_between on u prepares.between prepares.own;
-        stays = subst (λ (q : Past). Stays q (settling on u).server.past) prepares.past (commit_stays on.server u prepares.between.idle prepares.own.pending prepares.own.facts);
+        grows = subst (λ (q : Past). Grows q (settling on u).server.past) prepares.past (commit_grows on.server u prepares.between.idle prepares.own.pending prepares.own.facts);
         unmoved = λ e. never (sym prepares.yes ∙ e);
         rises = λ _. last_after m.past u (outcome_on on.server u) ∙ ap (λ (q : Past). q.last +ℤ pos 1) prepares.past;
         kept = λ name e.
@@ -129,7 +129,7 @@ module _ (unwritten : Unwritten) (unchanged : NeverChanged) where
       ap (λ (m : Machine). closed (record s { server = m; moment = now })) (ticked_idle s.server now b.idle) ∙ closed_idle t (clocked_between s now b) in
       let all : Follows s (line.Clock time) t [] = record {
         between = clocked_between s now b;
-        stays = subst (λ (m : Machine). Stays s.server.past m.past) (ticked_idle s.server now b.idle) (unchanged s.server (Event.advancing now ∷ Event.releasing ∷ []) b.facts);
+        grows = subst (λ (m : Machine). Grows s.server.past m.past) (ticked_idle s.server now b.idle) (grow s.server (Event.advancing now ∷ Event.releasing ∷ []) b.facts);
         unmoved = λ e. never e;
         rises = λ e. never (sym e);
         kept = λ name _. refl;
@@ -143,7 +143,7 @@ module _ (unwritten : Unwritten) (unchanged : NeverChanged) where
       let t = compacted_to s time in
       let all : Follows s (line.Compact time) t [] = record {
         between = compacted_between s time b;
-        stays = unchanged s.server (Event.compacting time ∷ []) b.facts;
+        grows = grow s.server (Event.compacting time ∷ []) b.facts;
         unmoved = λ e. never e;
         rises = λ e. never (sym e);
         kept = λ name _. refl;

@@ -8,7 +8,9 @@ use Rattle.std.proofs.lemmas.List.Folds.{list_any-append}
 use Rattle.fs_machine.specs.Sessions.{without as without_session}
 use Rattle.fs_machine.specs.declared.session.Session.{Session}
 use Rattle.fs_replay.specs.Directory.{number_of, without}
-use Rattle.fs_replay.specs.Laws.{IsOpen, NumbersRise, is_open}
+use Rattle.fs_machine.specs.SessionsNumbered.{NumbersRise}
+use Rattle.fs_machine.proofs.SessionsNumbered.{rise_lower}
+use Rattle.fs_replay.specs.Laws.{IsOpen, is_open, numbers_in}
 use Rattle.fs_replay.specs.declared.directory.Named.{Named}
 use Rattle.fs_replay.proofs.Drained.{has_number}
 use Rattle.fs_replay.proofs.Waiting.{apart}
@@ -77,7 +79,7 @@ pub all_open_more : (ns : List Named) (ss : List Session) (name : List ℕ) (num
 all_open_more [] ss name number all = (opens_it ss number, tt)
 all_open_more (n ∷ ns) ss name number all = (still_open ss n.number number all.0, all_open_more ns ss name number all.1)
 
-pub numbers_more : (ns : List Named) (name : List ℕ) (from to : ℕ) → NumbersRise from to ns → NumbersRise from (to + 1) (ns ++ record { name = name; number = to } ∷ [])
+pub numbers_more : (ns : List Named) (name : List ℕ) (from to : ℕ) → NumbersRise from to (numbers_in ns) → NumbersRise from (to + 1) (numbers_in (ns ++ record { name = name; number = to } ∷ []))
 numbers_more [] name from to rise = (rise, omega arith)
 numbers_more (n ∷ ns) name from to rise = (rise.0, numbers_more ns name (n.number + 1) to rise.1)
 
@@ -99,7 +101,7 @@ above_apart a b above = grind (arith, nat_tests)
 below_apart : (a b : ℕ) → a < b → (a == b) ≡ false
 below_apart a b below = grind (arith, nat_tests)
 
-others_open : (ns : List Named) (ss : List Session) (number from to : ℕ) → number < from → NumbersRise from to ns → AllByRecursion (IsOpen ss) ns → AllByRecursion (IsOpen (without_session number ss)) ns
+others_open : (ns : List Named) (ss : List Session) (number from to : ℕ) → number < from → NumbersRise from to (numbers_in ns) → AllByRecursion (IsOpen ss) ns → AllByRecursion (IsOpen (without_session number ss)) ns
 others_open [] ss number from to below rise all = tt
 others_open (n ∷ ns) ss number from to below rise all =
     let first = rise.0 in
@@ -110,11 +112,11 @@ found_next : (n : Named) (ns : List Named) (name : List ℕ) (number from : ℕ)
 found_next n ns name number from true first e more = let is = same_some n.number number e in omega arith
 found_next n ns name number from false first e more = let rest = more e in omega arith
 
-found_above : (ns : List Named) (name : List ℕ) (number from to : ℕ) → NumbersRise from to ns → number_of name ns ≡ Some number → from ≤ number
+found_above : (ns : List Named) (name : List ℕ) (number from to : ℕ) → NumbersRise from to (numbers_in ns) → number_of name ns ≡ Some number → from ≤ number
 found_above [] name number from to rise e = absurd (cc)
 found_above (n ∷ ns) name number from to rise e = found_next n ns name number from (bytes_eq n.name name) rise.0 e (found_above ns name number (n.number + 1) to rise.1)
 
-departed_next : (n : Named) (ns : List Named) (ss : List Session) (name : List ℕ) (number to : ℕ) (b : Bool) → NumbersRise (n.number + 1) to ns → IsOpen ss n → AllByRecursion (IsOpen ss) ns
+departed_next : (n : Named) (ns : List Named) (ss : List Session) (name : List ℕ) (number to : ℕ) (b : Bool) → NumbersRise (n.number + 1) to (numbers_in ns) → IsOpen ss n → AllByRecursion (IsOpen ss) ns
     → cond b (Some n.number) (number_of name ns) ≡ Some number → (number_of name ns ≡ Some number → AllByRecursion (IsOpen (without_session number ss)) (without name ns))
     → AllByRecursion (IsOpen (without_session number ss)) (cond b ns (n ∷ without name ns))
 departed_next n ns ss name number to true rise here all e more =
@@ -124,21 +126,17 @@ departed_next n ns ss name number to false rise here all e more =
     (open_without ss number n.number (below_apart n.number number (omega arith)) ∙ here, more e)
 
 -- those that stay are open, where the session of a name leaves
-pub all_open_departed : (ns : List Named) (ss : List Session) (name : List ℕ) (number from to : ℕ) → NumbersRise from to ns → AllByRecursion (IsOpen ss) ns → number_of name ns ≡ Some number
+pub all_open_departed : (ns : List Named) (ss : List Session) (name : List ℕ) (number from to : ℕ) → NumbersRise from to (numbers_in ns) → AllByRecursion (IsOpen ss) ns → number_of name ns ≡ Some number
     → AllByRecursion (IsOpen (without_session number ss)) (without name ns)
 all_open_departed [] ss name number from to rise all e = tt
 all_open_departed (n ∷ ns) ss name number from to rise all e =
     departed_next n ns ss name number to (bytes_eq n.name name) rise.1 all.0 all.1 e (all_open_departed ns ss name number (n.number + 1) to rise.1 all.1)
 
-numbers_lower : (ns : List Named) (low from to : ℕ) → low ≤ from → NumbersRise from to ns → NumbersRise low to ns
-numbers_lower [] low from to lower rise = omega arith
-numbers_lower (n ∷ ns) low from to lower rise = let first = rise.0 in (omega (arith, first), rise.1)
-
-numbers_next : (n : Named) (ns : List Named) (name : List ℕ) (from to : ℕ) (b : Bool) → from ≤ n.number → NumbersRise (n.number + 1) to ns → NumbersRise (n.number + 1) to (without name ns)
-    → NumbersRise from to (cond b ns (n ∷ without name ns))
-numbers_next n ns name from to true first rise more = numbers_lower ns from (n.number + 1) to (omega arith) rise
+numbers_next : (n : Named) (ns : List Named) (name : List ℕ) (from to : ℕ) (b : Bool) → from ≤ n.number → NumbersRise (n.number + 1) to (numbers_in ns) → NumbersRise (n.number + 1) to (numbers_in (without name ns))
+    → NumbersRise from to (numbers_in (cond b ns (n ∷ without name ns)))
+numbers_next n ns name from to true first rise more = rise_lower (numbers_in ns) from (n.number + 1) to (omega arith) rise
 numbers_next n ns name from to false first rise more = (first, more)
 
-pub numbers_departed : (ns : List Named) (name : List ℕ) (from to : ℕ) → NumbersRise from to ns → NumbersRise from to (without name ns)
+pub numbers_departed : (ns : List Named) (name : List ℕ) (from to : ℕ) → NumbersRise from to (numbers_in ns) → NumbersRise from to (numbers_in (without name ns))
 numbers_departed [] name from to rise = rise
 numbers_departed (n ∷ ns) name from to rise = numbers_next n ns name from to (bytes_eq n.name name) rise.0 rise.1 (numbers_departed ns name (n.number + 1) to rise.1)

@@ -17,15 +17,15 @@ use Rattle.fs_history.specs.History.{at, whole}
 use Rattle.fs_machine.specs.Alone.{IsAlone}
 use Rattle.fs_machine.proofs.Alone.{settled_rejected}
 use Rattle.fs_machine.specs.Commit.{outbox_refusal, passed}
-use Rattle.fs_machine.specs.Laws.{AlwaysKept, NeverChanged}
+use Rattle.fs_machine.specs.Grows.{Grows}
+use Rattle.fs_machine.specs.Laws.{AlwaysGrows, AlwaysKept}
 use Rattle.fs_machine.specs.Limits.{greatest}
 use Rattle.fs_machine.specs.Past.{Past}
 use Rattle.fs_machine.specs.Read.{document_answer, time_refusal, unless_refused}
 use Rattle.fs_machine.specs.Request.{answered}
 use Rattle.fs_machine.specs.Settle.{outcome_of, settled}
 use Rattle.fs_machine.specs.State.{Machine}
-use Rattle.fs_machine.specs.Stays.{Stays}
-use Rattle.fs_machine.proofs.Stays.{stays_on, stays_same}
+use Rattle.fs_machine.proofs.Grows.{grows_on, grows_same}
 use Rattle.fs_machine.specs.declared.answer.Answer.TheVariants.{Reply}
 use Rattle.fs_machine.specs.declared.limits.Limits.{Limits}
 use Rattle.fs_replay.specs.Laws.{IsBetweenLines, IsOneLine, after_lines, asked_writes, is_answered, is_commit, is_silent, is_written_in, line_in_state, may_move}
@@ -38,24 +38,24 @@ use Rattle.fs_replay.proofs.Waiting.{nothing_in}
 -- ---- the start
 
 pub starts_between : AlwaysKept → IsBetweenLines start
-starts_between kept = record { idle = refl; empty = tt; open_all = tt; numbers = omega arith; facts = kept start.server.config greatest start.moment []; limits = refl }
+starts_between kept = record { idle = refl; parked = refl; empty = tt; open_all = tt; numbers = omega arith; facts = kept start.server.config greatest start.moment []; limits = refl }
 
 -- ---- lines
 
-module _ (unwritten : Unwritten) (unchanged : NeverChanged) where
+module _ (unwritten : Unwritten) (grow : AlwaysGrows) where
   line_follows : (s : State) (n : ℕ) (bytes : List ℕ) → IsBetweenLines s → Follows s (line_in_state s bytes) (after_line s n bytes) (line_output s n bytes)
   unfolding after_line line_output
-  line_follows s n bytes between = follows unwritten unchanged s n (line_in_state s bytes) between
+  line_follows s n bytes between = follows unwritten grow s n (line_in_state s bytes) between
 
   pub stays_between : (s : State) (n : ℕ) (bytes : List ℕ) → IsBetweenLines s → IsBetweenLines (after_line s n bytes)
   stays_between s n bytes between = (line_follows s n bytes between).between
 
-  pub lines_stay : (s : State) (n : ℕ) (lines : List (List ℕ)) → IsBetweenLines s → Stays s.server.past (after_lines s n lines).server.past
-  lines_stay s n [] between = stays_same _ _ refl refl
-  lines_stay s n (bytes ∷ lines) between =
+  pub lines_grow : (s : State) (n : ℕ) (lines : List (List ℕ)) → IsBetweenLines s → Grows s.server.past (after_lines s n lines).server.past
+  lines_grow s n [] between = grows_same _ _ refl refl
+  lines_grow s n (bytes ∷ lines) between =
       let one = line_follows s n bytes between in
       let next = after_line s n bytes in
-      stays_on s.server.past next.server.past (after_lines next (n + 1) lines).server.past one.stays (lines_stay next (n + 1) lines one.between)
+      grows_on s.server.past next.server.past (after_lines next (n + 1) lines).server.past one.grows (lines_grow next (n + 1) lines one.between)
 
   pub unmoved : (s : State) (n : ℕ) (bytes : List ℕ) → IsBetweenLines s → may_move s (line_in_state s bytes) ≡ false → (after_line s n bytes).server.past ≡ s.server.past
   unmoved s n bytes between = (line_follows s n bytes between).unmoved
@@ -93,7 +93,7 @@ readable p within =
 
 has_room : (s : State) (session : ℕ) → IsBetweenLines s → outbox_refusal s.server session ≡ None
 has_room s session b =
-    ap (λ (ms : List Message). passed (nat_le s.server.limits.outbox (length ms)) (codes "outbox") s.server.limits.outbox None) (nothing_in s.server.sessions.list session b.empty)
+    ap (λ (ms : List Message). passed (nat_le s.server.limits.outbox (length ms)) (codes "outbox") s.server.limits.outbox None) (nothing_in s.server.sessions session b.empty)
     ∙ ap (λ (limits : Limits). passed (nat_le limits.outbox 0) (codes "outbox") limits.outbox None) b.limits
 
 pub shows_what_stands : (s : State) (session : ℕ) (id : Option (List ℕ)) (name : DocName) (d : Document) → IsBetweenLines s → get (at s.server.past.history s.server.past.released) name ≡ Some d

@@ -12,7 +12,7 @@ use Rattle.std.proofs.lemmas.Bool.{or_parts}
 use Rattle.serde_json.specs.Data.{Data, null, boolean, number, string, array, object, Members, no_members, member}
 use Rattle.serde_json.specs.Find.{get, get_member}
 use Rattle.fs_json.specs.Answer.{◌>>=◌}
-use Rattle.fs_json.specs.Members.{first_twice, first_unknown, only_at}
+use Rattle.fs_json.specs.Members.{first_twice, first_unknown, is_there, only_at}
 use Rattle.fs_json.specs.Names.{spells}
 use Rattle.fs_json.specs.declared.bad.Bad.{Bad}
 use Rattle.fs_json.specs.declared.bad.Bad.TheVariants.{At}
@@ -22,7 +22,7 @@ use Rattle.fs_path.specs.declared.place.Rule.TheVariants.{G}
 use Rattle.fs_rpc.specs.Envelope.{session_request_at}
 use Rattle.fs_rpc.specs.Methods.{methods, session_head}
 use Rattle.fs_rpc.specs.declared.envelope.SessionRequest.{SessionRequest}
-use Rattle.fs_replay.specs.Line.{bare, form_of, has_any, is_there, is_unbuilt_form, leaves_session, line_read, other_form, unbuilt_forms, without_member}
+use Rattle.fs_replay.specs.Line.{bare, form_of, has_any, is_unbuilt_form, leaves_session, line_read, other_form, unbuilt_forms, without_member}
 use Rattle.fs_replay.specs.declared.request.Line.{Line}
 use Rattle.fs_replay.specs.declared.request.Line.TheVariants as line
 

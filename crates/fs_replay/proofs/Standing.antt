@@ -3,6 +3,7 @@ use Rattle.std.proofs.Common.{ℕ, ℤ}
 use Rattle.fs_machine.specs.Compact.{compacted}
 use Rattle.fs_machine.specs.Event.{Event}
 use Rattle.fs_machine.specs.Facts.{Facts}
+use Rattle.fs_machine.specs.Leave.{departed}
 use Rattle.fs_machine.specs.Settle.{decided, settled}
 use Rattle.fs_machine.specs.State.{Machine}
 use Rattle.fs_machine.specs.Tick.{advanced, ticked}
@@ -16,3 +17,6 @@ ticked_stands m now facts = keeps (advanced m now) Event.releasing (keeps m (Eve
 
 pub compacted_stands : (m : Machine) (to : ℤ) → Facts m → Facts (compacted m to)
 compacted_stands m to facts = keeps m (Event.compacting to) facts
+
+pub departed_stands : (m : Machine) (session : ℕ) → Facts m → Facts (departed m session)
+departed_stands m session facts = keeps m (Event.leaving session) facts

@@ -1,5 +1,5 @@
 -- What the laws of scripts speak of.
-use Rattle.std.specs.Prelude.{◌≡◌, ℕ, ◌+◌, ◌≤◌, Bool, true, false, ◌||◌, ◌==◌, is_none, List, [], ◌∷◌, ◌++◌, Option, Some, None, Result, Ok, Err}
+use Rattle.std.specs.Prelude.{◌≡◌, ℕ, ◌+◌, Bool, true, false, ◌||◌, ◌==◌, is_none, List, [], ◌∷◌, ◌++◌, map, Option, Some, None, Result, Ok, Err}
 use Rattle.std.specs.List.{list_any, AllByRecursion}
 use Rattle.fs_path.specs.declared.name.DocName.{DocName}
 use Rattle.fs_json.specs.declared.bad.Bad.{Bad}
@@ -7,6 +7,8 @@ use Rattle.fs_machine.specs.Commit.{commit_refusal}
 use Rattle.fs_machine.specs.Facts.{Facts}
 use Rattle.fs_machine.specs.Limits.{greatest}
 use Rattle.fs_machine.specs.Open.{open_answer, opened}
+use Rattle.fs_machine.specs.Retry.{writes_of}
+use Rattle.fs_machine.specs.SessionsNumbered.{NumbersRise}
 use Rattle.fs_machine.specs.State.{Machine}
 use Rattle.fs_machine.specs.declared.session.Session.{Session}
 use Rattle.fs_rpc.specs.declared.envelope.SessionRequest.{SessionRequest}
@@ -35,18 +37,17 @@ IsOpen ss n = is_open n.number ss ≡ true
 abbrev pub HasNothing : Session → Type 0
 HasNothing session = session.outbox ≡ []
 
--- in the order of opening their numbers rise, from one on and below another
-abbrev pub NumbersRise : ℕ → ℕ → List Named → Type 0
-NumbersRise from to [] = from ≤ to
-NumbersRise from to (n ∷ ns) = (from ≤ n.number) × NumbersRise (n.number + 1) to ns
+abbrev pub numbers_in : List Named → List ℕ
+numbers_in ns = map (λ n. n.number) ns
 
 pub record IsBetweenLines (s : State) : Type 0 where
-  -- no commit is under way, and nothing waits to be told
+  -- no commit is under way, no request waits, and nothing waits to be told
   pub idle : IsIdle s
-  pub empty : AllByRecursion HasNothing s.server.sessions.list
+  pub parked : s.server.parked ≡ []
+  pub empty : AllByRecursion HasNothing s.server.sessions
   -- the sessions that the script knows are open, and each has a number of its own, below the one that is given next
-  pub open_all : AllByRecursion (IsOpen s.server.sessions.list) s.directory
-  pub numbers : NumbersRise 0 s.server.sessions.given s.directory
+  pub open_all : AllByRecursion (IsOpen s.server.sessions) s.directory
+  pub numbers : NumbersRise 0 s.server.numbers.sessions (numbers_in s.directory)
   pub facts : Facts s.server
   pub limits : s.server.limits ≡ greatest
 
@@ -87,18 +88,15 @@ IsOneLine output = (text : List ℕ) × (output ≡ text ++ 10 ∷ []) × (list_
 -- ---- commits
 
 -- the writes that a line asks for
-abbrev pub writes_of : Result Request Bad → List Write
-writes_of (Ok (Commit database writes)) = writes
-writes_of (Ok (GetDocument name mask time)) = []
-writes_of (Ok (BatchGetDocuments database names mask time)) = []
-writes_of (Ok (RunQuery database query time)) = []
-writes_of (Err bad) = []
+abbrev pub writes_read : Result Request Bad → List Write
+writes_read (Ok request) = writes_of request
+writes_read (Err bad) = []
 
 abbrev pub asked_writes : Line → List Write
 asked_writes line.Empty = []
 asked_writes line.NotBuilt = []
 asked_writes (line.Refused reason) = []
-asked_writes (line.Asked a) = writes_of a.request
+asked_writes (line.Asked a) = writes_read a.request
 asked_writes (line.Clock time) = []
 asked_writes (line.Compact time) = []
 asked_writes (line.Leave name) = []

@@ -1,17 +1,16 @@
 -- The lines of a script: what each is read as.
-use Rattle.std.specs.Prelude.{ℕ, ℤ, Bool, false, ◌&&◌, List, [], ◌∷◌, length, Option, Some, None, Result, Ok, Err, codes, is_some, is_none, nat_lt, option_and_then, if◌then◌else◌, unwrap_or}
+use Rattle.std.specs.Prelude.{ℕ, ℤ, Bool, ◌&&◌, List, [], ◌∷◌, length, Option, Some, None, Result, Ok, Err, codes, is_some, nat_lt, option_and_then, if◌then◌else◌, unwrap_or}
 use Rattle.std.specs.Cmp.Lexicographic.{slice_cmp}
 use Rattle.std.specs.List.{list_any}
-use Rattle.std.specs.Option.{option_map_or}
 use Rattle.std.specs.Ordering.{nat_cmp, match_ordering}
 use Rattle.std.specs.Str.{is_utf8}
 use Rattle.serde_json.specs.Data.{Data, null, boolean, number, string, array, object, Members, no_members, member}
-use Rattle.serde_json.specs.Find.{as_bool, as_null, as_str, get}
+use Rattle.serde_json.specs.Find.{as_bool, as_str, get}
 use Rattle.serde_json.specs.Read.{read}
 use Rattle.fs_path.specs.declared.name.Root.{Root}
 use Rattle.fs_path.specs.declared.place.Rule.TheVariants.{G}
 use Rattle.fs_json.specs.Answer.{or_fault, ◌>>=◌}
-use Rattle.fs_json.specs.Members.{only_at, required_at}
+use Rattle.fs_json.specs.Members.{is_there, only_at, required_at}
 use Rattle.fs_json.specs.declared.bad.Bad.{Bad}
 use Rattle.fs_json.specs.declared.bad.Bad.TheVariants.{At, Method, Memory}
 use Rattle.fs_rpc.specs.Envelope.{session_request_at}
@@ -74,9 +73,6 @@ line_read of (Err bad) = line.Refused (line_reason bad)
 --     {"session":"s","leave":true}                       a session that leaves
 --     {"session":"s","leave":null,"getDocument":{..}}    a request, as without its leave
 --     {"clock":null}, {"leave":true}, {}                 of no form
-
-abbrev pub is_there : List ℕ → Data → Bool
-is_there name d = option_map_or (λ v. is_none (as_null v)) (get name d) false
 
 -- a session that leaves has both
 abbrev pub leaves_session : Data → Bool

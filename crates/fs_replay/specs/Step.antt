@@ -11,12 +11,12 @@ use Rattle.fs_machine.specs.Settle.{settled}
 use Rattle.fs_machine.specs.State.{Machine, started}
 use Rattle.fs_machine.specs.Tick.{later, ticked}
 use Rattle.fs_machine.specs.declared.answer.Answer.{Answer}
-use Rattle.fs_machine.specs.declared.answer.Answer.TheVariants.{Reply, Prepared, Refused}
+use Rattle.fs_machine.specs.declared.answer.Answer.TheVariants.{Reply, Prepared, Held, Refused}
 use Rattle.fs_rpc.specs.MessageJson.{error_json, refused}
 use Rattle.fs_rpc.specs.declared.envelope.SessionRequest.{SessionRequest}
 use Rattle.fs_rpc.specs.declared.request.Envelope.{Envelope}
 use Rattle.fs_rpc.specs.declared.request.Request.{Request}
-use Rattle.fs_server.specs.Pending.{next_pending}
+use Rattle.fs_machine.specs.Pending.{next_pending}
 use Rattle.fs_status.specs.Refusal.{refusal_of}
 use Rattle.fs_status.specs.declared.code.Code.TheVariants.{Unimplemented}
 use Rattle.fs_status.specs.declared.reason.LineFault.TheVariants.{DoesNotApply}
@@ -86,10 +86,11 @@ closed s = record {
 
 -- ---- requests
 
--- what is told at once; the reply to a commit comes to the outbox
+-- what is told at once; the reply to a commit comes to the outbox, and what waits is told when it goes on
 abbrev pub reply_output : List ℕ → Option (List ℕ) → Answer → List ℕ
 reply_output name id (Reply message) = message_line name message
 reply_output name id (Prepared commit time) = []
+reply_output name id (Held commit) = []
 reply_output name id (Refused refusal) = message_line name (refused id refusal)
 
 abbrev pub requested : State → List ℕ → ℕ → Envelope → Played

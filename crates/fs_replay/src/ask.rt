@@ -142,6 +142,7 @@ fn say_answer(
     match answer {
         Answer::Reply(message) => say(alloc, name, message, out),
         Answer::Prepared(_, _) => Ok(()),
+        Answer::Held(_) => Ok(()),
         Answer::Refused(refusal) => refuse(alloc, name, id, refusal, out),
     }
 }

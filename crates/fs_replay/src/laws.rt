@@ -4,10 +4,10 @@ ghost use Rattle.std.specs.FinMap.{get};
 ghost use Rattle.fs_path.specs.declared.name.DocName.{DocName};
 ghost use Rattle.fs_history.specs.History.{at, whole};
 ghost use Rattle.fs_machine.specs.Alone.{IsAlone};
+ghost use Rattle.fs_machine.specs.Grows.{Grows};
 ghost use Rattle.fs_machine.specs.Request.{answered};
 ghost use Rattle.fs_machine.specs.Settle.{outcome_of, settled};
 ghost use Rattle.fs_machine.specs.State.{Machine};
-ghost use Rattle.fs_machine.specs.Stays.{Stays};
 ghost use Rattle.fs_machine.specs.declared.answer.Answer.TheVariants.{Reply};
 ghost use Rattle.fs_rpc.specs.declared.message.Message.TheVariants as message;
 ghost use Rattle.fs_rpc.specs.declared.request.Request.TheVariants.{GetDocument};
@@ -27,9 +27,9 @@ pub fn scripts_are_lawful()
     // of a server stands.
     ensures starts { IsBetweenLines start }
     ensures between { (s : State) (n : ℕ) (line : List ℕ) → IsBetweenLines s → IsBetweenLines (after_line s n line) }
-    // What stood at a time that was released stands there for good.
-    ensures stays { (s : State) (n : ℕ) (lines : List (List ℕ)) → IsBetweenLines s
-        → Stays s.server.past (after_lines s n lines).server.past }
+    // The history goes on from what was there, so what stood at a time that was released stands there for good.
+    ensures grows { (s : State) (n : ℕ) (lines : List (List ℕ)) → IsBetweenLines s
+        → Grows s.server.past (after_lines s n lines).server.past }
     // A line that asks for no commit, or for one that is refused at a limit, and is neither a clock's nor a compaction's, leaves
     // what was committed and its times as they are.
     ensures unmoved { (s : State) (n : ℕ) (line : List ℕ) → IsBetweenLines s → may_move s (line_in_state s line) ≡ false

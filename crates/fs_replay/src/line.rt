@@ -3,11 +3,11 @@ ghost use Rattle.std.specs.Prelude.{◌≡◌, IfOk, codes, map, option_map};
 ghost use Rattle.serde_json.specs.View.{members_view, view as json};
 ghost use Rattle.fs_json.specs.Answer.{Gives};
 ghost use Rattle.fs_rpc.specs.Envelope.{session_request_at};
-ghost use Rattle.fs_replay.specs.Line.{bare, form_of, has_any, is_there, is_unbuilt_form, IsFault, json_of, leave_at, leaves_session, line_of, line_read, line_reason, other_form, time_line_at, without_member};
+ghost use Rattle.fs_replay.specs.Line.{bare, form_of, has_any, is_unbuilt_form, IsFault, json_of, leave_at, leaves_session, line_of, line_read, line_reason, other_form, time_line_at, without_member};
 
 use crate::limits::LONGEST_LINE;
 use crate::request::Line;
-use fs_json::{Bad, only, read_required_time, read_text, required};
+use fs_json::{Bad, is_there, only, read_required_time, read_text, required};
 use fs_path::{Place, Root, Rule, Text, Way};
 use fs_rpc::read_session_request;
 use fs_status::{LineFault, Reason};
@@ -124,16 +124,6 @@ fn other_form(alloc: Global, v: &Value) -> Result<Option<Line>, AllocError>
         return Ok(Some(leave_in(alloc, v)?));
     }
     Ok(None)
-}
-
-// Whether a member is there: one that is null isn't.
-fn is_there(v: &Value, name: &str) -> bool
-    ensures { result ≡ is_there name.now (json v.now) }
-{
-    match v.get(name) {
-        Some(found) => !found.is_null(),
-        None => false,
-    }
 }
 
 fn leaves_session(v: &Value) -> bool

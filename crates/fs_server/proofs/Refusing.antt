@@ -1,5 +1,5 @@
 -- No definition of an answer is the refusal for want of memory.
-use Rattle.std.proofs.Common.{◌≡◌, ℕ, ℤ, Bool, true, false, cond, List, [], Option, Some, None, Ok, Err, ap, length, pos}
+use Rattle.std.proofs.Common.{◌≡◌, ℕ, ℤ, Bool, true, false, cond, List, [], Option, Some, None, option_map, Ok, Err, ap, length, pos}
 use Rattle.std.specs.Prelude.{codes, nat_le, nat_lt, int_lt, ◌+◌}
 use Rattle.std.specs.FinMap.{get}
 use Rattle.fs_path.specs.declared.field.FieldPath.{FieldPath}
@@ -13,15 +13,23 @@ use Rattle.fs_value.specs.declared.document.Document.{Document}
 use Rattle.fs_write.specs.declared.write.Write.{Write}
 use Rattle.fs_history.specs.Bytes.{commit_size}
 use Rattle.fs_history.specs.History.{at}
-use Rattle.fs_history.specs.declared.batch.Batch.{Batch}
+use Rattle.fs_rpc.specs.declared.request.Envelope.{Envelope}
 use Rattle.fs_machine.specs.declared.answer.Answer.{Answer}
 use Rattle.fs_machine.specs.declared.answer.Answer.TheVariants.{Reply, Refused}
-use Rattle.fs_machine.specs.Commit.{commit_refusal, journal_count, journal_size, next_batch, next_time, outbox_is_full, outbox_refusal, passed, prepared_answer}
+use Rattle.fs_machine.specs.Behind.{behind}
+use Rattle.fs_machine.specs.Commit.{Decision, answer_after_limits, arrived, carried_answer, commit_refusal, decision_behind, journal_count, journal_size, next_time, outbox_is_full, outbox_refusal, passed, room_refusal, time_limit_refusal}
 use Rattle.fs_machine.specs.Open.{is_full, open_answer}
 use Rattle.fs_machine.specs.Past.{Past}
-use Rattle.fs_machine.specs.Read.{batch_answers, document_answer, query_answer, read_time, time_refusal, unless_refused}
-use Rattle.fs_machine.specs.Request.{request_answer}
+use Rattle.fs_machine.specs.Read.{batch_answers, document_answer, query_answer, read_time, run_answer, time_refusal, unless_refused}
+use Rattle.fs_machine.specs.Request.{query_refusal, read_answer, request_answer}
+use Rattle.fs_path.specs.Place.{member_place}
+use Rattle.fs_path.specs.declared.place.Rule.{Rule}
+use Rattle.fs_path.specs.declared.place.Rule.TheVariants.{Q}
+use Rattle.fs_query.specs.Rules.{rule_of_query}
+use Rattle.fs_query.specs.declared.rule.QueryRule.{QueryRule}
+use Rattle.fs_status.specs.declared.reason.Reason.TheVariants as reasons
 use Rattle.fs_machine.specs.State.{Machine}
+use Rattle.fs_machine.specs.declared.parked_request.ParkedRequest.{ParkedRequest}
 use Rattle.fs_rpc.specs.declared.message.Message.{Message}
 use Rattle.fs_rpc.specs.declared.message.Message.TheVariants as message
 
@@ -41,7 +49,7 @@ open_other true n limit e = let r : at_limit (codes "sessions") limit ≡ refusa
 open_other false n limit e = cc
 
 pub open_not : (m : Machine) → open_answer m ≡ Err (refusal_of Memory) → ⊥
-open_not m e = open_other (is_full m) m.sessions.given m.limits.sessions e
+open_not m e = open_other (is_full m) m.numbers.sessions m.limits.sessions e
 
 -- ---- requests
 
@@ -53,26 +61,38 @@ passed_other : (over : Bool) (name : List ℕ) (n : ℕ) (others : Option Refusa
 passed_other true name n others rest = other_limit name n
 passed_other false name n others rest = rest
 
+time_limit_other : (m : Machine) → AreOther (time_limit_refusal m)
+time_limit_other m = passed_other (int_lt (pos m.limits.time) (next_time m.past)) (codes "time") m.limits.time None tt
+
+room_other : (m : Machine) (writes : List Write) (others : Option Refusal) → AreOther others → AreOther (room_refusal m writes others)
+room_other m writes others rest =
+    let large = passed (nat_lt m.limits.journal (journal_size m.past + commit_size writes [])) (codes "journal") m.limits.journal others in
+    passed_other (nat_le m.limits.batches (journal_count m.past)) (codes "batches") m.limits.batches large
+    (passed_other (nat_lt m.limits.journal (journal_size m.past + commit_size writes [])) (codes "journal") m.limits.journal others rest)
+
 commit_other : (m : Machine) (session : ℕ) (writes : List Write) → AreOther (commit_refusal m session writes)
 commit_other m session writes =
-    let late = passed (int_lt (pos m.limits.time) (next_time m.past)) (codes "time") m.limits.time None in
-    let drawn = passed (nat_le m.limits.ids m.ids) (codes "ids") m.limits.ids late in
-    let large = passed (nat_lt m.limits.journal (journal_size m.past + commit_size writes [])) (codes "journal") m.limits.journal drawn in
-    let many = passed (nat_le m.limits.batches (journal_count m.past)) (codes "batches") m.limits.batches large in
-    let full = passed (outbox_is_full m session) (codes "outbox") m.limits.outbox many in
+    let drawn = passed (nat_le m.limits.ids m.numbers.ids) (codes "ids") m.limits.ids (time_limit_refusal m) in
+    let full = passed (outbox_is_full m session) (codes "outbox") m.limits.outbox (room_refusal m writes drawn) in
     passed_other (nat_lt m.limits.writes (length writes)) (codes "writes") m.limits.writes full
-    (passed_other (outbox_is_full m session) (codes "outbox") m.limits.outbox many
-    (passed_other (nat_le m.limits.batches (journal_count m.past)) (codes "batches") m.limits.batches large
-    (passed_other (nat_lt m.limits.journal (journal_size m.past + commit_size writes [])) (codes "journal") m.limits.journal drawn
-    (passed_other (nat_le m.limits.ids m.ids) (codes "ids") m.limits.ids late
-    (passed_other (int_lt (pos m.limits.time) (next_time m.past)) (codes "time") m.limits.time None tt)))))
+    (passed_other (outbox_is_full m session) (codes "outbox") m.limits.outbox (room_refusal m writes drawn)
+    (room_other m writes drawn (passed_other (nat_le m.limits.ids m.numbers.ids) (codes "ids") m.limits.ids (time_limit_refusal m) (time_limit_other m))))
 
 refused_reason : {r s : Refusal} → Refused r ≡ Refused s → r.reason ≡ s.reason
 refused_reason {r} {s} e = let same : r ≡ s = cc in reason_of same
 
-prepared_other : (o : Option Refusal) (b : Batch) → AreOther o → prepared_answer o b ≡ Refused (refusal_of Memory) → ⊥
-prepared_other (Some r) b other e = other (refused_reason e)
-prepared_other None b other e = cc
+waits_other : (m : Machine) (r : ParkedRequest) (id : ℕ) (full : Bool)
+    → carried_answer m.past r (cond full (Decision.refused (at_limit (codes "parked") m.limits.parked)) (Decision.held id)) ≡ Refused (refusal_of Memory) → ⊥
+waits_other m r id true e = other_limit (codes "parked") m.limits.parked (refused_reason e)
+waits_other m r id false e = cc
+
+decided_other : (m : Machine) (r : ParkedRequest) (found : Option ℕ) → carried_answer m.past r (decision_behind m found) ≡ Refused (refusal_of Memory) → ⊥
+decided_other m r None e = cc
+decided_other m r (Some id) e = waits_other m r id (nat_le m.limits.parked (length m.parked)) e
+
+limited_other : (m : Machine) (r : ParkedRequest) (writes : List Write) (o : Option Refusal) → AreOther o → answer_after_limits o m r writes ≡ Refused (refusal_of Memory) → ⊥
+limited_other m r writes (Some refusal) other e = other (refused_reason e)
+limited_other m r writes None other e = decided_other m r (behind m.past writes) e
 
 unless_other : (o : Option Refusal) (a : Answer) → AreOther o → (a ≡ Refused (refusal_of Memory) → ⊥) → unless_refused o a ≡ Refused (refusal_of Memory) → ⊥
 unless_other (Some r) a other not e = other (refused_reason e)
@@ -107,16 +127,23 @@ read_other m session t a not =
     unless_other (outbox_refusal m session) (unless_refused (time_refusal m.past t) a) (passed_other (outbox_is_full m session) (codes "outbox") m.limits.outbox None tt)
     (unless_other (time_refusal m.past t) a (time_other m.past t) not)
 
-pub request_not : (m : Machine) (session : ℕ) (id : Option (List ℕ)) (r : Request) → request_answer m session id r ≡ Refused (refusal_of Memory) → ⊥
-request_not m session id (request.Commit database writes) = prepared_other (commit_refusal m session writes) (next_batch m writes) (commit_other m session writes)
-request_not m session id (request.GetDocument name mask time) =
+rule_not_memory : (rule : Rule) (place : List ℕ) → IsOther (reasons.Rule rule place)
+rule_not_memory rule place e = cc
+
+rule_other : (o : Option QueryRule) → AreOther (option_map (λ rule. refusal_of (reasons.Rule (Q rule.number rule.count) (member_place (codes "runQuery") (codes "structuredQuery")))) o)
+rule_other None = tt
+rule_other (Some rule) = rule_not_memory (Q rule.number rule.count) (member_place (codes "runQuery") (codes "structuredQuery"))
+
+pub request_not : (m : Machine) (session : ℕ) (e : Envelope) (r : Request) → request_answer m session e r ≡ Refused (refusal_of Memory) → ⊥
+request_not m session e (request.Commit database writes) = limited_other m (arrived m session e) writes (commit_refusal m session writes) (commit_other m session writes)
+request_not m session e (request.GetDocument name mask time) =
     let t = read_time m.past time in
-    read_other m session t (document_answer id t mask (get (at m.past.history t) name)) (document_other id t mask (get (at m.past.history t) name))
-request_not m session id (request.BatchGetDocuments database names mask time) =
+    read_other m session t (document_answer e.id t mask (get (at m.past.history t) name)) (document_other e.id t mask (get (at m.past.history t) name))
+request_not m session e (request.BatchGetDocuments database names mask time) =
     let t = read_time m.past time in
-    let reply = message.BatchGetDocuments id (batch_answers (at m.past.history t) t mask names) in
+    let reply = message.BatchGetDocuments e.id (batch_answers (at m.past.history t) t mask names) in
     read_other m session t (Reply reply) (reply_other reply)
-request_not m session id (request.RunQuery database query time) =
+request_not m session e (request.RunQuery database query time) =
     let t = read_time m.past time in
-    let reply = message.RunQuery id (query_answer (at m.past.history t) query) t in
-    read_other m session t (Reply reply) (reply_other reply)
+    let reply = message.RunQuery e.id (query_answer (at m.past.history t) query) t in
+    unless_other (query_refusal query) (read_answer m session (run_answer m.past e.id query t)) (rule_other (rule_of_query query)) (read_other m session t (Reply reply) (reply_other reply))

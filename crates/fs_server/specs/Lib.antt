@@ -1,3 +1,2 @@
-pub mod Pending
 pub mod Place
 pub mod Kept

@@ -1,7 +1,7 @@
--- Only private clauses cite this: where a session stands, its messages with the last one taken back, and sessions with one more.
+-- Only private clauses cite this: where a session stands, and its messages with the last one taken back.
 use Rattle.std.specs.Prelude.{ℕ, ◌+◌, ◌-◌, List, [], ◌∷◌, Option, Some, None, option_map, length, take, ◌==◌, if◌then◌else◌}
 use Rattle.fs_rpc.specs.declared.message.Message.{Message}
-use Rattle.fs_machine.specs.Sessions.{Sessions, delivered, with_outbox}
+use Rattle.fs_machine.specs.Sessions.{with_outbox}
 use Rattle.fs_machine.specs.declared.session.Session.{Session}
 
 -- the place of the first session with a number
@@ -14,7 +14,3 @@ without_last ms = take (length ms - 1) ms
 
 abbrev pub taken_back : ℕ → List Session → List Session
 taken_back number ss = with_outbox number without_last ss
-
--- with one message more for a session
-abbrev pub with_message : ℕ → Message → Sessions → Sessions
-with_message number message s = record s { list = delivered number message s.list }

@@ -5,8 +5,7 @@ ghost use Rattle.fs_status.specs.Refusal.{at_limit};
 use crate::server::Server;
 use fs_history::{Batch, Reads, commit_size};
 use fs_machine::{Answer, Unreleased};
-use fs_path::Text;
-use fs_rpc::copy_id;
+use fs_rpc::{Envelope, copy_id};
 use fs_status::{Id, Refusal};
 use fs_write::Writes;
 use std::alloc::{AllocError, Global};
@@ -18,10 +17,10 @@ fn at_limit(alloc: Global, name: &str, number: u64) -> Result<Option<Refusal>, A
 }
 
 impl Server {
-    ghost use Rattle.std.specs.Prelude.{◌≡◌, ◌<◌, ◌+◌, ◌-◌, ◌^◌, min, pos, int_lt, false, [], IfNone, IfOk, OnOk, OnErr};
+    ghost use Rattle.std.specs.Prelude.{◌≡◌, ◌<◌, ◌≤◌, ◌+◌, ◌-◌, ◌^◌, min, pos, int_lt, false, [], IfNone, IfOk, OnOk, OnErr};
     ghost use Rattle.fs_history.specs.Bytes.{commit_size};
     ghost use Rattle.fs_time.specs.Moment.{IsMoment};
-    ghost use Rattle.fs_machine.specs.Commit.{after_commit, commit_answer, commit_refusal, journal_size, next_batch, next_commit, next_time, outbox_is_full, outbox_refusal, prepared};
+    ghost use Rattle.fs_machine.specs.Commit.{after_commit, arrived, commit_answer, commit_refusal, drawn, journal_size, next_commit, next_time, outbox_is_full, outbox_refusal, prepared};
     ghost use Rattle.fs_machine.specs.declared.answer.Answer.TheVariants.{Prepared};
 
     /// A commit of these writes comes.
@@ -30,17 +29,17 @@ impl Server {
         &mut self,
         alloc: Global,
         session: u32,
-        id: &Option<Text>,
+        envelope: &Envelope,
         writes: &Writes,
     ) -> Result<Answer, AllocError>
         requires { self.old.past.unreleased ≡ [] }
-        ensures told { IfOk result (λ a. a ≡ commit_answer self.old session writes.now) }
-        ensures state { OnOk result (self.new ≡ after_commit self.old session id.now writes.now) }
+        ensures told { IfOk result (λ a. a ≡ commit_answer self.old session envelope.now writes.now) }
+        ensures state { OnOk result (self.new ≡ after_commit self.old session envelope.now writes.now) }
         ensures err { OnErr result (self.new ≡ self.old) }
     {
         match self.commit_refusal(alloc, session, writes)? {
             Some(refusal) => Ok(Answer::Refused(refusal)),
-            None => self.prepare(alloc, session, id, writes),
+            None => self.prepare(alloc, session, envelope, writes),
         }
     }
 
@@ -49,43 +48,44 @@ impl Server {
         &mut self,
         alloc: Global,
         session: u32,
-        id: &Option<Text>,
+        envelope: &Envelope,
         writes: &Writes,
     ) -> Result<Answer, AllocError>
         requires none { self.old.past.unreleased ≡ [] }
         requires time { IsMoment (next_time self.old.past) }
-        requires ids { self.old.ids < self.old.limits.ids }
-        ensures told { IfOk result (λ a. a ≡ Prepared (next_batch self.old writes.now).id (next_batch self.old writes.now).time) }
-        ensures state { OnOk result (self.new ≡ prepared self.old (next_commit self.old session id.now writes.now)) }
+        requires ids { self.old.numbers.ids < self.old.limits.ids }
+        requires room { journal_size self.old.past + commit_size writes.now [] ≤ self.old.limits.journal }
+        ensures told { IfOk result (λ a. a ≡ Prepared (self.old.numbers.ids + 1) (next_time self.old.past)) }
+        ensures state { OnOk result (self.new ≡ prepared (drawn self.old) (next_commit self.old.past (arrived self.old session envelope.now) writes.now)) }
         ensures err { OnErr result (self.new ≡ self.old) }
     {
-        let commit = self.next_commit(alloc, session, id, writes)?;
+        let commit = self.next_commit(alloc, session, envelope, writes)?;
         let time = self.past.next_time();
-        self.past.prepare(commit);
-        self.ids += 1;
-        Ok(Answer::Prepared(Id::new(self.ids), time))
+        self.past.prepare(commit)?;
+        self.numbers.ids += 1;
+        Ok(Answer::Prepared(Id::new(self.numbers.ids), time))
     }
 
     fn next_commit(
         &self,
         alloc: Global,
         session: u32,
-        id: &Option<Text>,
+        envelope: &Envelope,
         writes: &Writes,
     ) -> Result<Unreleased, AllocError>
         requires time { IsMoment (next_time self.now.past) }
-        requires ids { self.now.ids < self.now.limits.ids }
-        ensures { IfOk result (λ u. u ≡ next_commit self.now session id.now writes.now) }
+        requires ids { self.now.numbers.ids < self.now.limits.ids }
+        ensures { IfOk result (λ u. u ≡ next_commit self.now.past (arrived self.now session envelope.now) writes.now) }
     {
         Ok(Unreleased {
             batch: Batch {
                 time: self.past.next_time(),
-                id: Id::new(self.ids + 1),
+                id: Id::new(self.numbers.ids + 1),
                 writes: writes.copy(alloc)?,
                 reads: Reads::new(alloc),
             },
             session,
-            request: copy_id(alloc, id)?,
+            request: copy_id(alloc, &envelope.id)?,
             results: None,
         })
     }
@@ -99,7 +99,8 @@ impl Server {
     ) -> Result<Option<Refusal>, AllocError>
         ensures told { IfOk result (λ r. r ≡ commit_refusal self.now session writes.now) }
         ensures time { IfOk result (λ r. IfNone r (IsMoment (next_time self.now.past))) }
-        ensures ids { IfOk result (λ r. IfNone r (self.now.ids < self.now.limits.ids)) }
+        ensures ids { IfOk result (λ r. IfNone r (self.now.numbers.ids < self.now.limits.ids)) }
+        ensures room { IfOk result (λ r. IfNone r (journal_size self.now.past + commit_size writes.now [] ≤ self.now.limits.journal)) }
     {
         let limits = &self.limits;
         if writes.len() as u64 > limits.writes {
@@ -114,7 +115,7 @@ impl Server {
         if self.size_with(alloc, writes) > u128::from(limits.journal) {
             return at_limit(alloc, "journal", limits.journal);
         }
-        if self.ids >= limits.ids {
+        if self.numbers.ids >= limits.ids {
             return at_limit(alloc, "ids", limits.ids);
         }
         if self.is_late() {

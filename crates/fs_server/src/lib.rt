@@ -4,6 +4,7 @@
 
 mod commit;
 mod open;
+mod parked;
 mod read;
 mod request;
 mod server;

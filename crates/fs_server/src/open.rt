@@ -11,7 +11,7 @@ impl Server {
     ghost use Rattle.fs_status.specs.Refusal.{refusal_of};
     ghost use Rattle.fs_status.specs.declared.reason.Reason.TheVariants.{Memory};
     ghost use Rattle.fs_machine.specs.Open.{is_full, open_answer, opened};
-    ghost use Rattle.fs_machine.specs.Stays.{Stays};
+    ghost use Rattle.fs_machine.specs.Grows.{Grows};
 
     /// Opens a session: its number, in the order of opening, or the refusal of a session too many. Where memory runs out, all is
     /// as before.
@@ -19,7 +19,7 @@ impl Server {
         ensures told { result ≢ Err (refusal_of Memory) → result ≡ open_answer self.old }
         ensures state { result ≢ Err (refusal_of Memory) → self.new ≡ opened self.old }
         ensures memory { result ≡ Err (refusal_of Memory) → self.new ≡ self.old }
-        ensures stays { Stays self.old.past self.new.past }
+        ensures grows { Grows self.old.past self.new.past }
     {
         self.stand();
         match self.opened(alloc) {
@@ -36,7 +36,10 @@ impl Server {
         if self.is_full() {
             return Ok(Err(Refusal::at_limit(alloc, "sessions", self.limits.sessions)?));
         }
-        Ok(Ok(self.sessions.add(alloc)?))
+        let number = self.numbers.sessions as u32;
+        self.sessions.add(alloc, number)?;
+        self.numbers.sessions += 1;
+        Ok(Ok(number))
     }
 
     // Whether as many are open as may be, or no number is left.
@@ -44,6 +47,6 @@ impl Server {
         ensures { result ≡ is_full self.now }
     {
         self.limits.sessions <= self.sessions.len() as u64
-            || SESSION_NUMBERS <= self.sessions.given()
+            || SESSION_NUMBERS <= self.numbers.sessions
     }
 }

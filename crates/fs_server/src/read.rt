@@ -1,5 +1,10 @@
 //! Reads as of a time.
-ghost use Rattle.std.specs.Prelude.{◌≡◌, ◌≤ℤ◌, IfOk, IfNone, Some, map};
+ghost use Rattle.std.specs.Prelude.{◌≡◌, ◌≤ℤ◌, IfOk, IfNone, Some, map, codes};
+ghost use Rattle.fs_path.specs.Place.{member_place};
+ghost use Rattle.fs_path.specs.declared.place.Rule.TheVariants.{Q};
+ghost use Rattle.fs_status.specs.Refusal.{refusal_of};
+ghost use Rattle.fs_status.specs.declared.reason.Reason.TheVariants as reasons;
+ghost use Rattle.fs_machine.specs.Request.{query_refusal};
 ghost use Rattle.std.specs.FinMap.{get, values};
 ghost use Rattle.fs_history.specs.History.{at};
 ghost use Rattle.fs_machine.specs.Read.{batch_answers, batch_get_answer, document_answer, get_answer, masked, query_answer, read_time, run_answer, time_refusal, told_of};
@@ -7,8 +12,8 @@ ghost use Rattle.fs_query.specs.AnswerTo.{answer_to};
 
 use fs_machine::Answer;
 use fs_past::Past;
-use fs_path::{DocName, Names, Paths, Text};
-use fs_query::{Query, project};
+use fs_path::{DocName, Names, Paths, Rule, Text, Way};
+use fs_query::{Query, QueryRule, check_with, project};
 use fs_rpc::{Answers, BatchAnswer, Message, copy_id};
 use fs_status::{Reason, Refusal};
 use fs_time::Micros;
@@ -150,6 +155,25 @@ fn one_at(
 }
 
 // ---- queries
+
+/// Why a query isn't run: the least rule that it breaks.
+pub(crate) fn query_refusal(alloc: Global, query: &Query) -> Result<Option<Refusal>, AllocError>
+    ensures { IfOk result (λ r. r ≡ query_refusal query.now) }
+{
+    match check_with(alloc, query)? {
+        Some(rule) => Ok(Some(broken(alloc, rule)?)),
+        None => Ok(None),
+    }
+}
+
+fn broken(alloc: Global, rule: QueryRule) -> Result<Refusal, AllocError>
+    ensures { IfOk result (λ r. r ≡ refusal_of (reasons.Rule (Q rule.number rule.count) (member_place (codes "runQuery") (codes "structuredQuery")))) }
+{
+    let place = Way::method("runQuery")
+        .member("structuredQuery")
+        .place(alloc)?;
+    Ok(Refusal::of(Reason::Rule(Rule::Q(rule.number, rule.count), place)))
+}
 
 /// Runs a query. Only the documents that it answers are copied.
 pub(crate) fn read_query(

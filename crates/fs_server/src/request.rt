@@ -1,5 +1,5 @@
 //! Requests.
-use crate::read::{read_batch, read_document, read_query, read_time};
+use crate::read::{query_refusal, read_batch, read_document, read_query, read_time};
 use crate::server::Server;
 use fs_machine::Answer;
 use fs_path::{DocName, Names, Paths, Text};
@@ -13,14 +13,14 @@ impl Server {
     ghost use Rattle.std.specs.Prelude.{◌≡◌, ◌≢◌, [], IfOk, OnOk, OnErr};
     ghost use Rattle.fs_status.specs.Refusal.{refusal_of};
     ghost use Rattle.fs_status.specs.declared.reason.Reason.TheVariants.{Memory};
-    ghost use Rattle.fs_machine.specs.Read.{batch_get_answer, get_answer, read_time, run_answer};
-    ghost use Rattle.fs_machine.specs.Request.{answered, asked, read_answer};
-    ghost use Rattle.fs_machine.specs.Stays.{Stays};
+    ghost use Rattle.fs_machine.specs.Read.{batch_get_answer, get_answer, read_time, run_answer, unless_refused};
+    ghost use Rattle.fs_machine.specs.Request.{answered, asked, query_refusal, read_answer};
+    ghost use Rattle.fs_machine.specs.Grows.{Grows};
     ghost use Rattle.fs_machine.specs.declared.answer.Answer.TheVariants.{Refused};
 
     /// A request comes on a session: what it is answered at once. A commit that passes no limit is prepared, and its reply comes
     /// to the outbox of the session once it is settled. Reads are answered as of the time that they ask for, or of what is
-    /// released. Of several refusals the first of these is told: limits, in the order in which `Limits` has them; a read
+    /// released. Of several refusals the first of these is told: a rule of queries that is broken; limits, in the order in which `Limits` has them; a read
     /// time that is too old or too new; that no document is there. Where memory runs out, all is as before. (v1 reference,
     /// "Commit", "GetDocument", "BatchGetDocuments", "RunQuery".)
     pub fn request(&mut self, alloc: Global, session: u32, envelope: &Envelope) -> Answer
@@ -28,7 +28,7 @@ impl Server {
         ensures told { result ≢ Refused (refusal_of Memory) → result ≡ answered self.old session envelope.now }
         ensures state { result ≢ Refused (refusal_of Memory) → self.new ≡ asked self.old session envelope.now }
         ensures memory { result ≡ Refused (refusal_of Memory) → self.new ≡ self.old }
-        ensures stays { Stays self.old.past self.new.past }
+        ensures grows { Grows self.old.past self.new.past }
     {
         self.stand();
         match self.asked(alloc, session, envelope) {
@@ -50,7 +50,7 @@ impl Server {
     {
         let id = &envelope.id;
         match &envelope.request {
-            Request::Commit { writes, .. } => self.commit(alloc, session, id, writes),
+            Request::Commit { writes, .. } => self.commit(alloc, session, envelope, writes),
             Request::GetDocument {
                 name,
                 mask,
@@ -113,6 +113,24 @@ impl Server {
     }
 
     fn run(
+        &self,
+        alloc: Global,
+        session: u32,
+        id: &Option<Text>,
+        query: &Query,
+        asked: Option<Micros>,
+    ) -> Result<Answer, AllocError>
+        ensures { IfOk result (λ a. a ≡ unless_refused (query_refusal query.now) (read_answer self.now session
+            (run_answer self.now.past id.now query.now (read_time self.now.past asked)))) }
+    {
+        match query_refusal(alloc, query)? {
+            Some(refusal) => Ok(Answer::Refused(refusal)),
+            None => self.run_permitted(alloc, session, id, query, asked),
+        }
+    }
+
+    // Its query breaks no rule.
+    fn run_permitted(
         &self,
         alloc: Global,
         session: u32,

@@ -1,8 +1,9 @@
 //! The server.
 ghost use Rattle.std.specs.Prelude.{◌≡◌};
 
+use crate::parked::Parked;
 use crate::sessions::Sessions;
-use fs_machine::{Config, Limits, Messages, Unreleased, machines_are_lawful};
+use fs_machine::{Config, Limits, Messages, Numbers, machines_are_lawful};
 use fs_past::{Chain, Past};
 use fs_path::{DocName, Root};
 use fs_status::Id;
@@ -25,8 +26,9 @@ pub struct Server {
     pub(crate) limits: Limits,
     pub(crate) past: Past,
     pub(crate) sessions: Sessions,
-    // the last number that was drawn
-    pub(crate) ids: u64,
+    // those that wait, in the order of their arrival: none, until there are several commits under way
+    pub(crate) parked: Parked,
+    pub(crate) numbers: Numbers,
 }
 
 impl Model for Server {
@@ -38,16 +40,16 @@ impl Model for Server {
 
     ghost use Rattle.fs_server.specs.Kept.{IsKept};
 
-    ghost view = { λ s. record { config = s.config; limits = s.limits; past = s.past; sessions = s.sessions; ids = s.ids } };
+    ghost view = { λ s. record {
+      config = s.config;
+      limits = s.limits;
+      past = s.past;
+      sessions = s.sessions;
+      parked = s.parked;
+      numbers = s.numbers;
+    } };
 
-    ghost invariant = { λ s. IsKept s.limits s.past s.ids };
-}
-
-// Read by reference.
-fn id_of(commit: &Unreleased) -> Id
-    ensures { result ≡ commit.now.batch.id }
-{
-    commit.batch.id
+    ghost invariant = { λ s. IsKept s.limits s.past s.sessions s.parked s.numbers };
 }
 
 impl Server {
@@ -56,14 +58,14 @@ impl Server {
     ghost use Rattle.fs_machine.specs.Alone.{IsAlone};
     ghost use Rattle.fs_machine.specs.Compact.{compacted};
     ghost use Rattle.fs_machine.specs.Facts.{Facts};
-    ghost use Rattle.fs_machine.specs.Laws.{NeverChanged};
+    ghost use Rattle.fs_machine.specs.Grows.{Grows};
+    ghost use Rattle.fs_machine.specs.Laws.{AlwaysGrows};
     ghost use Rattle.fs_machine.specs.Leave.{departed};
     ghost use Rattle.fs_machine.specs.Limits.{AreAllowed};
     ghost use Rattle.fs_machine.specs.Outbox.{outbox_of, taken};
     ghost use Rattle.fs_machine.specs.State.{started};
-    ghost use Rattle.fs_machine.specs.Stays.{Stays};
     ghost use Rattle.fs_machine.specs.Tick.{advanced, ticked};
-    ghost use Rattle.fs_server.specs.Pending.{next_pending as next_in};
+    ghost use Rattle.fs_machine.specs.Pending.{next_pending as next_in};
 
     /// A server without documents and sessions, at a moment. The allocator serves what comes.
     pub fn new(alloc: Global, config: Config, limits: Limits, start: Micros) -> Server
@@ -75,7 +77,11 @@ impl Server {
             limits,
             past: Past::new(alloc, start),
             sessions: Sessions::new(alloc),
-            ids: 0,
+            parked: Parked::new(alloc),
+            numbers: Numbers {
+                ids: 0,
+                sessions: 0,
+            },
         }
     }
 
@@ -103,10 +109,7 @@ impl Server {
         ensures facts { Facts self.now }
     {
         self.stand();
-        match self.past.under_way() {
-            Some(commit) => Some(id_of(commit)),
-            None => None,
-        }
+        self.past.next_pending()
     }
 
     /// A document's versions from the earliest time that can be read on, by rising time, and `None` where there are none.
@@ -117,14 +120,15 @@ impl Server {
         self.past.chain(name)
     }
 
-    /// A session ends, if it is open. Messages that it was still to be sent are lost; its pending commit goes on. It takes no
-    /// memory.
+    /// A session ends, if it is open. Messages that it was still to be sent are lost, and its requests that wait are withdrawn; its
+    /// pending commit goes on. It takes no memory.
     pub fn leave(&mut self, session: u32)
         ensures state { self.new ≡ departed self.old session }
-        ensures stays { Stays self.old.past self.new.past }
+        ensures grows { Grows self.old.past self.new.past }
     {
         self.stand();
         self.sessions.remove(session);
+        self.parked.withdraw(session);
     }
 
     /// The clock goes on to a moment, and what can be is released: the time up to which can be read now. Where memory runs out,
@@ -133,7 +137,7 @@ impl Server {
         ensures ok { OnOk result (self.new ≡ ticked self.old now) }
         ensures told { IfOk result (λ t. t ≡ self.new.past.released) }
         ensures err { OnErr result (self.new ≡ advanced self.old now) }
-        ensures stays { Stays self.old.past self.new.past }
+        ensures grows { Grows self.old.past self.new.past }
     {
         self.stand();
         self.past.advance(now);
@@ -146,7 +150,7 @@ impl Server {
     pub fn compact(&mut self, to: Micros) -> Micros
         ensures state { self.new ≡ compacted self.old to }
         ensures told { result ≡ self.new.past.floor }
-        ensures stays { Stays self.old.past self.new.past }
+        ensures grows { Grows self.old.past self.new.past }
     {
         self.stand();
         self.past.compact(to)
@@ -156,7 +160,7 @@ impl Server {
     pub fn take_outbox(&mut self, alloc: Global, session: u32) -> Messages
         ensures told { result ≡ outbox_of self.old session }
         ensures state { self.new ≡ taken self.old session }
-        ensures stays { Stays self.old.past self.new.past }
+        ensures grows { Grows self.old.past self.new.past }
     {
         self.stand();
         self.sessions.take(alloc, session)
@@ -165,7 +169,7 @@ impl Server {
     // What stands at every moment, and whatever comes.
     pub(crate) fn stand(&self)
         ensures facts { Facts self.now }
-        ensures unchanged { NeverChanged }
+        ensures grows { AlwaysGrows }
     {
         machines_are_lawful();
         let _ = self.past.last();

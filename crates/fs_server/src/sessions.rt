@@ -16,73 +16,58 @@ use std::mem;
 #[derive(Drop)]
 pub struct Sessions {
     list: Vec<Session>,
-    // how many were opened so far
-    given: u64,
 }
 
 impl Model for Sessions {
-    ghost use Rattle.fs_machine.specs.Sessions.{Sessions as Held};
+    ghost use Rattle.std.specs.Prelude.{List};
+    ghost use Rattle.std.specs.Coded.{coded_list};
+    ghost use Rattle.fs_machine.specs.contracts.session.Session as session;
+    ghost use Rattle.fs_machine.specs.declared.session.Session.{Session};
 
-    ghost Value = { Held };
+    ghost Value = { List Session };
 
-    ghost use Rattle.fs_machine.specs.Sessions.{sessions_code};
+    ghost coded = { coded_list session.the_row.coded };
 
-    ghost coded = { sessions_code };
-
-    ghost view = { λ s. record { list = s.list.items; given = s.given } };
+    ghost view = { λ s. s.list.items };
 }
 
 impl Sessions {
-    ghost use Rattle.std.specs.Prelude.{◌≡◌, ◌≢◌, ◌<◌, IfOk, OnOk, OnErr, length};
-    ghost use Rattle.fs_machine.specs.Limits.{session_numbers};
-    ghost use Rattle.fs_machine.specs.Open.{with_session};
-    ghost use Rattle.fs_machine.specs.Sessions.{no_sessions, outbox_in, delivered, emptied, without};
+    ghost use Rattle.std.specs.Prelude.{◌≡◌, ◌∷◌, ◌++◌, [], OnOk, OnErr, length};
+    ghost use Rattle.fs_machine.specs.Sessions.{outbox_in, delivered, emptied, without};
     ghost use Rattle.fs_server.specs.Place.{taken_back};
 
-    /// None is open, and none was.
+    /// None is open. The allocator serves those that open.
     pub fn new(alloc: Global) -> Sessions
-        ensures { result ≡ no_sessions }
+        ensures { result ≡ [] }
     {
         Sessions {
             list: Vec::new(alloc),
-            given: 0,
         }
     }
 
     /// How many are open.
     pub fn len(&self) -> usize
-        ensures { result ≡ length self.now.list }
+        ensures { result ≡ length self.now }
     {
         self.list.len()
     }
 
-    /// How many were opened so far: the number of the next.
-    pub fn given(&self) -> u64
-        ensures { result ≡ self.now.given }
-    {
-        self.given
-    }
-
-    /// Opens one more, and tells its number.
-    pub fn add(&mut self, alloc: Global) -> Result<u32, AllocError>
-        requires { self.old.given < session_numbers }
-        ensures ok { OnOk result (self.new ≡ with_session self.old) }
-        ensures number { IfOk result (λ n. n ≡ self.old.given) }
+    /// Opens one more, of this number.
+    pub fn add(&mut self, alloc: Global, number: u32) -> Result<(), AllocError>
+        ensures ok { OnOk result (self.new ≡ self.old ++ record { number = number; outbox = [] } ∷ []) }
         ensures err { OnErr result (self.new ≡ self.old) }
     {
-        let number = self.given as u32;
-        self.list.push(Session {
-            number,
-            outbox: Messages::new(alloc),
-        })?;
-        self.given += 1;
-        Ok(number)
+        Ok(
+            self.list.push(Session {
+                number,
+                outbox: Messages::new(alloc),
+            })?,
+        )
     }
 
     /// Closes one, if it is open. It takes no memory.
     pub fn remove(&mut self, number: u32)
-        ensures list { self.new.list ≡ without number self.old.list }
-        ensures given { self.new.given ≡ self.old.given }
+        ensures { self.new ≡ without number self.old }
     {
         match place_in(&self.list, number) {
             Some(place) => {
@@ -94,7 +79,7 @@ impl Sessions {
 
     /// How many messages a session has still to be sent; none, where it isn't open.
     pub fn outbox_len(&self, number: u32) -> usize
-        ensures { result ≡ length (outbox_in number self.now.list) }
+        ensures { result ≡ length (outbox_in number self.now) }
     {
         match place_in(&self.list, number) {
             Some(place) => self.list[place].outbox.len(),
@@ -104,8 +89,7 @@ impl Sessions {
 
     /// A message more for a session, if it is open.
     pub fn deliver(&mut self, number: u32, message: Message) -> Result<(), AllocError>
-        ensures ok { OnOk result (self.new.list ≡ delivered number message self.old.list) }
-        ensures given { self.new.given ≡ self.old.given }
+        ensures ok { OnOk result (self.new ≡ delivered number message self.old) }
         ensures err { OnErr result (self.new ≡ self.old) }
     {
         match place_in(&self.list, number) {
@@ -116,8 +100,7 @@ impl Sessions {
 
     /// Takes a session's last message back, so that a message that was told is as if it hadn't been. It takes no memory.
     pub fn take_back(&mut self, number: u32)
-        ensures list { self.new.list ≡ taken_back number self.old.list }
-        ensures given { self.new.given ≡ self.old.given }
+        ensures { self.new ≡ taken_back number self.old }
     {
         match place_in(&self.list, number) {
             Some(place) => self.list[place].outbox.take_back(),
@@ -127,9 +110,8 @@ impl Sessions {
 
     /// A session's messages, of which it has none left. It takes no memory.
     pub fn take(&mut self, alloc: Global, number: u32) -> Messages
-        ensures messages { result ≡ outbox_in number self.old.list }
-        ensures list { self.new.list ≡ emptied number self.old.list }
-        ensures given { self.new.given ≡ self.old.given }
+        ensures messages { result ≡ outbox_in number self.old }
+        ensures list { self.new ≡ emptied number self.old }
     {
         match place_in(&self.list, number) {
             Some(place) => mem::replace(&mut self.list[place].outbox, Messages::new(alloc)),

@@ -47,10 +47,9 @@ impl Server {
     ghost use Rattle.fs_rpc.specs.declared.message.Message.TheVariants.{Commit};
     ghost use Rattle.fs_machine.specs.Alone.{IsAlone, with_batch, without_batch};
     ghost use Rattle.fs_machine.specs.Settle.{ComesTo, Settles, pending_of};
-    ghost use Rattle.fs_machine.specs.Stays.{Stays};
-    ghost use Rattle.fs_machine.specs.declared.unreleased.Unreleased.{Unreleased};
-    ghost use Rattle.fs_past.specs.UnderWay.{AreChangesUnderWay, IsUnderWay};
-    ghost use Rattle.fs_server.specs.Place.{with_message};
+    ghost use Rattle.fs_machine.specs.Grows.{Grows};
+    ghost use Rattle.fs_machine.specs.declared.answer.Outcome.TheVariants.{Effects};
+    ghost use Rattle.fs_machine.specs.Sessions.{delivered};
 
     /// What the writes of a pending commit come to, on what the commits before it leave. It is never refused for want of memory.
     /// (docs/DECISIONS.md, "What writes come to doesn't hang on memory".)
@@ -58,8 +57,7 @@ impl Server {
         requires { IsSome (pending_of self.now.past commit) }
         ensures { IfOk result (λ o. ComesTo self.now.past commit o) }
     {
-        self.alone(commit);
-        self.past.outcome(alloc)
+        self.past.outcome(alloc, commit)
     }
 
     /// A pending commit is settled with what its writes come to: it is accepted, or dropped where they are refused; what can be
@@ -68,16 +66,18 @@ impl Server {
     pub fn settle(&mut self, alloc: Global, commit: Id, outcome: Outcome) -> Settled
         requires { ComesTo self.old.past commit outcome }
         ensures settles { Settles self.old self.new commit result }
-        ensures stays { Stays self.old.past self.new.past }
+        ensures grows { Grows self.old.past self.new.past }
     {
         self.stand();
         self.alone(commit);
         match outcome {
-            Outcome::Effects(changes, results) => match self.accept(alloc, changes, results) {
+            Outcome::Effects(changes, results) => match self.accept(
+                alloc, commit, changes, results,
+            ) {
                 Ok(time) => Settled::Released(time),
                 Err(_) => Settled::Memory(None),
             },
-            Outcome::Refused(refusal) => match self.reject(alloc, &refusal) {
+            Outcome::Refused(refusal) => match self.reject(alloc, commit, &refusal) {
                 Ok(()) => Settled::Dropped,
                 Err(_) => Settled::Memory(None),
             },
@@ -90,31 +90,33 @@ impl Server {
         ensures { IsAlone self.now.past commit }
     {
         let _ = commit;
-        let _ = self.past.under_way();
+        let _ = &self.past;
     }
 
-    // The commit that is under way is accepted, with these changes and results: its time.
+    // The commit, which is alone, is accepted, with these changes and results: its time.
     fn accept(
         &mut self,
         alloc: Global,
+        id: Id,
         changes: Changes,
         results: WriteResults,
     ) -> Result<Micros, AllocError>
-        requires { (u : Unreleased) × IsUnderWay self.old.past u × AreChangesUnderWay self.old.past u changes }
-        ensures state { OnOk result ((u : Unreleased) → IsUnderWay self.old.past u → self.new ≡ record self.old {
-          past = with_batch self.old.past u;
-          sessions = with_message u.session (Commit u.request u.batch.time results) self.old.sessions;
+        requires alone { IsAlone self.old.past id }
+        requires comes { ComesTo self.old.past id (Effects changes results) }
+        ensures state { OnOk result ((a : IsAlone self.old.past id) → self.new ≡ record self.old {
+          past = with_batch self.old.past a.commit;
+          sessions = delivered a.commit.session (Commit a.commit.request a.commit.batch.time results) self.old.sessions;
         }) }
-        ensures time { IfOk result (λ t. (u : Unreleased) → IsUnderWay self.old.past u → t ≡ u.batch.time) }
+        ensures time { IfOk result (λ t. (a : IsAlone self.old.past id) → t ≡ a.commit.batch.time) }
         ensures err { OnErr result (self.new ≡ self.old) }
     {
         self.stand();
-        let commit = self.under_way();
+        let commit = self.pending(id);
         let session = session_of(commit);
         let time = commit.time();
         let message = acceptance(alloc, commit, results)?;
         self.sessions.deliver(session, message)?;
-        match self.past.accept(alloc, changes) {
+        match self.past.accept_alone(alloc, id, changes) {
             Ok(()) => Ok(time),
             Err(error) => {
                 self.sessions.take_back(session);
@@ -123,20 +125,21 @@ impl Server {
         }
     }
 
-    // The commit that is under way is dropped, for this reason.
-    fn reject(&mut self, alloc: Global, refusal: &Refusal) -> Result<(), AllocError>
-        requires { (u : Unreleased) × IsUnderWay self.old.past u }
-        ensures state { OnOk result ((u : Unreleased) → IsUnderWay self.old.past u → self.new ≡ record self.old {
+    // The commit, which is alone, is dropped, for this reason.
+    fn reject(&mut self, alloc: Global, id: Id, refusal: &Refusal) -> Result<(), AllocError>
+        requires { IsAlone self.old.past id }
+        ensures state { OnOk result ((a : IsAlone self.old.past id) → self.new ≡ record self.old {
           past = without_batch self.old.past;
-          sessions = with_message u.session (refused u.request refusal.now) self.old.sessions;
+          sessions = delivered a.commit.session (refused a.commit.request refusal.now) self.old.sessions;
         }) }
         ensures err { OnErr result (self.new ≡ self.old) }
     {
-        let commit = self.under_way();
+        self.stand();
+        let commit = self.pending(id);
         let session = session_of(commit);
         let message = rejection(alloc, commit, refusal)?;
         self.sessions.deliver(session, message)?;
-        match self.past.reject(alloc) {
+        match self.past.reject_alone(alloc, id) {
             Ok(()) => Ok(()),
             Err(error) => {
                 self.sessions.take_back(session);
@@ -145,11 +148,11 @@ impl Server {
         }
     }
 
-    fn under_way(&self) -> &Unreleased
-        requires { (u : Unreleased) × IsUnderWay self.now.past u }
-        ensures { (u : Unreleased) → IsUnderWay self.now.past u → result.now ≡ u }
+    fn pending(&self, id: Id) -> &Unreleased
+        requires { IsAlone self.now.past id }
+        ensures { (a : IsAlone self.now.past id) → result.now ≡ a.commit }
     {
-        match self.past.under_way() {
+        match self.past.commit(id) {
             Some(commit) => commit,
             None => unreachable!(),
         }

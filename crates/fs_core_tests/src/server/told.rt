@@ -113,6 +113,11 @@ pub(crate) fn push_open(
     }
 }
 
+fn push_held(text: &mut String, commit: Id) -> Result<(), AllocError> {
+    let commit = commit.get();
+    write!(text, "held behind {commit}")
+}
+
 fn push_pending(text: &mut String, commit: Id, time: Micros) -> Result<(), AllocError> {
     let commit = commit.get();
     let time = time.get();
@@ -127,6 +132,7 @@ pub(crate) fn push_answer(
     match answer {
         Answer::Reply(message) => push_message(text, message),
         Answer::Prepared(commit, time) => push_pending(text, *commit, *time),
+        Answer::Held(commit) => push_held(text, *commit),
         Answer::Refused(refusal) => push_refusal(text, alloc, refusal),
     }
 }

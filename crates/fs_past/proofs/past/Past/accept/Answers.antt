@@ -1,37 +1,56 @@
-use Rattle.std.proofs.Common.{[], ◌∷◌, sym, ap, ◌∙◌, subst}
-use Rattle.fs_history.specs.Journal.{Recorded}
+use Rattle.std.proofs.Common.{◌≡◌, Some, sym, ap, ◌∙◌, subst}
+use Rattle.std.specs.Option.{option_copied}
+use Rattle.fs_board.specs.Board.{asked_in}
+use Rattle.fs_machine.specs.declared.answer.Outcome.TheVariants as outcome
+use Rattle.fs_machine.specs.Past.{Past}
+use Rattle.fs_machine.specs.Settle.{ComesTo, accepted_in}
 use Rattle.fs_past.specs.Kept.{past_of, IsKept}
-use Rattle.fs_past.proofs.Keeping.{after_accept, fits_alone, joined_is, kept_accepted}
+use Rattle.fs_past.proofs.Keeping.{after_accept, comes_pending, found_held, kept_accepted, lent_there, pending_on_board}
 use Rattle.fs_past.proofs.past.Past.accept.Goals as goal
 
-pub bring-requires : goal.bring-requires
-bring-requires c =
+pub accept-requires : goal.accept-requires
+accept-requires c =
     let s = c.self.inside in
-    let u = c.requires.0 in
-    fits_alone s.journal.history s.under_way s.store s.last s.moment c.self.invariant c.args.self.now c.self.view_is u c.requires.1 c.args.changes c.in_ok-changes.changes
-    (c.in_ok-changes.ensures ∙ ap (λ x. x ∷ []) (c.timed-commit.ensures u c.requires.1)) c.histories_are_lawful.ensures.last_changes c.requires.2
+    let differ = c.last.ensures.rising.ids in
+    pending_on_board s.journal s.board s.store s.moment s.waiting c.self.invariant differ c.args.id
+    (comes_pending s.journal s.board s.store s.moment s.waiting c.self.invariant c.args.id (outcome.Effects c.args.changes c.args.results)
+    (subst (λ p. ComesTo p c.args.id (outcome.Effects c.args.changes c.args.results)) (sym c.self.view_is) c.requires))
 
-pub invariant_of-self-2 : goal.invariant_of-self-2
-invariant_of-self-2 c =
+pub unwrap-requires : goal.unwrap-requires
+unwrap-requires c =
     let s = c.self.inside in
-    let u = c.requires.0 in
-    let under = c.requires.1 in
-    let joined =
-    joined_is s.journal.history s.under_way s.store s.last s.moment c.self.invariant c.args.self.now c.self.view_is u under c.unwrap-accepted.result c.reserve.new.self.history c.push.new.self.history
-    (sym c.take.ensures.value ∙ c.unwrap-accepted.ensures) c.in_ok-reserve.ensures.same (ap (λ (r : Recorded). r.history) c.push.ensures)
-    in
-    subst (λ o. IsKept c.push.new.self.history o c.bring.new.store s.last s.moment) (sym c.take.ensures.after)
-    (kept_accepted s.journal.history s.under_way s.store s.last s.moment c.self.invariant c.args.self.now c.self.view_is u under c.args.changes c.in_ok-changes.changes
-    (c.in_ok-changes.ensures ∙ ap (λ x. x ∷ []) (c.timed-commit.ensures u under)) c.histories_are_lawful.ensures.last_changes c.requires.2
-    c.push.new.self.history c.bring.new.store joined c.in_ok-bring.ensures.ok c.in_ok-bring.ensures.shows)
+    let differ = c.last.ensures.rising.ids in
+    lent_there s.journal s.board s.store s.moment s.waiting c.self.invariant differ c.args.id
+    (comes_pending s.journal s.board s.store s.moment s.waiting c.self.invariant c.args.id (outcome.Effects c.args.changes c.args.results)
+    (subst (λ p. ComesTo p c.args.id (outcome.Effects c.args.changes c.args.results)) (sym c.self.view_is) c.requires))
+    c.asked.result c.asked.ensures
 
-pub returns-clause-ok : goal.returns-clause-ok
-returns-clause-ok c = λ u done under.
+pub invariant_of-self : goal.invariant_of-self
+invariant_of-self c =
     let s = c.self.inside in
-    let joined =
-    joined_is s.journal.history s.under_way s.store s.last s.moment c.self.invariant c.args.self.now c.self.view_is u under c.unwrap-accepted.result c.reserve.new.self.history c.push.new.self.history
-    (sym c.take.ensures.value ∙ c.unwrap-accepted.ensures) c.in_ok-reserve.ensures.same (ap (λ (r : Recorded). r.history) c.push.ensures)
+    let differ = c.last.ensures.rising.ids in
+    let pending =
+    pending_on_board s.journal s.board s.store s.moment s.waiting c.self.invariant differ c.args.id
+    (comes_pending s.journal s.board s.store s.moment s.waiting c.self.invariant c.args.id (outcome.Effects c.args.changes c.args.results)
+    (subst (λ p. ComesTo p c.args.id (outcome.Effects c.args.changes c.args.results)) (sym c.self.view_is) c.requires))
     in
-    ap (λ o. past_of c.push.new.self.history o c.bring.new.store s.last s.moment) c.take.ensures.after
-    ∙ after_accept s.journal.history s.under_way s.store s.last s.moment c.self.invariant c.args.self.now c.self.view_is u under c.args.changes c.in_ok-changes.changes
-    (c.in_ok-changes.ensures ∙ ap (λ x. x ∷ []) (c.timed-commit.ensures u under)) c.push.new.self.history c.bring.new.store done joined c.in_ok-bring.ensures.ok
+    let at : asked_in c.args.id s.board.commits ≡ Some c.unwrap.result.now = sym c.asked.ensures ∙ ap option_copied c.unwrap.ensures in
+    let found = found_held s.journal s.board s.store s.moment s.waiting c.self.invariant differ c.args.id c.unwrap.result.now at pending in
+    subst (λ b. IsKept s.journal b s.store s.moment s.waiting) (sym c.accept.ensures)
+    (kept_accepted s.journal s.board s.store s.moment s.waiting c.self.invariant c.args.id c.unwrap.result.now found at pending c.time-time.result c.time-time.ensures c.args.changes c.args.results
+    (subst (λ p. ComesTo p c.args.id (outcome.Effects c.args.changes c.args.results)) (sym c.self.view_is) c.requires))
+
+pub returns : goal.returns
+returns c =
+    let s = c.self.inside in
+    let differ = c.last.ensures.rising.ids in
+    let pending =
+    pending_on_board s.journal s.board s.store s.moment s.waiting c.self.invariant differ c.args.id
+    (comes_pending s.journal s.board s.store s.moment s.waiting c.self.invariant c.args.id (outcome.Effects c.args.changes c.args.results)
+    (subst (λ p. ComesTo p c.args.id (outcome.Effects c.args.changes c.args.results)) (sym c.self.view_is) c.requires))
+    in
+    let at : asked_in c.args.id s.board.commits ≡ Some c.unwrap.result.now = sym c.asked.ensures ∙ ap option_copied c.unwrap.ensures in
+    let found = found_held s.journal s.board s.store s.moment s.waiting c.self.invariant differ c.args.id c.unwrap.result.now at pending in
+    ap (λ b. past_of s.journal.history b s.store s.moment) c.accept.ensures
+    ∙ after_accept s.journal s.board s.store s.moment s.waiting c.self.invariant c.args.id c.unwrap.result.now found at pending c.time-time.result c.time-time.ensures c.args.changes c.args.results
+    ∙ ap (λ (p : Past). record p { unreleased = accepted_in c.args.id c.args.results p.unreleased }) c.self.view_is

@@ -1,23 +1,21 @@
-use Rattle.std.proofs.Common.{Some, sym, ap, ◌∙◌, subst}
-use Rattle.fs_machine.specs.Commit.{next_time, past_prepared}
-use Rattle.fs_machine.specs.Past.{Past}
-use Rattle.fs_past.specs.Kept.{past_of, IsKept}
-use Rattle.fs_past.proofs.Keeping.{after_prepare, kept_prepared, none_is}
+use Rattle.std.proofs.Common.{rules, ◌≡◌, ◌+◌, ◌≤◌, length, sym, ap, ◌∙◌, subst}
+use Rattle.fs_board.specs.Board.{HasNo, prepared}
+use Rattle.fs_history.specs.Bytes.{batch_size}
+use Rattle.fs_past.specs.Kept.{IsKept}
+use Rattle.fs_past.proofs.Keeping.{fresh_on_board, kept_prepared}
 use Rattle.fs_past.proofs.past.Past.prepare.Goals as goal
 
-pub invariant_of-self : goal.invariant_of-self
-invariant_of-self c =
+pub prepare-requires : goal.prepare-requires
+prepare-requires c =
     let s = c.self.inside in
-    let view = c.self.view_is in
-    subst (λ t. IsKept s.journal.history (Some c.args.commit) s.store t s.moment) (sym c.time-self-inside.ensures)
-    (kept_prepared s.journal.history s.under_way s.store s.last s.moment c.self.invariant c.args.commit (ap (λ (p : Past). p.unreleased) view ∙ c.requires.none)
-    (none_is c.args.commit.results c.requires.pending)
-    (c.requires.time ∙ ap next_time (sym view)))
+    subst (λ id. HasNo id s.board.commits) (sym c.id_of-id.ensures)
+    (fresh_on_board s.journal s.board s.store s.moment s.waiting c.self.invariant c.args.self.now c.self.view_is c.args.commit.batch.id c.requires.fresh)
 
-pub returns : goal.returns
-returns c =
+pub invariant_of-self-2 : goal.invariant_of-self-2
+invariant_of-self-2 c =
     let s = c.self.inside in
-    let view = c.self.view_is in
-    ap (λ t. past_of s.journal.history (Some c.args.commit) s.store t s.moment) c.time-self-inside.ensures
-    ∙ after_prepare s.journal.history s.under_way s.store s.last s.moment c.self.invariant c.args.commit (ap (λ (p : Past). p.unreleased) view ∙ c.requires.none)
-    ∙ ap (λ p. past_prepared p c.args.commit) view
+    let room : length s.board.commits + 1 ≤ c.reserve.new.self.room = search rules in
+    let exact : s.waiting + c.bytes_in.result ≡ s.waiting + batch_size c.args.commit.batch = search rules in
+    subst (λ b. IsKept c.reserve.new.self b s.store s.moment (s.waiting + c.bytes_in.result)) (sym (c.in_default-prepare.ensures.ok ∙ ap (λ id. prepared s.board id c.args.commit) c.id_of-id.ensures))
+    (kept_prepared s.journal s.board s.store s.moment s.waiting c.self.invariant c.args.self.now c.self.view_is c.reserve.new.self c.in_ok-reserve.ensures.same c.args.commit c.requires.pending c.requires.time c.requires.free
+    room (s.waiting + c.bytes_in.result) exact)

@@ -1,29 +1,25 @@
-use Rattle.std.proofs.Common.{sym, ap, ◌∙◌}
-use Rattle.fs_machine.specs.Past.{Past}
-use Rattle.fs_machine.specs.Release.{free_to, let_out, past_released}
-use Rattle.fs_past.proofs.Keeping.{after_release, fits_free, kept_released, none_let_out}
+use Rattle.std.proofs.Common.{ap, ◌∙◌}
+use Rattle.fs_machine.specs.Release.{past_released}
+use Rattle.fs_past.proofs.Keeping.{after_release, fits_board, go_on_board, kept_released}
 use Rattle.fs_past.proofs.past.Past.release.Goals as goal
 
 pub bring-requires : goal.bring-requires
 bring-requires c =
     let s = c.self.inside in
-    fits_free s.journal.history s.under_way s.store s.last s.moment c.self.invariant c.free_to-to.result c.nothing.result
-    (c.free_to-to.ensures ∙ ap (λ (p : Past). free_to p.last p.unreleased) (sym c.self.view_is)) c.nothing.ensures
+    fits_board s.journal s.board s.store s.moment s.waiting c.self.invariant c.histories_are_lawful.ensures.last_changes c.released-to.result c.in_ok-changes.changes c.released-to.ensures.value c.in_ok-changes.ensures
+
+pub let_in-requires-clause-times : goal.let_in-requires-clause-times
+let_in-requires-clause-times c = let s = c.self.inside in go_on_board s.journal s.board s.store s.moment s.waiting c.self.invariant
 
 pub invariant_of-self-2 : goal.invariant_of-self-2
 invariant_of-self-2 c =
     let s = c.self.inside in
-    kept_released s.journal.history s.under_way s.store c.bring.new.store s.last s.moment c.free_to-to.result c.nothing.result c.self.invariant c.nothing.ensures c.in_ok-bring.ensures.ok
-    (c.free_to-to.ensures ∙ ap (λ (p : Past). free_to p.last p.unreleased) (sym c.self.view_is)) c.in_ok-bring.ensures.shows
+    kept_released s.journal s.board s.store s.moment s.waiting c.self.invariant c.histories_are_lawful.ensures.last_changes c.released-to.result c.in_ok-changes.changes c.released-to.ensures.value c.in_ok-changes.ensures
+    c.let_in.new.journal c.let_in.new.board c.bring.new.store c.let_in.new.waiting c.let_in.ensures.history c.let_in.ensures.board c.in_ok-bring.ensures.ok c.in_ok-bring.ensures.shows c.let_in.ensures.room c.let_in.ensures.waiting
 
 pub returns-clause-ok : goal.returns-clause-ok
 returns-clause-ok c =
     let s = c.self.inside in
-    after_release s.journal.history s.under_way s.store c.bring.new.store s.last s.moment c.free_to-to.result c.nothing.result c.self.invariant c.nothing.ensures c.in_ok-bring.ensures.ok
-    (c.free_to-to.ensures ∙ ap (λ (p : Past). free_to p.last p.unreleased) (sym c.self.view_is))
+    after_release s.journal s.board s.store s.moment s.waiting c.self.invariant c.histories_are_lawful.ensures.last_changes c.released-to.result c.in_ok-changes.changes c.released-to.ensures.value c.in_ok-changes.ensures
+    c.let_in.new.journal c.let_in.new.board c.bring.new.store c.let_in.new.waiting c.let_in.ensures.history c.let_in.ensures.board c.in_ok-bring.ensures.ok
     ∙ ap past_released c.self.view_is
-
-pub returns-clause-none : goal.returns-clause-none
-returns-clause-none c =
-    let s = c.self.inside in
-    ap let_out (sym c.self.view_is) ∙ none_let_out s.under_way s.journal.history s.store s.last s.moment c.self.invariant.pending

@@ -1,5 +1,3 @@
-use Rattle.std.proofs.Common.{ap}
-use Rattle.fs_machine.specs.Sessions.{Sessions}
 use Rattle.std.specs.Prelude.{◌∷◌, ◌++◌, []}
 use Rattle.std.proofs.lemmas.Result.{on_ok_weaker}
 use Rattle.fs_server.proofs.Places.{changed_here, unchanged_here}
@@ -7,7 +5,7 @@ use Rattle.fs_server.proofs.sessions.Sessions.deliver.Goals as goal
 
 pub returns-in-Some-clause-ok : goal.returns-in-Some-clause-ok
 returns-in-Some-clause-ok c =
-    on_ok_weaker c.push.result (λ told. changed_here c.args.number c.self.inside.list.items c.args.self.now.list c.deref.result.now c.deref.ensures.value (ap (λ (s : Sessions). s.list) c.self.view_is) (λ ms. ms ++ c.args.message ∷ []) c.in-Some.place c.index_mut.result.now c.push.new.self c.in-Some.ensures.place c.index_mut.ensures.value told) c.push.ensures.ok
+    on_ok_weaker c.push.result (λ told. changed_here c.args.number c.self.inside.list.items c.args.self.now c.deref.result.now c.deref.ensures.value c.self.view_is (λ ms. ms ++ c.args.message ∷ []) c.in-Some.place c.index_mut.result.now c.push.new.self c.in-Some.ensures.place c.index_mut.ensures.value told) c.push.ensures.ok
 
 pub returns-in-None-clause-ok : goal.returns-in-None-clause-ok
-returns-in-None-clause-ok c = unchanged_here c.args.number c.self.inside.list.items c.args.self.now.list c.deref.result.now c.deref.ensures.value (ap (λ (s : Sessions). s.list) c.self.view_is) (λ ms. ms ++ c.args.message ∷ []) c.in-None.ensures.place
+returns-in-None-clause-ok c = unchanged_here c.args.number c.self.inside.list.items c.args.self.now c.deref.result.now c.deref.ensures.value c.self.view_is (λ ms. ms ++ c.args.message ∷ []) c.in-None.ensures.place

@@ -1,0 +1,59 @@
+-- The numbers of sessions rise in the order of opening, still, after each event.
+use Rattle.std.proofs.Common.{◌≡◌, ℕ, ◌+◌, ◌≤◌, Bool, true, false, cond, List, [], ◌∷◌, ◌++◌, map, refl, sym, ap, subst, arith}
+use Rattle.std.specs.Prelude.{◌==◌}
+use Rattle.fs_rpc.specs.declared.message.Message.{Message}
+use Rattle.fs_machine.specs.Release.{all_delivered, reply_to}
+use Rattle.fs_machine.specs.Sessions.{delivered, with_outbox, without}
+use Rattle.fs_machine.specs.SessionsNumbered.{NumbersRise, SessionsNumbered}
+use Rattle.fs_machine.specs.declared.session.Session.{Session}
+use Rattle.fs_machine.specs.declared.unreleased.Unreleased.{Unreleased}
+
+-- the numbers of sessions
+abbrev pub numbers_of : List Session → List ℕ
+numbers_of ss = map (λ s. s.number) ss
+
+pub rise_within : (ns : List ℕ) (from to : ℕ) → NumbersRise from to ns → from ≤ to
+rise_within [] from to rise = rise
+rise_within (n ∷ ns) from to rise = let rest = rise_within ns (n + 1) to rise.1 in let first = rise.0 in omega arith
+
+-- one more, with the number of the next
+rise_more : (ss : List Session) (s : Session) (from to : ℕ) → s.number ≡ to → NumbersRise from to (numbers_of ss) → NumbersRise from (to + 1) (numbers_of (ss ++ s ∷ []))
+rise_more [] s from to is rise = (omega (arith, is, rise), omega (arith, is))
+rise_more (t ∷ ss) s from to is rise = (rise.0, rise_more ss s (t.number + 1) to is rise.1)
+
+pub sessions_opened : (ss : List Session) (given : ℕ) → SessionsNumbered ss given → SessionsNumbered (ss ++ record { number = given; outbox = [] } ∷ []) (given + 1)
+sessions_opened ss given rise = rise_more ss (record { number = given; outbox = [] }) 0 given refl rise
+
+-- one less
+pub rise_lower : (ns : List ℕ) (low from to : ℕ) → low ≤ from → NumbersRise from to ns → NumbersRise low to ns
+rise_lower [] low from to lower rise = omega arith
+rise_lower (n ∷ ns) low from to lower rise = let first = rise.0 in (omega (arith, first), rise.1)
+
+less_next : (s : Session) (ss : List Session) (number from to : ℕ) (b : Bool) → from ≤ s.number → NumbersRise (s.number + 1) to (numbers_of ss) → NumbersRise (s.number + 1) to (numbers_of (without number ss))
+    → NumbersRise from to (numbers_of (cond b ss (s ∷ without number ss)))
+less_next s ss number from to true first rise more = rise_lower (numbers_of ss) from (s.number + 1) to (omega arith) rise
+less_next s ss number from to false first rise more = (first, more)
+
+rise_less : (ss : List Session) (number from to : ℕ) → NumbersRise from to (numbers_of ss) → NumbersRise from to (numbers_of (without number ss))
+rise_less [] number from to rise = rise
+rise_less (s ∷ ss) number from to rise = less_next s ss number from to (s.number == number) rise.0 rise.1 (rise_less ss number (s.number + 1) to rise.1)
+
+pub sessions_departed : (ss : List Session) (number given : ℕ) → SessionsNumbered ss given → SessionsNumbered (without number ss) given
+sessions_departed ss number given rise = rise_less ss number 0 given rise
+
+-- other messages
+same_next : (s : Session) (ss : List Session) (number : ℕ) (change : List Message → List Message) (b : Bool) → numbers_of (with_outbox number change ss) ≡ numbers_of ss
+    → numbers_of (cond b (record s { outbox = change s.outbox } ∷ ss) (s ∷ with_outbox number change ss)) ≡ s.number ∷ numbers_of ss
+same_next s ss number change true more = refl
+same_next s ss number change false more = ap (λ ns. s.number ∷ ns) more
+
+same_numbers : (ss : List Session) (number : ℕ) (change : List Message → List Message) → numbers_of (with_outbox number change ss) ≡ numbers_of ss
+same_numbers [] number change = refl
+same_numbers (s ∷ ss) number change = same_next s ss number change (s.number == number) (same_numbers ss number change)
+
+pub sessions_changed : (ss : List Session) (number given : ℕ) (change : List Message → List Message) → SessionsNumbered ss given → SessionsNumbered (with_outbox number change ss) given
+sessions_changed ss number given change rise = subst (NumbersRise 0 given) (sym (same_numbers ss number change)) rise
+
+pub sessions_told : (us : List Unreleased) (ss : List Session) (given : ℕ) → SessionsNumbered ss given → SessionsNumbered (all_delivered us ss) given
+sessions_told [] ss given rise = rise
+sessions_told (u ∷ us) ss given rise = sessions_told us (delivered u.session (reply_to u) ss) given (sessions_changed ss u.session given (λ ms. ms ++ reply_to u ∷ []) rise)

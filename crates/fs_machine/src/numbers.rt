@@ -1,0 +1,10 @@
+//! Numbers that were given.
+
+/// How many numbers a server has given so far. None is given twice.
+#[derive(Clone, Copy, Debug, PartialEq, Eq)]
+pub struct Numbers {
+    /// The last that a commit drew. They count from 1.
+    pub ids: u64,
+    /// How many sessions were opened: the number of the next.
+    pub sessions: u64,
+}

@@ -1,0 +1,13 @@
+//! Requests that wait.
+use fs_rpc::Envelope;
+use fs_status::Id;
+
+/// A request that is held by a commit which isn't released yet. It waits, and is tried again.
+#[derive(Drop, Debug)]
+pub struct ParkedRequest {
+    /// The session that asked.
+    pub session: u32,
+    /// The number that it drew as it came.
+    pub id: Id,
+    pub envelope: Envelope,
+}
