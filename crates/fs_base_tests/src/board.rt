@@ -25,8 +25,10 @@ last => 7
 released => 4
 next => 1
 asked 2 => 200
+waiting 2 => 200
 accept 2 22 =>
 asked 2 => 200
+waiting 2 => none
 released => 4
 next => 1
 ready => none
@@ -35,10 +37,10 @@ accept 1 11 =>
 released => 6
 next => 3
 count => 3
-ready => 2 11 22
+ready => 2 100 11 200 22
 take => 5 100 11
 count => 2
-ready => 1 22
+ready => 1 200 22
 released => 6
 take => 6 200 22
 count => 1
@@ -67,6 +69,7 @@ const BY_ID: &str = "
 pending 7 => false
 time 7 => none
 asked 7 => none
+waiting 7 => none
 prepare 7 7 => -2
 prepare 3 3 => -1
 prepare 18446744073709551615 1 => 0
@@ -161,12 +164,12 @@ fn push_taken(rt: &impl Abort, told: &mut String, taken: Option<(Micros, u64, u6
     }
 }
 
-// How many commits are ready, and what they bring.
+// How many commits are ready, and both numbers of each.
 fn push_ready(rt: &impl Abort, alloc: Global, told: &mut String, board: &Board<u64, u64>) {
-    let batches = board.all_ready(alloc).expect(rt, "memory");
-    push_count(rt, told, batches.is_empty(), batches.len());
-    for batch in &batches {
-        write!(told, " {batch}").expect(rt, "memory");
+    let ready = board.all_ready(alloc).expect(rt, "memory");
+    push_count(rt, told, ready.is_empty(), ready.len());
+    for (asked, batch) in &ready {
+        write!(told, " {asked} {batch}").expect(rt, "memory");
     }
 }
 
@@ -216,6 +219,7 @@ impl Called for Board<u64, u64> {
             }
             "time" => push_time(rt, told, self.time_of(id(rt, rest))),
             "asked" => push_asked(rt, told, self.asked(id(rt, rest))),
+            "waiting" => push_asked(rt, told, self.pending(id(rt, rest))),
             "prepare" => {
                 let (first, asked) = split(rest);
                 push_prepared(

@@ -20,6 +20,11 @@ behind 1 p/d/c/a => none
 behind 2 p/d/c/b => 1
 behind 2 p/d/c/a => 1
 behind 2 p/d/c/d => none
+one 2 p/d/c/b => 1
+one 1 p/d/c/b => 3
+one 3 p/d/c/a => 1
+one 1 p/d/c/a => none
+one 1 p/d/c/d => none
 behind 2 => none
 hold 2 p/d/c/d =>
 behind 3 p/d/c/d p/d/c/b => 1
@@ -112,6 +117,10 @@ impl Called for Locks {
         match call {
             "hold" => hold(rt, alloc, self, id, names_of(rt, alloc, text)),
             "release" => self.release_all(id),
+            "one" => {
+                let other = self.behind_name(&name(rt, alloc, text), id);
+                push_id(rt, told, other);
+            }
             "behind" => {
                 let other = self.behind(&names_of(rt, alloc, text), id);
                 push_id(rt, told, other);

@@ -63,16 +63,15 @@ fn take_in(alloc: Global, store: &mut Store, commit: TimedChange) -> Result<bool
         to,
         changes,
     };
-    let done = absorb(alloc, store, &release);
-    drop(release);
-    done
+    absorb(alloc, store, release)
 }
 
-fn absorb(alloc: Global, store: &mut Store, release: &Release) -> Result<bool, AllocError> {
-    if !store.fits(release) {
+fn absorb(alloc: Global, store: &mut Store, release: Release) -> Result<bool, AllocError> {
+    if !store.fits(&release) {
         return Ok(false);
     }
-    store.absorb(alloc, release)?;
+    store.make_room(alloc, &release)?;
+    store.absorb(release);
     Ok(true)
 }
 

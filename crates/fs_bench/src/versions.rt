@@ -171,7 +171,9 @@ fn install_one(
     }
     let mut one = Vec::new(alloc);
     one.push(change)?;
-    versions.install(alloc, &Changes::of(one), time)?;
+    let changes = Changes::of(one);
+    versions.make_room(alloc, &changes, 1)?;
+    versions.install(changes, time);
     Ok(true)
 }
 

@@ -1,15 +1,15 @@
 -- Where the commit of an id stands among the entries by time, and what becomes of it there.
-use Rattle.std.proofs.Common.{◌≡◌, ℕ, ℤ, ◌<ℤ◌, Bool, true, false, cond, List, [], ◌∷◌, ◌++◌, Option, Some, None, refl, ap, ◌∙◌, subst, arith}
+use Rattle.std.proofs.Common.{◌≡◌, ℕ, ℤ, ◌<ℤ◌, Bool, true, false, cond, List, [], ◌∷◌, ◌++◌, Option, Some, None, refl, sym, ap, ◌∙◌, subst, arith}
 use Rattle.std.specs.Prelude.{pos, ◌+ℤ◌, ◌==◌, is_none, is_some}
 use Rattle.std.specs.BTreeMap.{is_at, insert_entry}
 use Rattle.std.specs.List.{AllByRecursion}
 use Rattle.std.specs.Map.{lookup, set_value, remove_entry}
-use Rattle.std.specs.Option.{option_map}
+use Rattle.std.specs.Option.{option_map, option_map_or}
 use Rattle.std.specs.Ordering.{int_cmp, match_ordering}
 use Rattle.std.proofs.lemmas.Int.{ints}
 use Rattle.std.proofs.lemmas.Option.{same_Some}
-use Rattle.fs_board.specs.Board.{Commit, Posted, prepared, time_in, asked_in, pending_in, accepted_with, without}
-use Rattle.fs_board.specs.Held.{commit_at, posted}
+use Rattle.fs_board.specs.Board.{Commit, Posted, prepared, time_in, asked_in, asked_pending, pending_in, accepted_with, without}
+use Rattle.fs_board.specs.Held.{commit_at, entry_in, posted}
 use Rattle.fs_board.specs.Rising.{RiseTo}
 use Rattle.fs_board.specs.declared.entry.Entry.{Entry}
 use Rattle.fs_board.proofs.Keys.{time_at_itself, time_not_at, time_after}
@@ -42,54 +42,68 @@ module _ {A B : Type 0} where
   has_time [] id is = absurd (cc)
   has_time (c ∷ cs) id is = has_time_next c cs id (c.id == id) (has_time cs id) is
 
-  no_time_next : (c : Commit A B) (cs : List (Commit A B)) (id : ℕ) (b : Bool) → (time_in id cs ≡ None → pending_in id cs ≡ false) → cond b (Some c.time) (time_in id cs) ≡ None → cond b (is_none c.batch) (pending_in id cs) ≡ false
-  no_time_next c cs id true more is = absurd (cc)
-  no_time_next c cs id false more is = more is
+  entry_next : (e : ℤ × Entry A B) (es : List (ℤ × Entry A B)) (id : ℕ) (t : ℤ) (b : Bool) → (time_in id (posted es) ≡ Some t → lookup (is_at (int_cmp t)) es ≡ entry_in id (posted es))
+      → cond b (Some e.0) (time_in id (posted es)) ≡ Some t → cond b (Some e.1) (lookup (is_at (int_cmp t)) es) ≡ cond b (Some e.1) (entry_in id (posted es))
+  entry_next e es id t true more is = refl
+  entry_next e es id t false more is = more is
 
-  pub no_time : (cs : List (Commit A B)) (id : ℕ) → time_in id cs ≡ None → pending_in id cs ≡ false
-  no_time [] id is = refl
-  no_time (c ∷ cs) id is = no_time_next c cs id (c.id == id) (no_time cs id) is
+  -- the search for the time of an id finds what stands at its commit
+  pub entry_there : (es : List (ℤ × Entry A B)) (id : ℕ) (t last : ℤ) → RiseTo last (posted es) → time_in id (posted es) ≡ Some t → lookup (is_at (int_cmp t)) es ≡ entry_in id (posted es)
+  entry_there [] id t last rise is = refl
+  entry_there (e ∷ es) id t last rise is =
+      ap (λ b. cond b (Some e.1) (lookup (is_at (int_cmp t)) es)) (test_is e es id t last rise is)
+      ∙ entry_next e es id t (e.1.id == id) (entry_there es id t last rise.2) is
 
-  is_there : (o : Option (Entry A B)) (b : Bool) → option_map (λ p. is_none p.batch) o ≡ Some b → is_some o ≡ true
-  is_there None b e = absurd (cc)
-  is_there (Some p) b e = refl
+  some_next : (c : Commit A B) (e : Entry A B) (cs : List (Commit A B)) (id : ℕ) (t : ℤ) (b : Bool) → (time_in id cs ≡ Some t → is_some (entry_in id cs) ≡ true) → cond b (Some c.time) (time_in id cs) ≡ Some t
+      → is_some (cond b (Some e) (entry_in id cs)) ≡ true
+  some_next c e cs id t true more is = refl
+  some_next c e cs id t false more is = more is
 
-  found_next : (e : ℤ × Entry A B) (es : List (ℤ × Entry A B)) (id : ℕ) (t : ℤ) (b : Bool) → (time_in id (posted es) ≡ Some t → option_map (λ o. is_none o.batch) (lookup (is_at (int_cmp t)) es) ≡ Some (pending_in id (posted es)))
-      → cond b (Some e.0) (time_in id (posted es)) ≡ Some t
-      → option_map (λ (o : Entry A B). is_none o.batch) (cond b (Some e.1) (lookup (is_at (int_cmp t)) es)) ≡ Some (cond b (is_none e.1.batch) (pending_in id (posted es)))
-  found_next e es id t true more is = refl
-  found_next e es id t false more is = more is
+  some_entry : (cs : List (Commit A B)) (id : ℕ) (t : ℤ) → time_in id cs ≡ Some t → is_some (entry_in id cs) ≡ true
+  some_entry [] id t is = absurd (cc)
+  some_entry (c ∷ cs) id t is = some_next c (record { id = c.id; asked = c.asked; batch = c.batch }) cs id t (c.id == id) (some_entry cs id t) is
 
-  pub found_pending : (es : List (ℤ × Entry A B)) (id : ℕ) (t last : ℤ) → RiseTo last (posted es) → time_in id (posted es) ≡ Some t
-      → option_map (λ o. is_none o.batch) (lookup (is_at (int_cmp t)) es) ≡ Some (pending_in id (posted es))
-  found_pending [] id t last rise is = absurd (cc)
-  found_pending (e ∷ es) id t last rise is =
-      ap (λ b. option_map (λ (o : Entry A B). is_none o.batch) (cond b (Some e.1) (lookup (is_at (int_cmp t)) es))) (test_is e es id t last rise is)
-      ∙ found_next e es id t (e.1.id == id) (found_pending es id t last rise.2) is
+  none_next : (c : Commit A B) (e : Entry A B) (cs : List (Commit A B)) (id : ℕ) (b : Bool) → (time_in id cs ≡ None → entry_in id cs ≡ None) → cond b (Some c.time) (time_in id cs) ≡ None → cond b (Some e) (entry_in id cs) ≡ None
+  none_next c e cs id true more is = absurd (cc)
+  none_next c e cs id false more is = more is
+
+  pub no_entry : (cs : List (Commit A B)) (id : ℕ) → time_in id cs ≡ None → entry_in id cs ≡ None
+  no_entry [] id is = refl
+  no_entry (c ∷ cs) id is = none_next c (record { id = c.id; asked = c.asked; batch = c.batch }) cs id (c.id == id) (no_entry cs id) is
 
   pub found_there : (es : List (ℤ × Entry A B)) (id : ℕ) (t last : ℤ) → RiseTo last (posted es) → time_in id (posted es) ≡ Some t → is_some (lookup (is_at (int_cmp t)) es) ≡ true
-  found_there es id t last rise is = is_there (lookup (is_at (int_cmp t)) es) (pending_in id (posted es)) (found_pending es id t last rise is)
+  found_there es id t last rise is = ap is_some (entry_there es id t last rise is) ∙ some_entry (posted es) id t is
 
-  -- ---- what it has
+  -- ---- what it has, and whether it is pending
 
-  asked_next : (e : ℤ × Entry A B) (es : List (ℤ × Entry A B)) (id : ℕ) (t : ℤ) (o : Entry A B) (b : Bool) → (time_in id (posted es) ≡ Some t → lookup (is_at (int_cmp t)) es ≡ Some o → asked_in id (posted es) ≡ Some o.asked)
-      → cond b (Some e.0) (time_in id (posted es)) ≡ Some t → cond b (Some e.1) (lookup (is_at (int_cmp t)) es) ≡ Some o → cond b (Some e.1.asked) (asked_in id (posted es)) ≡ Some o.asked
-  asked_next e es id t o true more is at = ap (λ (p : Entry A B). Some p.asked) (same_Some e.1 o at)
-  asked_next e es id t o false more is at = more is at
+  asked_next : (c : Commit A B) (cs : List (Commit A B)) (id : ℕ) (b : Bool) → asked_in id cs ≡ option_map (λ e. e.asked) (entry_in id cs)
+      → cond b (Some c.asked) (asked_in id cs) ≡ option_map (λ (e : Entry A B). e.asked) (cond b (Some (record { id = c.id; asked = c.asked; batch = c.batch })) (entry_in id cs))
+  asked_next c cs id true more = refl
+  asked_next c cs id false more = more
+
+  pub asked_by : (cs : List (Commit A B)) (id : ℕ) → asked_in id cs ≡ option_map (λ e. e.asked) (entry_in id cs)
+  asked_by [] id = refl
+  asked_by (c ∷ cs) id = asked_next c cs id (c.id == id) (asked_by cs id)
 
   pub asked_there : (es : List (ℤ × Entry A B)) (id : ℕ) (t last : ℤ) (o : Entry A B) → RiseTo last (posted es) → time_in id (posted es) ≡ Some t → lookup (is_at (int_cmp t)) es ≡ Some o
       → asked_in id (posted es) ≡ Some o.asked
-  asked_there [] id t last o rise is at = absurd (cc)
-  asked_there (e ∷ es) id t last o rise is at =
-      asked_next e es id t o (e.1.id == id) (asked_there es id t last o rise.2) is (subst (λ b. cond b (Some e.1) (lookup (is_at (int_cmp t)) es) ≡ Some o) (test_is e es id t last rise is) at)
+  asked_there es id t last o rise is at = asked_by (posted es) id ∙ ap (option_map (λ (e : Entry A B). e.asked)) (sym (entry_there es id t last rise is) ∙ at)
 
-  none_asked_next : (c : Commit A B) (cs : List (Commit A B)) (id : ℕ) (b : Bool) → (time_in id cs ≡ None → asked_in id cs ≡ None) → cond b (Some c.time) (time_in id cs) ≡ None → cond b (Some c.asked) (asked_in id cs) ≡ None
-  none_asked_next c cs id true more is = absurd (cc)
-  none_asked_next c cs id false more is = more is
+  pending_next : (c : Commit A B) (cs : List (Commit A B)) (id : ℕ) (b : Bool) → pending_in id cs ≡ option_map_or (λ e. is_none e.batch) (entry_in id cs) false
+      → cond b (is_none c.batch) (pending_in id cs) ≡ option_map_or (λ (e : Entry A B). is_none e.batch) (cond b (Some (record { id = c.id; asked = c.asked; batch = c.batch })) (entry_in id cs)) false
+  pending_next c cs id true more = refl
+  pending_next c cs id false more = more
 
-  pub none_asked : (cs : List (Commit A B)) (id : ℕ) → time_in id cs ≡ None → asked_in id cs ≡ None
-  none_asked [] id is = refl
-  none_asked (c ∷ cs) id is = none_asked_next c cs id (c.id == id) (none_asked cs id) is
+  pub pending_by : (cs : List (Commit A B)) (id : ℕ) → pending_in id cs ≡ option_map_or (λ e. is_none e.batch) (entry_in id cs) false
+  pending_by [] id = refl
+  pending_by (c ∷ cs) id = pending_next c cs id (c.id == id) (pending_by cs id)
+
+  -- what an entry has, if it is pending
+  abbrev pub pending_entry : Option (Entry A B) → Option A
+  pending_entry o = cond (option_map_or (λ e. is_none e.batch) o false) (option_map (λ e. e.asked) o) None
+
+  pub asked_pending_by : (cs : List (Commit A B)) (id : ℕ) → asked_pending id cs ≡ pending_entry (entry_in id cs)
+  asked_pending_by cs id = ap (λ b. cond b (asked_in id cs) None) (pending_by cs id) ∙ ap (λ o. cond (option_map_or (λ (e : Entry A B). is_none e.batch) (entry_in id cs) false) o None) (asked_by cs id)
 
   -- ---- accepted
 

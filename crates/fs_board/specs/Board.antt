@@ -60,6 +60,10 @@ module _ {A B : Type 0} where
   pending_in id [] = false
   pending_in id (c ∷ cs) = if c.id == id then is_pending c else pending_in id cs
 
+  -- what the commit of an id has, if it is pending
+  abbrev pub asked_pending : ℕ → List (Commit A B) → Option A
+  asked_pending id cs = if pending_in id cs then asked_in id cs else None
+
   -- with what it brings at the commit of an id
   abbrev pub accepted_with : ℕ → B → List (Commit A B) → List (Commit A B)
   accepted_with id batch [] = []
@@ -107,7 +111,7 @@ module _ {A B : Type 0} where
   rest_of [] = []
   rest_of (c ∷ cs) = if is_pending c then c ∷ cs else cs
 
-  -- what the accepted commits bring before which none is pending
-  abbrev pub all_ready : List (Commit A B) → List B
+  -- what the accepted commits have and bring before which none is pending
+  abbrev pub all_ready : List (Commit A B) → List (A × B)
   all_ready [] = []
-  all_ready (c ∷ cs) = option_map_or (λ batch. batch ∷ all_ready cs) c.batch []
+  all_ready (c ∷ cs) = option_map_or (λ batch. (c.asked, batch) ∷ all_ready cs) c.batch []

@@ -1,5 +1,5 @@
 -- Only the model of a board and private clauses cite this: what it is made of.
-use Rattle.std.specs.Prelude.{◌≡◌, ℕ, ℤ, ◌<ℤ◌, List, [], ◌∷◌, map, Option, Some, None, if◌then◌else◌}
+use Rattle.std.specs.Prelude.{◌≡◌, ℕ, ℤ, ◌<ℤ◌, ◌==◌, List, [], ◌∷◌, map, Option, Some, None, if◌then◌else◌}
 use Rattle.std.specs.BTreeMap.{is_at}
 use Rattle.std.specs.List.{AllByRecursion}
 use Rattle.std.specs.Map.{lookup}
@@ -16,6 +16,11 @@ module _ {A B : Type 0} where
 
   abbrev pub posted : List (ℤ × Entry A B) → List (Commit A B)
   posted es = map commit_at es
+
+  -- what stands at the commit of an id
+  abbrev pub entry_in : ℕ → List (Commit A B) → Option (Entry A B)
+  entry_in id [] = None
+  entry_in id (c ∷ cs) = if c.id == id then Some (record { id = c.id; asked = c.asked; batch = c.batch }) else entry_in id cs
 
   -- by id they have the times of these commits
   abbrev pub AreTimesOf : List (ℕ × ℤ) → List (Commit A B) → Type 0

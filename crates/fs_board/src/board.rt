@@ -47,9 +47,9 @@ impl<A: Drop, B: Drop> Board<A, B> {
     ghost use Rattle.std.specs.List.{All};
     ghost use Rattle.std.specs.Option.{option_copied};
     ghost use Rattle.fs_time.specs.Moment.{last_moment};
-    ghost use Rattle.fs_board.specs.Board.{Posted, HasNo, asked_in, free_to, is_pending, is_ready, next_pending_in, pending_in, time_in, prepared, accepted_with, without, ticked, ready, rest_of, all_ready};
+    ghost use Rattle.fs_board.specs.Board.{Posted, HasNo, asked_in, free_to, is_pending, is_ready, next_pending_in, pending_in, asked_pending, time_in, prepared, accepted_with, without, ticked, ready, rest_of, all_ready};
     ghost use Rattle.fs_board.specs.Rising.{IsRising};
-    ghost use Rattle.fs_board.specs.Held.{first_pending_in};
+    ghost use Rattle.fs_board.specs.Held.{entry_in, first_pending_in};
 
     /// No commits, and a moment as the last time that was issued. The allocator serves the commits that come.
     pub fn new(alloc: Global, start: Micros) -> Board<A, B>
@@ -89,9 +89,19 @@ impl<A: Drop, B: Drop> Board<A, B> {
     pub fn is_pending(&self, id: Id) -> bool
         ensures { result ≡ pending_in id self.now.commits }
     {
-        match self.time_of(id) {
-            Some(time) => self.by_time.get(&time).unwrap().batch.is_none(),
+        match self.entry(id) {
+            Some(entry) => entry.batch.is_none(),
             None => false,
+        }
+    }
+
+    /// What the pending commit of an id has from the beginning.
+    pub fn pending(&self, id: Id) -> Option<&A>
+        ensures { option_copied result ≡ asked_pending id self.now.commits }
+    {
+        match self.entry(id) {
+            Some(entry) if entry.batch.is_none() => Some(&entry.asked),
+            _ => None,
         }
     }
 
@@ -116,8 +126,8 @@ impl<A: Drop, B: Drop> Board<A, B> {
     pub fn asked(&self, id: Id) -> Option<&A>
         ensures { option_copied result ≡ asked_in id self.now.commits }
     {
-        match self.time_of(id) {
-            Some(time) => Some(&self.by_time.get(&time).unwrap().asked),
+        match self.entry(id) {
+            Some(entry) => Some(&entry.asked),
             None => None,
         }
     }
@@ -136,19 +146,19 @@ impl<A: Drop, B: Drop> Board<A, B> {
         self.by_time.is_empty()
     }
 
-    /// What the accepted commits bring before which none is pending, by rising time: what `take_ready` would hand out, one after
-    /// another. An error is a want of memory for the list, which has a pointer for each of them.
-    pub fn all_ready(&self, alloc: Global) -> Result<Vec<&B>, AllocError>
-        ensures { IfOk result (λ v. map (λ b. b.now) v.items ≡ all_ready self.now.commits) }
+    /// What the accepted commits have and bring before which none is pending, by rising time: what `take_ready` would hand out,
+    /// one after another. An error is a want of memory for the list, which has two pointers for each of them.
+    pub fn all_ready(&self, alloc: Global) -> Result<Vec<(&A, &B)>, AllocError>
+        ensures { IfOk result (λ v. map (λ r. (r.0.now, r.1.now)) v.items ≡ all_ready self.now.commits) }
     {
-        let mut batches = Vec::new(alloc);
+        let mut ready = Vec::new(alloc);
         for (_, entry) in &self.by_time {
             match &entry.batch {
-                Some(batch) => batches.push(batch)?,
-                None => return Ok(batches),
+                Some(batch) => ready.push((&entry.asked, batch))?,
+                None => return Ok(ready),
             }
         }
-        Ok(batches)
+        Ok(ready)
     }
 
     /// A commit is pending from now on, at the microsecond after the last time that was issued, which is the answer.
@@ -222,6 +232,16 @@ impl<A: Drop, B: Drop> Board<A, B> {
         match batch {
             Some(batch) => Some((time, asked, batch)),
             None => unreachable!(),
+        }
+    }
+
+    // What stands at the commit of an id.
+    fn entry(&self, id: Id) -> Option<&Entry<A, B>>
+        ensures { option_copied result ≡ entry_in id self.now.commits }
+    {
+        match self.time_of(id) {
+            Some(time) => self.by_time.get(&time),
+            None => None,
         }
     }
 

@@ -1,7 +1,10 @@
 //! Scripts whose source or sink fails.
+ghost use Rattle.fs_machine.specs.Config.{IsAllowed};
+
+use crate::short::root;
 use fs_edge::{MemorySink, MemorySource, Pace, Paces, Status};
 use fs_path::Bytes;
-use fs_replay::replay;
+use fs_replay::{Config, Limits, Mode, replay};
 use std::alloc::Global;
 use std::process::Abort;
 
@@ -15,6 +18,16 @@ const ITS_REPLY: &str =
 const ANOTHER: &str =
     r#"{"session":"s","id":"2","commit":{"database":"projects/demo/databases/(default)"}}"#;
 
+fn config(rt: &impl Abort, alloc: Global) -> Config
+    ensures { IsAllowed result }
+{
+    Config {
+        root: root(rt, alloc),
+        mode: Mode::Pessimistic,
+        shards: 4,
+    }
+}
+
 // The lines of a script.
 fn script(rt: &impl Abort, alloc: Global) -> Bytes {
     let lines = format!(in alloc; "{A_COMMIT}\n{ANOTHER}\n").expect(rt, "memory");
@@ -23,6 +36,7 @@ fn script(rt: &impl Abort, alloc: Global) -> Bytes {
 
 // Whether a script from a source into a sink that goes by these paces ends so, and has written this.
 fn ends_so(
+    rt: &impl Abort,
     alloc: Global,
     mut source: MemorySource,
     writes: Paces,
@@ -30,7 +44,13 @@ fn ends_so(
     text: &[u8],
 ) -> bool {
     let mut sink = MemorySink::new(alloc, writes);
-    let status = replay(alloc, &mut source, &mut sink);
+    let status = replay(
+        alloc,
+        config(rt, alloc),
+        Limits::greatest(),
+        &mut source,
+        &mut sink,
+    );
     status == want && sink.given().as_slice() == text
 }
 
@@ -41,6 +61,7 @@ fn a_source_that_fails_leaves_the_lines_before(rt: HostRuntime) {
     let reads = Paces::of(vec![in alloc; first, Pace::Fail].expect(&rt, "memory"));
     let source = MemorySource::new(script(&rt, alloc), reads);
     let is_so = ends_so(
+        &rt,
         alloc,
         source,
         Paces::free(alloc),
@@ -66,7 +87,7 @@ fn has_front(rt: &impl Abort, alloc: Global, bytes: usize, then: Pace, want: Sta
     let source = MemorySource::new(commit, Paces::free(alloc));
     let writes = bytes_and(rt, alloc, bytes, then);
     let front = ITS_REPLY.as_bytes().get(..bytes).expect(rt, "a front");
-    ends_so(alloc, source, writes, want, front)
+    ends_so(rt, alloc, source, writes, want, front)
 }
 
 #[test]

@@ -11,8 +11,8 @@ use Rattle.std.specs.declared.cmp.Ordering.TheVariants.{Less}
 use Rattle.std.proofs.lemmas.Cmp.{eq_by_cmp_equiv, nat_cmp_total, tied_itself}
 use Rattle.std.proofs.lemmas.Bool.{eqb-false, eqb-true, leb-true, leb-false, not-false, not-true, or_left, or_right}
 use Rattle.std.proofs.lemmas.Map.Keys.{ge_from_not_lt}
-use Rattle.fs_locks.specs.Holds.{IsLeast, IsLeastOther}
-use Rattle.fs_locks.specs.Tree.{has, least}
+use Rattle.fs_locks.specs.Holds.{IsLeast, IsLeastOther, lesser_of}
+use Rattle.fs_locks.specs.Tree.{has}
 
 -- the test of a look-up is that of two numbers
 pub tied : (i j : ℕ) → is_at (nat_cmp j) i ≡ (i == j)
@@ -120,8 +120,22 @@ module _ (P Q R : ℕ → Type 0) (from_first : (j : ℕ) → P j → R j) (from
   both_least x y a b true le = of_first x a (λ j q apart. let far = b.least j q apart in let near = leb-true x y le in omega arith)
   both_least x y a b false le = of_second y b (λ j p apart. let far = a.least j p apart in let near = leb-false x y le in omega arith)
 
-  pub least_both : (a b : Option ℕ) → IsLeastOther P by a → IsLeastOther Q by b → IsLeastOther R by (least a b)
+  least_both : (a b : Option ℕ) → IsLeastOther P by a → IsLeastOther Q by b → IsLeastOther R by (lesser_of a b)
   least_both None None first second = λ j r. parts j (j ≡ by) r (first j) (second j)
   least_both None (Some y) first second = of_second y second (λ j p apart. absurd (apart (first j p)))
   least_both (Some x) None first second = of_first x first (λ j q apart. absurd (apart (second j q)))
   least_both (Some x) (Some y) first second = both_least x y first second (nat_le x y) refl
+
+pub either : (a b : Bool) (Z : Type 0) → IsTrue (a || b) → (IsTrue a → Z) → (IsTrue b → Z) → Z
+either true b Z h f g = f refl
+either false b Z h f g = g h
+
+-- the least of those that pass one test or another
+pub least_or : (p q r : ℕ → Bool) (by : ℕ) (a b : Option ℕ) → ((i : ℕ) → r i ≡ (p i || q i)) → IsLeastOther (λ i. IsTrue (p i)) by a → IsLeastOther (λ i. IsTrue (q i)) by b
+    → IsLeastOther (λ i. IsTrue (r i)) by (lesser_of a b)
+least_or p q r by a b is first second =
+    least_both (λ i. IsTrue (p i)) (λ i. IsTrue (q i)) (λ i. IsTrue (r i))
+    (λ i h. is i ∙ or_left (p i) (q i) h)
+    (λ i h. is i ∙ or_right (p i) (q i) h)
+    (λ i Z h f g. either (p i) (q i) Z (sym (is i) ∙ h) f g)
+    by a b first second

@@ -13,29 +13,15 @@ use Rattle.fs_path.specs.NameOrder.{name_cmp, name_is}
 use Rattle.fs_path.specs.Scope.{covers}
 use Rattle.fs_path.specs.declared.name.DocName.{DocName}
 use Rattle.fs_path.specs.declared.scope.Scope.{Scope}
-use Rattle.fs_locks.specs.Holds.{IsLeastOther}
-use Rattle.fs_locks.specs.Tree.{Tree, has, held, found, HoldsIn, least}
-use Rattle.fs_locks.proofs.Ids.{least_both}
-
-either : (a b : Bool) (Z : Type 0) → IsTrue (a || b) → (IsTrue a → Z) → (IsTrue b → Z) → Z
-either true b Z h f g = f refl
-either false b Z h f g = g h
-
--- the least of those that pass one test or another
-least_or : (p q r : ℕ → Bool) (by : ℕ) (a b : Option ℕ) → ((i : ℕ) → r i ≡ (p i || q i)) → IsLeastOther (λ i. IsTrue (p i)) by a → IsLeastOther (λ i. IsTrue (q i)) by b
-    → IsLeastOther (λ i. IsTrue (r i)) by (least a b)
-least_or p q r by a b is first second =
-    least_both (λ i. IsTrue (p i)) (λ i. IsTrue (q i)) (λ i. IsTrue (r i))
-    (λ i h. is i ∙ or_left (p i) (q i) h)
-    (λ i h. is i ∙ or_right (p i) (q i) h)
-    (λ i Z h f g. either (p i) (q i) Z (sym (is i) ∙ h) f g)
-    by a b first second
+use Rattle.fs_locks.specs.Holds.{IsLeastOther, lesser_of}
+use Rattle.fs_locks.specs.Tree.{Tree, has, held, found, HoldsIn}
+use Rattle.fs_locks.proofs.Ids.{either, least_or}
 
 -- ---- one of several names
 
 pub among_more : (tree : Tree) (names : List DocName) (k : ℕ) (name : DocName) (by : ℕ) (a b : Option ℕ) → k < length names → name ≡ get_or names k name
     → IsLeastOther (λ i. IsTrue (list_any (held tree i) (take k names))) by a → IsLeastOther (λ i. IsTrue (held tree i name)) by b
-    → IsLeastOther (λ i. IsTrue (list_any (held tree i) (take (k + 1) names))) by (least a b)
+    → IsLeastOther (λ i. IsTrue (list_any (held tree i) (take (k + 1) names))) by (lesser_of a b)
 among_more tree names k name by a b within is =
     least_or (λ i. list_any (held tree i) (take k names)) (λ i. held tree i name) (λ i. list_any (held tree i) (take (k + 1) names)) by a b
     (λ i. list_any_more (held tree i) names k name within ∙ ap (λ (x : DocName). list_any (held tree i) (take k names) || held tree i x) (sym is))
@@ -70,7 +56,7 @@ module _ (scope : Scope) (by : ℕ) (all : Tree) where
       ∙ ap (λ c. in_entries scope done i || c) (or-false (covers scope e.0 && has i e.1))
 
   pub walked_in : (rest : Tree) (e : DocName × List ℕ) (a b : Option ℕ) → Walked scope by all (e ∷ rest) a → covers scope e.0 ≡ true → IsLeastOther (λ i. IsTrue (has i e.1)) by b
-      → Walked scope by all rest (least a b)
+      → Walked scope by all rest (lesser_of a b)
   walked_in rest e a b w in_scope second = record {
     done = w.done ++ e ∷ [];
     parts = sym (moved w.done rest e) ∙ w.parts;

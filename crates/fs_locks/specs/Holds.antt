@@ -1,5 +1,5 @@
 -- Which ids hold which names: a list of holds in the order of names, and for one name of ids, each once.
-use Rattle.std.specs.Prelude.{◌≡◌, ◌≢◌, ℕ, ◌≤◌, Bool, ◌&&◌, ◌==◌, IsTrue, List, Option, Some, None, refl}
+use Rattle.std.specs.Prelude.{◌≡◌, ◌≢◌, ℕ, ◌≤◌, Bool, ◌&&◌, ◌==◌, nat_le, IsTrue, List, Option, Some, None, refl, if◌then◌else◌}
 use Rattle.std.specs.Coded.{Coded, code_by, coded×, coded_ℕ}
 use Rattle.std.specs.List.{list_any}
 use Rattle.fs_path.specs.NameOrder.{name_eq}
@@ -50,3 +50,9 @@ pub record IsLeast (P : ℕ → Type 0) (by i : ℕ) : Type 0 where
 abbrev pub IsLeastOther : (ℕ → Type 0) → ℕ → Option ℕ → Type 0
 IsLeastOther P by None = (j : ℕ) → P j → j ≡ by
 IsLeastOther P by (Some i) = IsLeast P by i
+
+-- the lesser of two ids, or the one that is there
+abbrev pub lesser_of : Option ℕ → Option ℕ → Option ℕ
+lesser_of None b = b
+lesser_of (Some x) None = Some x
+lesser_of (Some x) (Some y) = if nat_le x y then Some x else Some y

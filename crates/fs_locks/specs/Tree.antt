@@ -1,5 +1,5 @@
 -- Only private clauses cite this: the holds as the tree of names has them.
-use Rattle.std.specs.Prelude.{◌≡◌, ℕ, Bool, false, not, ◌&&◌, ◌||◌, ◌==◌, nat_le, IsTrue, List, [], ◌∷◌, ◌++◌, map, Option, Some, None, unwrap_or, cond}
+use Rattle.std.specs.Prelude.{◌≡◌, ℕ, Bool, false, not, ◌&&◌, ◌||◌, ◌==◌, IsTrue, List, [], ◌∷◌, ◌++◌, map, Option, Some, None, unwrap_or, cond}
 use Rattle.std.specs.BTreeMap.{is_at}
 use Rattle.std.specs.FinMap.{from_entries, entries}
 use Rattle.std.specs.FinSet.{from_list, items}
@@ -90,9 +90,3 @@ SameTaken old new = (i : ℕ) → taken_by i new ≡ taken_by i old
 -- each hold is among what its id has taken
 abbrev pub AreTaken : Tree → Taken → Type 0
 AreTaken tree taken = (i : ℕ) (n : DocName) → IsTrue (held tree i n) → IsTrue (is_in n (taken_by i taken))
-
--- the lesser of two
-abbrev pub least : Option ℕ → Option ℕ → Option ℕ
-least None b = b
-least (Some x) None = Some x
-least (Some x) (Some y) = cond (nat_le x y) (Some x) (Some y)

@@ -10,4 +10,5 @@ mod taken;
 mod tree;
 
 pub use held::Held;
+pub use least::lesser;
 pub use locks::Locks;

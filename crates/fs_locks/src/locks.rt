@@ -47,7 +47,7 @@ impl Model for Locks {
 }
 
 impl Locks {
-    ghost use Rattle.std.specs.Prelude.{◌≡◌, ◌||◌, ◌&&◌, ◌==◌, ℕ, [], OnOk, OnErr, not};
+    ghost use Rattle.std.specs.Prelude.{◌≡◌, ◌||◌, ◌&&◌, ◌==◌, ℕ, [], IsTrue, OnOk, OnErr, not};
     ghost use Rattle.fs_path.specs.declared.name.DocName.{DocName};
     ghost use Rattle.fs_locks.specs.Holds.{is_in, is_held, HoldsOne, HoldsTouched, IsLeastOther};
     ghost use Rattle.fs_locks.specs.HoldOrder.{IsCanonical};
@@ -84,6 +84,13 @@ impl Locks {
         ensures canonical { IsCanonical self.now }
     {
         first_among(&self.by_name, names.as_slice(), by)
+    }
+
+    /// The least id other than `by` that holds a name. It takes no memory.
+    pub fn behind_name(&self, name: &DocName, by: Id) -> Option<Id>
+        ensures { IsLeastOther (λ i. IsTrue (is_held self.now i name.now)) by result }
+    {
+        first_at(&self.by_name, name, by)
     }
 
     /// The least id other than `by` that holds what is touched: the name, or a name that the scope covers. It takes no memory.

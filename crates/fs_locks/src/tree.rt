@@ -5,7 +5,7 @@ ghost use Rattle.fs_locks.specs.Holds.{IsLeastOther};
 ghost use Rattle.fs_locks.specs.Tree.{held, SameTree, SameBut, HasMore, HasLess, HoldsIn};
 
 use crate::holders::Holders;
-use crate::least::least;
+use crate::least::lesser;
 use fs_path::{DocName, Names, Scope, covers};
 use fs_status::Id;
 use std::alloc::{AllocError, Global};
@@ -96,7 +96,7 @@ pub(crate) fn first_among(
 {
     let mut first = None;
     for name in names {
-        first = least(first, first_at(tree, name, by));
+        first = lesser(first, first_at(tree, name, by));
     }
     first
 }
@@ -108,7 +108,7 @@ pub(crate) fn first_in(tree: &BTreeMap<DocName, Holders>, scope: &Scope, by: Id)
     let mut first = None;
     for (name, holders) in tree.iter() {
         if covers(scope, name) {
-            first = least(first, holders.first_other(by));
+            first = lesser(first, holders.first_other(by));
         }
     }
     first

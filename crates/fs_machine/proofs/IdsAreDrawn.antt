@@ -1,5 +1,5 @@
 -- No two commits have one number, and each has one that was drawn, still, after each event.
-use Rattle.std.proofs.Common.{◌≡◌, ℕ, ℤ, ◌+◌, ◌<◌, ◌≤◌, Bool, true, false, cond, List, [], ◌∷◌, ◌++◌, Some, Result, Ok, Err, zero, suc, refl, ap, arith}
+use Rattle.std.proofs.Common.{◌≡◌, ℕ, ℤ, ◌+◌, ◌≤◌, Bool, true, false, cond, List, [], ◌∷◌, ◌++◌, Some, Result, Ok, Err, zero, suc, refl, ap, arith}
 use Rattle.std.specs.Prelude.{◌==◌, not, remove, slice_get}
 use Rattle.std.proofs.lemmas.Bool.Decides.{nat_tests}
 use Rattle.fs_status.specs.declared.refusal.Refusal.{Refusal}
@@ -18,12 +18,6 @@ use Rattle.fs_machine.specs.IdsAreDrawn.{counted, times_in, times_parked, times,
 use Rattle.fs_machine.proofs.Moved.{moved}
 use Rattle.fs_machine.proofs.Pending.{same_batches, same_some}
 use Rattle.fs_machine.proofs.UnreleasedRise.{unreleased_advanced, unreleased_decided}
-
-counted_at : (id n : ℕ) → counted id n ≤ 1
-counted_at id n = grind (arith, nat_tests)
-
-counted_other : (id n : ℕ) → n < id → counted id n ≡ 0
-counted_other id n below = grind (arith, nat_tests)
 
 -- an event that leaves no number more often than it was
 abbrev pub AreFewer : Past → List ParkedRequest → Past → List ParkedRequest → Type 0
@@ -46,7 +40,7 @@ pub in_more : (id : ℕ) (us : List Unreleased) (u : Unreleased) → times_in id
 in_more id [] u = omega arith
 in_more id (v ∷ us) u = let more = in_more id us u in omega arith
 
-parked_more : (id : ℕ) (rs : List ParkedRequest) (r : ParkedRequest) → times_parked id (rs ++ r ∷ []) ≡ times_parked id rs + counted id r.id
+pub parked_more : (id : ℕ) (rs : List ParkedRequest) (r : ParkedRequest) → times_parked id (rs ++ r ∷ []) ≡ times_parked id rs + counted id r.id
 parked_more id [] r = omega arith
 parked_more id (s ∷ rs) r = let more = parked_more id rs r in omega arith
 

@@ -1,4 +1,3 @@
-pub mod Alone
 pub mod Behind
 pub mod FloorIsReleased
 pub mod Grows
@@ -9,8 +8,14 @@ pub mod NamesApart
 pub mod OutcomesStay
 pub mod Pending
 pub mod Places
+pub mod Refused
+pub mod ReleasedOnce
+pub mod Reordered
+pub mod Replies
 pub mod ResultsHold
+pub mod Retried
 pub mod Runs
 pub mod SessionsNumbered
 pub mod SettledInAnyOrder
 pub mod UnreleasedRise
+pub mod Verdicts

@@ -1,6 +1,6 @@
 -- What a release moves: commits go from those behind the history into it, the first of them first, up to the first that is pending.
 -- So what holds of the two lists and is kept as one accepted commit moves is kept by a release.
-use Rattle.std.proofs.Common.{◌≡◌, ℤ, ◌<ℤ◌, ◌≤ℤ◌, Bool, true, false, cond, List, [], ◌∷◌, refl, sym, subst, arith}
+use Rattle.std.proofs.Common.{◌≡◌, ℤ, ◌<ℤ◌, ◌≤ℤ◌, Bool, true, false, cond, List, [], ◌∷◌, ◌++◌, refl, sym, subst, arith}
 use Rattle.std.specs.Prelude.{pos, ◌-ℤ◌}
 use Rattle.std.proofs.lemmas.Int.{ints}
 use Rattle.fs_history.specs.declared.batch.Batch.{Batch}
@@ -41,3 +41,8 @@ module _ (P : List Batch → List Unreleased → Type 0) (one : (h : List Batch)
   pub moved : (us : List Unreleased) (from last : ℤ) → RiseFrom from last us → (h : List Batch) → P h us → P (joined h (freed (free_to last us) us)) (kept_back (free_to last us) us)
   moved [] from last above h has = has
   moved (u ∷ us) from last above h has = moved_next u us h last (is_pending u) refl above.1 has (moved us u.batch.time last above.1) (free_to last (u ∷ us)) refl
+
+-- commits that are joined one behind another
+pub joined_more : (xs ys : List Unreleased) (h : List Batch) → joined h (xs ++ ys) ≡ joined (joined h xs) ys
+joined_more [] ys h = refl
+joined_more (x ∷ xs) ys h = joined_more xs ys (x.batch ∷ h)

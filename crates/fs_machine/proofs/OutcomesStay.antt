@@ -29,10 +29,11 @@ use Rattle.fs_machine.specs.Past.{Past, batches, is_pending}
 use Rattle.fs_machine.specs.Release.{past_released}
 use Rattle.fs_machine.specs.Request.{after_request}
 use Rattle.fs_machine.specs.Retry.{retried_if, retry_decision, tried, writes_of}
-use Rattle.fs_machine.specs.Settle.{ComesTo, IsOutcomeOf, IsOutcomeOfPending, IsOutcomeOn, accepted_in, decided, decided_if, decided_with, docs_for, dropped_from, is_it, outcome_of, past_decided, pending_in, pending_of, settled}
+use Rattle.fs_machine.specs.Settle.{ComesTo, IsOutcomeOf, IsOutcomeOfPending, IsOutcomeOn, accepted_in, decided_if, decided_with, docs_for, dropped_from, is_it, outcome_of, past_decided, pending_in, pending_of}
 use Rattle.fs_machine.specs.State.{Machine}
+use Rattle.fs_machine.specs.UnreleasedRise.{UnreleasedRise}
 use Rattle.fs_machine.proofs.Moved.{moved}
-use Rattle.fs_machine.proofs.Pending.{number_found}
+use Rattle.fs_machine.proofs.Pending.{passes_it}
 use Rattle.fs_machine.proofs.ResultsHold.{agree_behind, docs_agree, found_apart}
 use Rattle.fs_machine.proofs.Runs.{keeps}
 
@@ -90,7 +91,7 @@ accepted_next : (v : Unreleased) (us : List Unreleased) (of id : ℕ) (results :
 accepted_next v us of id results true here other more = rw (accepted_isnt id v results, not_it id of v here other) refl
 accepted_next v us of id results false here other more = ap (cond (is_it id v) (Some v)) more
 
-found_accepted : (us : List Unreleased) (of id : ℕ) (results : List WriteResult) → (of == id) ≡ false → pending_in id (accepted_in of results us) ≡ pending_in id us
+pub found_accepted : (us : List Unreleased) (of id : ℕ) (results : List WriteResult) → (of == id) ≡ false → pending_in id (accepted_in of results us) ≡ pending_in id us
 found_accepted [] of id results other = refl
 found_accepted (v ∷ us) of id results other = accepted_next v us of id results (is_it of v) refl other (found_accepted us of id results other)
 
@@ -99,13 +100,13 @@ dropped_next : (v : Unreleased) (us : List Unreleased) (of id : ℕ) (b : Bool) 
 dropped_next v us of id true here other more = rw (not_it id of v here other) refl
 dropped_next v us of id false here other more = ap (cond (is_it id v) (Some v)) more
 
-found_dropped : (us : List Unreleased) (of id : ℕ) → (of == id) ≡ false → pending_in id (dropped_from of us) ≡ pending_in id us
+pub found_dropped : (us : List Unreleased) (of id : ℕ) → (of == id) ≡ false → pending_in id (dropped_from of us) ≡ pending_in id us
 found_dropped [] of id other = refl
 found_dropped (v ∷ us) of id other = dropped_next v us of id (is_it of v) refl other (found_dropped us of id other)
 
 -- ---- it is decided itself, and isn't pending then
 
-it_is_one : (id : ℕ) (v : Unreleased) → is_it id v ≡ true → counted id v.batch.id ≡ 1
+pub it_is_one : (id : ℕ) (v : Unreleased) → is_it id v ≡ true → counted id v.batch.id ≡ 1
 it_is_one id v is = grind (arith, nat_tests)
 
 it_counts : (id : ℕ) (v : Unreleased) (us : List Unreleased) → is_it id v ≡ true → counted id v.batch.id + times_in id (batches us) ≤ 0 → ⊥
@@ -127,7 +128,7 @@ gone_next v us id results true is few more =
     rw (accepted_isnt id v results) (none_pending us id (omega (arith, one, few)))
 gone_next v us id results false is few more = rw is (more (omega (arith, few)))
 
-gone_accepted : (us : List Unreleased) (id : ℕ) (results : List WriteResult) → times_in id (batches us) ≤ 1 → pending_in id (accepted_in id results us) ≡ None
+pub gone_accepted : (us : List Unreleased) (id : ℕ) (results : List WriteResult) → times_in id (batches us) ≤ 1 → pending_in id (accepted_in id results us) ≡ None
 gone_accepted [] id results few = refl
 gone_accepted (v ∷ us) id results few = gone_next v us id results (is_it id v) refl few (gone_accepted us id results)
 
@@ -136,7 +137,7 @@ gone_dropped_next : (v : Unreleased) (us : List Unreleased) (id : ℕ) (b : Bool
 gone_dropped_next v us id true is few more = let one = it_is_one id v is in none_pending us id (omega (arith, one, few))
 gone_dropped_next v us id false is few more = rw is (more (omega (arith, few)))
 
-gone_dropped : (us : List Unreleased) (id : ℕ) → times_in id (batches us) ≤ 1 → pending_in id (dropped_from id us) ≡ None
+pub gone_dropped : (us : List Unreleased) (id : ℕ) → times_in id (batches us) ≤ 1 → pending_in id (dropped_from id us) ≡ None
 gone_dropped [] id few = refl
 gone_dropped (v ∷ us) id few = gone_dropped_next v us id (is_it id v) refl few (gone_dropped us id)
 
@@ -146,7 +147,7 @@ same_number a b is = grind (arith, nat_tests)
 none_some : {A : Type 0} (o : Option A) → o ≡ None → IsSome o → ⊥
 none_some o none some = cc
 
-once : (m : Machine) (id : ℕ) → Facts m → times_in id (batches m.past.unreleased) ≤ 1
+pub once : (m : Machine) (id : ℕ) → Facts m → times_in id (batches m.past.unreleased) ≤ 1
 once m id facts = let few = (facts.ids id).0 in omega (arith, few)
 
 decided_carries : (m : Machine) (c : Unreleased) (r : Result (Docs × List WriteResult) Refusal) (id : ℕ) (u : Unreleased) (b : Bool) → (c.batch.id == id) ≡ b → pending_of m.past id ≡ Some u → Facts m
@@ -160,9 +161,6 @@ decided_carries m c (Err refusal) id u false here is facts some = record { at = 
 
 -- ---- a release
 
-passes_it : (id : ℕ) (v : Unreleased) → is_pending v ≡ false → is_it id v ≡ false
-passes_it id v is = grind (arith, nat_tests)
-
 abbrev Follows : Past → ℕ → Unreleased → List Batch → List Unreleased → Type 0
 Follows p id u h us = (pending_in id us ≡ Some u) × AreApart (batches us) × Agree u.batch.writes (whole p.history) (whole h)
 
@@ -171,7 +169,12 @@ one_follows p id u h v us is has =
     let found : pending_in id us ≡ Some u = ap (λ b. cond b (Some v) (pending_in id us)) (sym (passes_it id v is)) ∙ has.0 in
     (found, has.1.1, λ w at. has.2 w at ∙ sym (agree_behind h v.batch u.batch.writes (found_apart us id u v found has.1.0) w at))
 
-released_carries : (p : Past) (id : ℕ) (u : Unreleased) → pending_of p id ≡ Some u → PastFacts p → Carries p (past_released p) id u
+-- as many are pending
+pub pending_released : (p : Past) (id : ℕ) → UnreleasedRise p → pending_of (past_released p) id ≡ pending_of p id
+pending_released p id above =
+    moved (λ h us. pending_in id us ≡ pending_of p id) (λ h v us is has. ap (λ b. cond b (Some v) (pending_in id us)) (sym (passes_it id v is)) ∙ has) p.unreleased p.released p.last above p.history refl
+
+pub released_carries : (p : Past) (id : ℕ) (u : Unreleased) → pending_of p id ≡ Some u → PastFacts p → Carries p (past_released p) id u
 released_carries p id u is facts =
     let all = moved (Follows p id u) (one_follows p id u) p.unreleased p.released p.last facts.unreleased p.history (is, facts.names, λ w at. refl) in
     record { at = all.0; agree = all.2 }
@@ -228,24 +231,6 @@ module _ (m : Machine) (id : ℕ) (u : Unreleased) (is : pending_of m.past id �
   carries Event.releasing some = released_carries m.past id u is facts.past
   carries (Event.compacting to) some = same_list _ _ id u refl refl is
   carries (Event.taking session) some = same_list _ _ id u refl refl is
-
--- it is carried on by the settling of another one
-carries_on : (p q r : Past) (id : ℕ) (u : Unreleased) → Carries p q id u → Carries q r id u → Carries p r id u
-carries_on p q r id u first rest = record { at = rest.at; agree = λ w at. first.agree w at ∙ rest.agree w at }
-
-other_decided : (m : Machine) (c : Unreleased) (r : Result (Docs × List WriteResult) Refusal) (id : ℕ) (u : Unreleased) → (c.batch.id == id) ≡ false → pending_of m.past id ≡ Some u → Carries m.past (decided_with m c r).past id u
-other_decided m c (Ok done) id u other is = record { at = found_accepted m.past.unreleased c.batch.id id done.1 other ∙ is; agree = λ w at. refl }
-other_decided m c (Err refusal) id u other is = record { at = found_dropped m.past.unreleased c.batch.id id other ∙ is; agree = λ w at. refl }
-
-other_if : (m : Machine) (of : ℕ) (found : Option Unreleased) (id : ℕ) (u : Unreleased) → pending_of m.past of ≡ found → (of == id) ≡ false → pending_of m.past id ≡ Some u → Carries m.past (decided_if m found).past id u
-other_if m of None id u at other is = same_list _ _ id u refl refl is
-other_if m of (Some c) id u at other is = other_decided m c (outcome_of m.past c) id u (ap (λ n. n == id) (number_found m.past.unreleased of c at) ∙ other) is
-
-pub carries_settled : (m : Machine) (id : ℕ) (u : Unreleased) → pending_of m.past id ≡ Some u → Facts m → (of : ℕ) → (of == id) ≡ false → Carries m.past (settled m of).past id u
-carries_settled m id u is facts of other =
-    let n = decided m of in
-    let first = other_if m of (pending_of m.past of) id u refl other is in
-    carries_on m.past n.past (settled m of).past id u first (released_carries n.past id u first.at (keeps m (Event.deciding of) facts).past)
 
 pub outcomes_stay : (m : Machine) (e : Event) (id : ℕ) (o : Outcome) → Facts m → ComesTo m.past id o → IsSome (pending_of (step m e).past id) → ComesTo (step m e).past id o
 outcomes_stay m e id o facts comes some =

@@ -32,6 +32,9 @@ pending_it id u is = grind (arith, nat_tests)
 pub pending_found : (us : List Unreleased) (id : ℕ) (u : Unreleased) → pending_in id us ≡ Some u → is_pending u ≡ true
 pending_found us id u is = pending_it id u (is_found us id u is)
 
+pub passes_it : (id : ℕ) (v : Unreleased) → is_pending v ≡ false → is_it id v ≡ false
+passes_it id v is = grind (arith, nat_tests)
+
 all_next : (P : Unreleased → Type 0) (v : Unreleased) (us : List Unreleased) (id : ℕ) (u : Unreleased) (b : Bool) → cond b (Some v) (pending_in id us) ≡ Some u → P v → (pending_in id us ≡ Some u → P u) → P u
 all_next P v us id u true is here more = subst P (same_some v u is) here
 all_next P v us id u false is here more = more is

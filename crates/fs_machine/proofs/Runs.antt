@@ -24,7 +24,7 @@ use Rattle.fs_machine.specs.Grows.{Grows}
 use Rattle.fs_machine.specs.Leave.{of_others}
 use Rattle.fs_machine.specs.Open.{is_full, with_session}
 use Rattle.fs_machine.specs.Past.{Past, past_from}
-use Rattle.fs_machine.specs.Release.{let_out, past_released}
+use Rattle.fs_machine.specs.Release.{past_released, replies_out}
 use Rattle.fs_machine.specs.Request.{after_request}
 use Rattle.fs_machine.specs.Retry.{retried_if, retry_decision, tried, unless_past, unparked, waits_for, writes_of}
 use Rattle.fs_machine.specs.Settle.{decided_if, decided_with, outcome_of, past_decided, pending_of}
@@ -197,55 +197,62 @@ keeps m (Event.advancing now) facts = record { past = past_kept_advanced m.past 
 keeps m Event.releasing facts = record {
   past = past_kept_at_release m.past facts.past;
   ids = ids_fewer m.past m.parked (past_released m.past) m.parked m.numbers.ids (fewer_released m.past m.parked facts.past.unreleased) facts.ids;
-  sessions = sessions_told (let_out m.past) m.sessions m.numbers.sessions facts.sessions;
+  sessions = sessions_told (replies_out m.past) m.sessions m.numbers.sessions facts.sessions;
 }
 keeps m (Event.compacting to) facts = record { past = past_kept_compacted m.past to facts.past; ids = facts.ids; sessions = facts.sessions }
 keeps m (Event.taking session) facts = record { past = facts.past; ids = facts.ids; sessions = sessions_changed m.sessions session m.numbers.sessions (λ ms. []) facts.sessions }
 
--- ---- the history grows
+-- ---- the history grows, by releases alone
 
-grows_behind : (m : Machine) (r : ParkedRequest) (writes : List Write) (d : Decision) → Grows m.past (carried (drawn m) r writes d).past
-grows_behind m r writes (Decision.refused refusal) = grows_same _ _ refl refl
-grows_behind m r writes (Decision.held id) = grows_same _ _ refl refl
-grows_behind m r writes Decision.goes_on = grows_same _ _ refl refl
+-- the history and the released time are left as they are
+abbrev pub Stays : Past → Past → Type 0
+Stays p q = (q.history ≡ p.history) × (q.released ≡ p.released)
 
-grows_limited : (m : Machine) (r : ParkedRequest) (writes : List Write) (refusal : Option Refusal) → Grows m.past (after_limits refusal m r writes).past
-grows_limited m r writes (Some refusal) = grows_same _ _ refl refl
-grows_limited m r writes None = grows_behind m r writes (decision_behind m (behind m.past writes))
+carried_stays : (m : Machine) (r : ParkedRequest) (writes : List Write) (d : Decision) → Stays m.past (carried (drawn m) r writes d).past
+carried_stays m r writes (Decision.refused refusal) = (refl, refl)
+carried_stays m r writes (Decision.held id) = (refl, refl)
+carried_stays m r writes Decision.goes_on = (refl, refl)
 
-grows_asked : (m : Machine) (session : ℕ) (e : Envelope) (r : Request) → Grows m.past (after_request m session e r).past
-grows_asked m session e (Commit database writes) = grows_limited m (arrived m session e) writes (commit_refusal m session writes)
-grows_asked m session e (GetDocument name mask read_time) = grows_same _ _ refl refl
-grows_asked m session e (BatchGetDocuments database names mask read_time) = grows_same _ _ refl refl
-grows_asked m session e (RunQuery database query read_time) = grows_same _ _ refl refl
+limited_stays : (m : Machine) (r : ParkedRequest) (writes : List Write) (refusal : Option Refusal) → Stays m.past (after_limits refusal m r writes).past
+limited_stays m r writes (Some refusal) = (refl, refl)
+limited_stays m r writes None = carried_stays m r writes (decision_behind m (behind m.past writes))
 
-grows_tried : (m : Machine) (place : ℕ) (r : ParkedRequest) (writes : List Write) (d : Decision) → Grows m.past (tried m place r writes d).past
-grows_tried m place r writes (Decision.refused refusal) = grows_same _ _ refl refl
-grows_tried m place r writes (Decision.held id) = grows_same _ _ refl refl
-grows_tried m place r writes Decision.goes_on = grows_same _ _ refl refl
+pub asked_stays : (m : Machine) (session : ℕ) (e : Envelope) (r : Request) → Stays m.past (after_request m session e r).past
+asked_stays m session e (Commit database writes) = limited_stays m (arrived m session e) writes (commit_refusal m session writes)
+asked_stays m session e (GetDocument name mask read_time) = (refl, refl)
+asked_stays m session e (BatchGetDocuments database names mask read_time) = (refl, refl)
+asked_stays m session e (RunQuery database query read_time) = (refl, refl)
 
-grows_retried : (m : Machine) (place : ℕ) (found : Option ParkedRequest) → Grows m.past (retried_if m place found).past
-grows_retried m place None = grows_same _ _ refl refl
-grows_retried m place (Some r) = grows_tried m place r (writes_of r.envelope.request) (retry_decision m (writes_of r.envelope.request))
+tried_stays : (m : Machine) (place : ℕ) (r : ParkedRequest) (writes : List Write) (d : Decision) → Stays m.past (tried m place r writes d).past
+tried_stays m place r writes (Decision.refused refusal) = (refl, refl)
+tried_stays m place r writes (Decision.held id) = (refl, refl)
+tried_stays m place r writes Decision.goes_on = (refl, refl)
 
-grows_decided : (m : Machine) (u : Unreleased) (r : Result (Docs × List WriteResult) Refusal) → Grows m.past (decided_with m u r).past
-grows_decided m u (Ok done) = grows_same _ _ refl refl
-grows_decided m u (Err refusal) = grows_same _ _ refl refl
+pub retried_stays : (m : Machine) (place : ℕ) (found : Option ParkedRequest) → Stays m.past (retried_if m place found).past
+retried_stays m place None = (refl, refl)
+retried_stays m place (Some r) = tried_stays m place r (writes_of r.envelope.request) (retry_decision m (writes_of r.envelope.request))
 
-grows_if : (m : Machine) (found : Option Unreleased) → Grows m.past (decided_if m found).past
-grows_if m None = grows_same _ _ refl refl
-grows_if m (Some u) = grows_decided m u (outcome_of m.past u)
+with_stays : (m : Machine) (u : Unreleased) (r : Result (Docs × List WriteResult) Refusal) → Stays m.past (decided_with m u r).past
+with_stays m u (Ok done) = (refl, refl)
+with_stays m u (Err refusal) = (refl, refl)
 
-grows_opened : (m : Machine) (full : Bool) → Grows m.past (cond full m (with_session m)).past
-grows_opened m true = grows_same _ _ refl refl
-grows_opened m false = grows_same _ _ refl refl
+pub decided_stays : (m : Machine) (found : Option Unreleased) → Stays m.past (decided_if m found).past
+decided_stays m None = (refl, refl)
+decided_stays m (Some u) = with_stays m u (outcome_of m.past u)
+
+pub opened_stays : (m : Machine) (full : Bool) → Stays m.past (cond full m (with_session m)).past
+opened_stays m true = (refl, refl)
+opened_stays m false = (refl, refl)
+
+grows_still : (old new : Past) → Stays old new → Grows old new
+grows_still old new same = grows_same old new same.0 same.1
 
 pub grows : (m : Machine) (e : Event) → Facts m → Grows m.past (step m e).past
-grows m Event.opening facts = grows_opened m (is_full m)
+grows m Event.opening facts = grows_still _ _ (opened_stays m (is_full m))
 grows m (Event.leaving session) facts = grows_same _ _ refl refl
-grows m (Event.asking session e) facts = grows_asked m session e e.request
-grows m (Event.retrying place) facts = grows_retried m place (slice_get m.parked place)
-grows m (Event.deciding id) facts = grows_if m (pending_of m.past id)
+grows m (Event.asking session e) facts = grows_still _ _ (asked_stays m session e e.request)
+grows m (Event.retrying place) facts = grows_still _ _ (retried_stays m place (slice_get m.parked place))
+grows m (Event.deciding id) facts = grows_still _ _ (decided_stays m (pending_of m.past id))
 grows m (Event.advancing now) facts = grows_same _ _ refl refl
 grows m Event.releasing facts = grows_released m.past facts.past.unreleased
 grows m (Event.compacting to) facts = grows_same _ _ refl refl

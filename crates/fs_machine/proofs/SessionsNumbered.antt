@@ -2,11 +2,11 @@
 use Rattle.std.proofs.Common.{◌≡◌, ℕ, ◌+◌, ◌≤◌, Bool, true, false, cond, List, [], ◌∷◌, ◌++◌, map, refl, sym, ap, subst, arith}
 use Rattle.std.specs.Prelude.{◌==◌}
 use Rattle.fs_rpc.specs.declared.message.Message.{Message}
-use Rattle.fs_machine.specs.Release.{all_delivered, reply_to}
+use Rattle.fs_machine.specs.Release.{all_delivered}
+use Rattle.fs_machine.specs.declared.reply.Reply.{Reply}
 use Rattle.fs_machine.specs.Sessions.{delivered, with_outbox, without}
 use Rattle.fs_machine.specs.SessionsNumbered.{NumbersRise, SessionsNumbered}
 use Rattle.fs_machine.specs.declared.session.Session.{Session}
-use Rattle.fs_machine.specs.declared.unreleased.Unreleased.{Unreleased}
 
 -- the numbers of sessions
 abbrev pub numbers_of : List Session → List ℕ
@@ -47,13 +47,13 @@ same_next : (s : Session) (ss : List Session) (number : ℕ) (change : List Mess
 same_next s ss number change true more = refl
 same_next s ss number change false more = ap (λ ns. s.number ∷ ns) more
 
-same_numbers : (ss : List Session) (number : ℕ) (change : List Message → List Message) → numbers_of (with_outbox number change ss) ≡ numbers_of ss
+pub same_numbers : (ss : List Session) (number : ℕ) (change : List Message → List Message) → numbers_of (with_outbox number change ss) ≡ numbers_of ss
 same_numbers [] number change = refl
 same_numbers (s ∷ ss) number change = same_next s ss number change (s.number == number) (same_numbers ss number change)
 
 pub sessions_changed : (ss : List Session) (number given : ℕ) (change : List Message → List Message) → SessionsNumbered ss given → SessionsNumbered (with_outbox number change ss) given
 sessions_changed ss number given change rise = subst (NumbersRise 0 given) (sym (same_numbers ss number change)) rise
 
-pub sessions_told : (us : List Unreleased) (ss : List Session) (given : ℕ) → SessionsNumbered ss given → SessionsNumbered (all_delivered us ss) given
+pub sessions_told : (rs : List Reply) (ss : List Session) (given : ℕ) → SessionsNumbered ss given → SessionsNumbered (all_delivered rs ss) given
 sessions_told [] ss given rise = rise
-sessions_told (u ∷ us) ss given rise = sessions_told us (delivered u.session (reply_to u) ss) given (sessions_changed ss u.session given (λ ms. ms ++ reply_to u ∷ []) rise)
+sessions_told (r ∷ rs) ss given rise = sessions_told rs (delivered r.session r.message ss) given (sessions_changed ss r.session given (λ ms. ms ++ r.message ∷ []) rise)

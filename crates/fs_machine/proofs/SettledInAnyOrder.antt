@@ -1,48 +1,33 @@
--- Two pending commits come to the same whichever is settled first: each has its own outcome, and what can be released after both
+-- In whatever order pending commits are settled, the same is left: each has its own outcome, and what can be released behind all of them
 -- doesn't hang on what was released in between.
-use Rattle.std.proofs.Common.{◌≡◌, ℕ, ℤ, ◌≤ℤ◌, Bool, true, false, List, [], ◌∷◌, Option, Some, None, Result, Ok, Err, refl, sym, ap, ◌∙◌, arith}
-use Rattle.std.specs.Prelude.{◌==◌, IsSome}
-use Rattle.std.proofs.lemmas.Bool.Decides.{nat_tests}
-use Rattle.std.proofs.lemmas.Int.{ints}
+use Rattle.std.proofs.Common.{◌≡◌, ℕ, Bool, true, false, List, [], ◌∷◌, Option, Some, None, Result, Ok, Err, refl, sym, ap, ◌∙◌, subst, eqb-true}
+use Rattle.std.specs.Prelude.{◌==◌, IsOk}
+use Rattle.std.specs.List.Sorted.{IsPermutation}
+use Rattle.std.proofs.lemmas.List.Elements.{All-from_recursion, recursion_from_All}
+use Rattle.std.proofs.lemmas.List.Sorted.{All-permutation}
 use Rattle.fs_history.specs.declared.batch.Batch.{Batch}
 use Rattle.fs_status.specs.declared.refusal.Refusal.{Refusal}
 use Rattle.fs_write.proofs.BatchLaws.{Agree, law_named_refused, law_named_results}
 use Rattle.fs_write.specs.Batch.{Docs, batch}
 use Rattle.fs_write.specs.declared.write_result.WriteResult.{WriteResult}
+use Rattle.fs_machine.specs.declared.session.Session.{Session}
 use Rattle.fs_machine.specs.declared.unreleased.Unreleased.{Unreleased}
-use Rattle.fs_machine.specs.Event.{Event}
 use Rattle.fs_machine.specs.Facts.{Facts, PastFacts}
-use Rattle.fs_machine.specs.Past.{Past, is_pending}
-use Rattle.fs_machine.specs.Release.{free_to, freed, joined, kept_back, past_released}
-use Rattle.fs_machine.specs.Settle.{accepted_in, decided, decided_if, decided_with, docs_for, dropped_from, is_it, outcome_of, past_decided, pending_of, settled}
+use Rattle.fs_machine.specs.IdsAreDrawn.{IdsAreDrawn}
+use Rattle.fs_machine.specs.Laws.{IsntRefused, NoneRefused, all_settled}
+use Rattle.fs_machine.specs.Past.{Past}
+use Rattle.fs_machine.specs.Release.{past_released, released, replies_out}
+use Rattle.fs_machine.specs.Settle.{decided_if, decided_with, docs_for, outcome_of, past_decided, pending_of, settled}
 use Rattle.fs_machine.specs.State.{Machine}
-use Rattle.fs_machine.specs.UnreleasedRise.{RiseFrom, UnreleasedRise}
-use Rattle.fs_machine.proofs.Moved.{accepted_goes, none_freed, pending_stays}
-use Rattle.fs_machine.proofs.OutcomesStay.{Carries, accepted_isnt, carries_settled}
+use Rattle.fs_machine.proofs.IdsAreDrawn.{fewer_decided, fewer_released, ids_fewer}
+use Rattle.fs_machine.proofs.OutcomesStay.{Carries, once, pending_released, released_carries}
 use Rattle.fs_machine.proofs.Pending.{number_found}
+use Rattle.fs_machine.proofs.ReleasedOnce.{marked_in, released_once}
+use Rattle.fs_machine.proofs.Reordered.{each, same_reordered}
 use Rattle.fs_machine.proofs.ResultsHold.{docs_agree}
-use Rattle.fs_machine.proofs.Runs.{keeps}
-use Rattle.fs_machine.proofs.UnreleasedRise.{free_above, rise_accepted, rise_dropped}
-
--- ---- what becomes of a commit: its results, or that it is dropped
-
-abbrev Verdict : Type 0
-Verdict = Option (List WriteResult)
-
-abbrev verdict : Result (Docs × List WriteResult) Refusal → Verdict
-verdict (Ok done) = Some done.1
-verdict (Err refusal) = None
-
-abbrev marked : ℕ → Verdict → List Unreleased → List Unreleased
-marked id (Some results) us = accepted_in id results us
-marked id None us = dropped_from id us
-
-abbrev marked_past : Past → ℕ → Verdict → Past
-marked_past p id v = record p { unreleased = marked id v p.unreleased }
-
-decided_is : (p : Past) (u : Unreleased) (r : Result (Docs × List WriteResult) Refusal) → past_decided p u r ≡ marked_past p u.batch.id (verdict r)
-decided_is p u (Ok done) = refl
-decided_is p u (Err refusal) = refl
+use Rattle.fs_machine.proofs.Runs.{past_kept_at_deciding, past_kept_at_release}
+use Rattle.fs_machine.proofs.SessionsNumbered.{sessions_told}
+use Rattle.fs_machine.proofs.Verdicts.{decided_marks, in_any_order, marked_gone, marked_none, marked_other, marked_past, verdict, verdict_at, verdict_if}
 
 -- ---- the outcome is its own
 
@@ -56,150 +41,150 @@ verdict_stays p q id u is facts after carries =
     let there = docs_agree q id u carries.at after.unreleased after.names in
     verdict_alike (docs_for p u) (docs_for q u) u.batch (outcome_of p u) (λ w at. here w at ∙ carries.agree w at ∙ sym (there w at)) refl
 
--- ---- two are marked in any order
+-- ---- a commit is settled, and where it is refused, its session isn't told
 
-both_not : (a b : ℕ) (v : Unreleased) → (a == b) ≡ false → is_it a v ≡ true → is_it b v ≡ false
-both_not a b v other is = grind (arith, nat_tests)
+abbrev quietly : Machine → ℕ → Machine
+quietly m id = released (marked_in m id (verdict_at m.past id))
 
-accepted_not_it : (id : ℕ) (v : Unreleased) (results : List WriteResult) → is_it id (record v { results = Some results }) ≡ false
-accepted_not_it id v results = accepted_isnt id v results
+-- what deciding keeps is kept
+kept_if : (P : Past → Type 0) (p : Past) (id : ℕ) (found : Option Unreleased) → pending_of p id ≡ found → ((u : Unreleased) → pending_of p id ≡ Some u → P (past_decided p u (outcome_of p u))) → P p
+    → P (marked_past p id (verdict_if p found))
+kept_if P p id None is keeps has = subst (λ us. P (record p { unreleased = us })) (sym (marked_none p.unreleased id None is)) has
+kept_if P p id (Some u) is keeps has = subst P (decided_marks p id u (outcome_of p u) is) (keeps u is)
 
-mark_here : (id : ℕ) (v : Verdict) (u : Unreleased) (us : List Unreleased) → is_it id u ≡ false → marked id v (u ∷ us) ≡ u ∷ marked id v us
-mark_here id (Some results) u us is = rw is refl
-mark_here id None u us is = rw is refl
+module _ (m : Machine) (facts : Facts m) (a : ℕ) where
+  -- what was committed, before it is released
+  abbrev first : Past
+  first = marked_past m.past a (verdict_at m.past a)
 
--- what stands where a commit is marked
-abbrev left_by : Verdict → Unreleased → List Unreleased → List Unreleased
-left_by (Some results) u us = record u { results = Some results } ∷ us
-left_by None u us = us
+  first_stands : PastFacts first
+  first_stands = kept_if PastFacts m.past a (pending_of m.past a) refl (λ u is. past_kept_at_deciding m.past a u (outcome_of m.past u) is refl facts.past) facts.past
 
-mark_it : (id : ℕ) (v : Verdict) (u : Unreleased) (us : List Unreleased) → is_it id u ≡ true → marked id v (u ∷ us) ≡ left_by v u us
-mark_it id (Some results) u us is = rw is refl
-mark_it id None u us is = rw is refl
+  first_drawn : IdsAreDrawn first m.parked m.numbers.ids
+  first_drawn =
+      kept_if (λ p. IdsAreDrawn p m.parked m.numbers.ids) m.past a (pending_of m.past a) refl
+      (λ u is. let r = outcome_of m.past u in ids_fewer m.past m.parked (past_decided m.past u r) m.parked m.numbers.ids (fewer_decided m.past m.parked u r) facts.ids) facts.ids
 
-mark_left : (id : ℕ) (v w : Verdict) (u : Unreleased) (us : List Unreleased) → marked id v (left_by w u us) ≡ left_by w u (marked id v us)
-mark_left id v (Some results) u us = mark_here id v (record u { results = Some results }) us (accepted_not_it id u results)
-mark_left id v None u us = refl
+  stands : Facts (quietly m a)
+  stands = record {
+    past = past_kept_at_release first first_stands;
+    ids = ids_fewer first m.parked (past_released first) m.parked m.numbers.ids (fewer_released first m.parked first_stands.unreleased) first_drawn;
+    sessions = sessions_told (replies_out first) m.sessions m.numbers.sessions facts.sessions;
+  }
 
-any_next : (a b : ℕ) (v w : Verdict) (u : Unreleased) (us : List Unreleased) (x y : Bool) → (a == b) ≡ false → (b == a) ≡ false → is_it a u ≡ x → is_it b u ≡ y → marked b w (marked a v us) ≡ marked a v (marked b w us)
-    → marked b w (marked a v (u ∷ us)) ≡ marked a v (marked b w (u ∷ us))
-any_next a b v w u us true y other back is_a is_b more =
-    let not_b = both_not a b u other is_a in
-    ap (marked b w) (mark_it a v u us is_a) ∙ mark_left b w v u us ∙ sym (mark_it a v u (marked b w us) is_a) ∙ ap (marked a v) (sym (mark_here b w u us not_b))
-any_next a b v w u us false true other back is_a is_b more =
-    ap (marked b w) (mark_here a v u us is_a) ∙ mark_it b w u (marked a v us) is_b ∙ sym (mark_left a v w u us) ∙ ap (marked a v) (sym (mark_it b w u us is_b))
-any_next a b v w u us false false other back is_a is_b more =
-    ap (marked b w) (mark_here a v u us is_a) ∙ mark_here b w u (marked a v us) is_b ∙ ap (λ us. u ∷ us) more ∙ sym (mark_here a v u (marked b w us) is_a) ∙ ap (marked a v) (sym (mark_here b w u us is_b))
+  -- what is pending then was so before, and comes to the same
+  was_pending : (b : ℕ) (w : Unreleased) (s : Bool) → (a == b) ≡ s → pending_of first b ≡ Some w → pending_of m.past b ≡ Some w
+  was_pending b w true same is =
+      let none = marked_gone m.past.unreleased a (verdict_at m.past a) (once m a facts) in
+      let gone : pending_of first b ≡ None = subst (λ n. pending_of first n ≡ None) (eqb-true a b same) none in
+      absurd (cc)
+  was_pending b w false other is = sym (marked_other m.past.unreleased a b (verdict_at m.past a) other) ∙ is
 
-in_any_order : (a b : ℕ) (v w : Verdict) (us : List Unreleased) → (a == b) ≡ false → (b == a) ≡ false → marked b w (marked a v us) ≡ marked a v (marked b w us)
-in_any_order a b (Some v) (Some w) [] other back = refl
-in_any_order a b (Some v) None [] other back = refl
-in_any_order a b None (Some w) [] other back = refl
-in_any_order a b None None [] other back = refl
-in_any_order a b v w (u ∷ us) other back = any_next a b v w u us (is_it a u) (is_it b u) other back refl refl (in_any_order a b v w us other back)
+  comes_to_same : (b : ℕ) (w : Unreleased) → pending_of (past_released first) b ≡ Some w → (pending_of m.past b ≡ Some w) × (verdict (outcome_of (past_released first) w) ≡ verdict (outcome_of m.past w))
+  comes_to_same b w is =
+      let at : pending_of first b ≡ Some w = sym (pending_released first b first_stands.unreleased) ∙ is in
+      let was = was_pending b w (a == b) refl at in
+      let carries = released_carries first b w at first_stands in
+      let all : Carries m.past (past_released first) b w = record { at = carries.at; agree = carries.agree } in
+      (was, verdict_stays m.past (past_released first) b w was facts.past (past_kept_at_release first first_stands) all)
 
--- ---- a release in between changes nothing of the one behind it
+  -- ---- two of them
 
--- what a release makes of the history and of those behind it
-abbrev Lists : Type 0
-Lists = List Batch × List Unreleased × ℤ
+  marked_alike : (b : ℕ) (found : Option Unreleased) → pending_of (quietly m a).past b ≡ found
+      → marked_in (quietly m a) b (verdict_if (quietly m a).past found) ≡ marked_in (quietly m a) b (verdict_at m.past b)
+  marked_alike b None is =
+      let n = quietly m a in
+      ap (λ us. record n { past = record n.past { unreleased = us } }) (marked_none n.past.unreleased b None is ∙ sym (marked_none n.past.unreleased b (verdict_at m.past b) is))
+  marked_alike b (Some w) is =
+      let same = comes_to_same b w is in
+      ap (marked_in (quietly m a) b) (same.1 ∙ ap (verdict_if m.past) (sym same.0))
 
-abbrev let_go : ℤ → List Batch → List Unreleased → Lists
-let_go last h us = (joined h (freed (free_to last us) us), kept_back (free_to last us) us, free_to last us)
+  twice : (b : ℕ) → quietly (quietly m a) b ≡ released (marked_in (marked_in m a (verdict_at m.past a)) b (verdict_at m.past b))
+  twice b =
+      ap released (marked_alike b (pending_of (quietly m a).past b) refl)
+      ∙ released_once (marked_in m a (verdict_at m.past a)) b (verdict_at m.past b) first_stands.unreleased
 
-goes_next : (u : Unreleased) (us : List Unreleased) (h : List Batch) (last : ℤ) → is_pending u ≡ false → RiseFrom u.batch.time last us → let_go last h (u ∷ us) ≡ let_go last (u.batch ∷ h) us
-goes_next u us h last is rise =
-    let to : free_to last (u ∷ us) ≡ free_to last us = rw is refl in
-    let goes = accepted_goes (free_to last us) u is (free_above us u.batch.time last rise) in
-    ap (λ t. (joined h (freed t (u ∷ us)), kept_back t (u ∷ us), t)) to ∙ rw goes refl
+  again : quietly (quietly m a) a ≡ quietly m a
+  again =
+      let v = verdict_at m.past a in
+      let gone = marked_gone m.past.unreleased a v (once m a facts) in
+      twice a ∙ ap (λ us. released (record m { past = record m.past { unreleased = us } })) (marked_none first.unreleased a v gone)
 
-pending_before : (u : Unreleased) (us : List Unreleased) (last : ℤ) → is_pending u ≡ true → free_to last (u ∷ us) ≤ℤ u.batch.time
-pending_before u us last is = rw is (omega (arith, ints))
+swaps_if : (m : Machine) (a b : ℕ) (s : Bool) → (a == b) ≡ s → Facts m → quietly (quietly m a) b ≡ quietly (quietly m b) a
+swaps_if m a b true same facts = subst (λ n. quietly (quietly m a) n ≡ quietly (quietly m n) a) (eqb-true a b same) refl
+swaps_if m a b false other facts =
+    let v = verdict_at m.past a in
+    let x = verdict_at m.past b in
+    twice m facts a b
+    ∙ ap (λ us. released (record m { past = record m.past { unreleased = us } })) (in_any_order a b v x m.past.unreleased other)
+    ∙ sym (twice m facts b a)
 
-stays_first : (u : Unreleased) (us : List Unreleased) (h : List Batch) (last : ℤ) → is_pending u ≡ true → RiseFrom u.batch.time last us → let_go last h (u ∷ us) ≡ (h, u ∷ us, free_to last (u ∷ us))
-stays_first u us h last is rise =
-    let to = free_to last (u ∷ us) in
-    let before : to ≤ℤ u.batch.time = pending_before u us last is in
-    let none = none_freed us u.batch.time last to rise before in
-    rw (pending_stays to u is, none.0, none.1) refl
+-- ---- all of them
 
--- marked once it is let go, and let go again
-abbrev again : ℤ → ℕ → Verdict → Lists → Lists
-again last id v l = let_go last l.0 (marked id v l.1)
+all_reordered : (m : Machine) (ids other : List ℕ) → Facts m → IsPermutation ids other → each quietly m ids ≡ each quietly m other
+all_reordered m ids other facts moved =
+    same_reordered quietly Facts (λ m a facts. stands m facts a) (λ m a b facts. swaps_if m a b (a == b) refl facts) (λ m a facts. again m facts a) ids other m moved facts
 
-passes : (id : ℕ) (u : Unreleased) → is_pending u ≡ false → is_it id u ≡ false
-passes id u is = grind (arith, nat_tests)
+-- settling one differs in what its session is told
+told_with : (m : Machine) (u : Unreleased) (r : Result (Docs × List WriteResult) Refusal)
+    → released (decided_with m u r) ≡ record (released (marked_in m u.batch.id (verdict r))) { sessions = (released (decided_with m u r)).sessions }
+told_with m u (Ok done) = refl
+told_with m u (Err refusal) = refl
 
-rise_marked : (us : List Unreleased) (id : ℕ) (v : Verdict) (from last : ℤ) → RiseFrom from last us → RiseFrom from last (marked id v us)
-rise_marked us id (Some results) from last above = rise_accepted us id results from last above
-rise_marked us id None from last above = rise_dropped us id from last above
+told_if : (m : Machine) (id : ℕ) (found : Option Unreleased) → pending_of m.past id ≡ found
+    → released (decided_if m found) ≡ record (released (marked_in m id (verdict_if m.past found))) { sessions = (released (decided_if m found)).sessions }
+told_if m id None is =
+    ap (λ us. record (released (record m { past = record m.past { unreleased = us } })) { sessions = (released m).sessions }) (sym (marked_none m.past.unreleased id None is))
+told_if m id (Some u) is =
+    told_with m u (outcome_of m.past u)
+    ∙ ap (λ n. record (released (marked_in m n (verdict (outcome_of m.past u)))) { sessions = (released (decided_with m u (outcome_of m.past u))).sessions }) (number_found m.past.unreleased id u is)
 
-twice_next : (u : Unreleased) (us : List Unreleased) (h : List Batch) (last : ℤ) (id : ℕ) (v : Verdict) (b : Bool) → is_pending u ≡ b → RiseFrom u.batch.time last us
-    → ((k : List Batch) → again last id v (let_go last k us) ≡ let_go last k (marked id v us)) → again last id v (let_go last h (u ∷ us)) ≡ let_go last h (marked id v (u ∷ us))
-twice_next u us h last id v true is rise more = ap (again last id v) (stays_first u us h last is rise)
-twice_next u us h last id v false is rise more =
-    ap (again last id v) (goes_next u us h last is rise) ∙ more (u.batch ∷ h)
-    ∙ sym (goes_next u (marked id v us) h last is (rise_marked us id v u.batch.time last rise))
-    ∙ ap (let_go last h) (sym (mark_here id v u us (passes id u is)))
+past_of_all : (ids : List ℕ) (m : Machine) (ss : List Session) → (all_settled m ids).past ≡ (each quietly (record m { sessions = ss }) ids).past
+past_of_all [] m ss = refl
+past_of_all (id ∷ ids) m ss =
+    let told = (quietly (record m { sessions = ss }) id).sessions in
+    past_of_all ids (settled m id) told
+    ∙ ap (λ (n : Machine). (each quietly (record n { sessions = told }) ids).past) (told_if m id (pending_of m.past id) refl)
 
-twice_none : (id : ℕ) (v : Verdict) (h : List Batch) (last : ℤ) → again last id v (let_go last h []) ≡ let_go last h (marked id v [])
-twice_none id (Some results) h last = refl
-twice_none id None h last = refl
+pub settled_in_any_order : (m : Machine) (ids other : List ℕ) → Facts m → IsPermutation ids other → (all_settled m ids).past ≡ (all_settled m other).past
+settled_in_any_order m ids other facts moved =
+    past_of_all ids m m.sessions ∙ ap (λ (n : Machine). n.past) (all_reordered m ids other facts moved) ∙ sym (past_of_all other m m.sessions)
 
-twice : (us : List Unreleased) (from last : ℤ) (id : ℕ) (v : Verdict) → RiseFrom from last us → (h : List Batch) → again last id v (let_go last h us) ≡ let_go last h (marked id v us)
-twice [] from last id v above h = twice_none id v h last
-twice (u ∷ us) from last id v above h = twice_next u us h last id v (is_pending u) refl above.1 (twice us u.batch.time last id v above.1)
+-- ---- where none is refused, sessions are told the same
 
-abbrev with_lists : Past → Lists → Past
-with_lists p l = record p { history = l.0; unreleased = l.1; released = l.2 }
+accepted_with : (m : Machine) (u : Unreleased) (r : Result (Docs × List WriteResult) Refusal) → IsOk r → released (decided_with m u r) ≡ released (marked_in m u.batch.id (verdict r))
+accepted_with m u (Ok done) ok = refl
+accepted_with m u (Err refusal) ok = absurd (cc)
 
-released_between : (p : Past) (id : ℕ) (v : Verdict) → UnreleasedRise p → past_released (marked_past (past_released p) id v) ≡ past_released (marked_past p id v)
-released_between p id v above = ap (with_lists p) (twice p.unreleased p.released p.last id v above p.history)
+accepted_if : (m : Machine) (id : ℕ) (found : Option Unreleased) → pending_of m.past id ≡ found → IsntRefused m.past found → released (decided_if m found) ≡ released (marked_in m id (verdict_if m.past found))
+accepted_if m id None is ok = ap (λ us. released (record m { past = record m.past { unreleased = us } })) (sym (marked_none m.past.unreleased id None is))
+accepted_if m id (Some u) is ok =
+    accepted_with m u (outcome_of m.past u) ok ∙ ap (λ n. released (marked_in m n (verdict (outcome_of m.past u)))) (number_found m.past.unreleased id u is)
 
--- ---- two settlings
+ok_alike : (r s : Result (Docs × List WriteResult) Refusal) → verdict s ≡ verdict r → IsOk r → IsOk s
+ok_alike (Ok done) (Ok other) same ok = refl
+ok_alike (Ok done) (Err refusal) same ok = absurd (cc)
+ok_alike (Err refusal) s same ok = absurd (cc)
 
-past_of_decided : (m : Machine) (id : ℕ) (u : Unreleased) (r : Result (Docs × List WriteResult) Refusal) → (decided_with m u r).past ≡ past_decided m.past u r
-past_of_decided m id u (Ok done) = refl
-past_of_decided m id u (Err refusal) = refl
+module _ (m : Machine) (facts : Facts m) (id : ℕ) where
+  isnt_still : (b : ℕ) (found : Option Unreleased) → pending_of (quietly m id).past b ≡ found → IsntRefused m.past (pending_of m.past b) → IsntRefused (quietly m id).past found
+  isnt_still b None is ok = tt
+  isnt_still b (Some w) is ok =
+      let same = comes_to_same m facts id b w is in
+      ok_alike (outcome_of m.past w) (outcome_of (quietly m id).past w) same.1 (subst (IsntRefused m.past) same.0 ok)
 
--- what one leaves of the past
-settled_past : (m : Machine) (id : ℕ) (u : Unreleased) → pending_of m.past id ≡ Some u → (settled m id).past ≡ past_released (marked_past m.past id (verdict (outcome_of m.past u)))
-settled_past m id u is =
-    ap (λ found. past_released (decided_if m found).past) is
-    ∙ ap past_released (past_of_decided m id u (outcome_of m.past u) ∙ decided_is m.past u (outcome_of m.past u))
-    ∙ ap (λ n. past_released (marked_past m.past n (verdict (outcome_of m.past u)))) (number_found m.past.unreleased id u is)
+  none_still : (ids : List ℕ) → NoneRefused m.past ids → NoneRefused (quietly m id).past ids
+  none_still [] none = tt
+  none_still (b ∷ ids) none = (isnt_still b (pending_of (quietly m id).past b) refl none.0, none_still ids none.1)
 
-turned : (a b : ℕ) → (a == b) ≡ false → (b == a) ≡ false
-turned a b other = grind (arith, nat_tests)
+all_quiet : (ids : List ℕ) (m : Machine) → Facts m → NoneRefused m.past ids → all_settled m ids ≡ each quietly m ids
+all_quiet [] m facts none = refl
+all_quiet (id ∷ ids) m facts none =
+    ap (λ n. all_settled n ids) (accepted_if m id (pending_of m.past id) refl none.0)
+    ∙ all_quiet ids (quietly m id) (stands m facts id) (none_still m facts id ids none.1)
 
-some_of : {A : Type 0} (o : Option A) → IsSome o → (x : A) × (o ≡ Some x)
-some_of None some = absurd (cc)
-some_of (Some x) some = (x, refl)
-
-settled_stands : (m : Machine) (id : ℕ) → Facts m → Facts (settled m id)
-settled_stands m id facts = keeps (decided m id) Event.releasing (keeps m (Event.deciding id) facts)
-
-module _ (m : Machine) (facts : Facts m) where
-  two_settled : (a b : ℕ) (u w : Unreleased) → pending_of m.past a ≡ Some u → pending_of m.past b ≡ Some w → (a == b) ≡ false
-      → (settled (settled m a) b).past ≡ past_released (marked_past (marked_past m.past a (verdict (outcome_of m.past u))) b (verdict (outcome_of m.past w)))
-  two_settled a b u w is_a is_b other =
-      let n = settled m a in
-      let carries = carries_settled m b w is_b facts a other in
-      let v = verdict (outcome_of m.past u) in
-      let x = verdict (outcome_of m.past w) in
-      let p = marked_past m.past a v in
-      settled_past n b w carries.at
-      ∙ ap (λ r. past_released (marked_past n.past b r)) (verdict_stays m.past n.past b w is_b facts.past (settled_stands m a facts).past carries)
-      ∙ ap (λ q. past_released (marked_past q b x)) (settled_past m a u is_a)
-      ∙ released_between p b x (rise_marked m.past.unreleased a v m.past.released m.past.last facts.past.unreleased)
-
-pub settled_in_any_order : (m : Machine) (a b : ℕ) → Facts m → (a == b) ≡ false → IsSome (pending_of m.past a) → IsSome (pending_of m.past b) → (settled (settled m a) b).past ≡ (settled (settled m b) a).past
-settled_in_any_order m a b facts other some_a some_b =
-    let u = some_of (pending_of m.past a) some_a in
-    let w = some_of (pending_of m.past b) some_b in
-    let back : (b == a) ≡ false = turned a b other in
-    let v = verdict (outcome_of m.past u.0) in
-    let x = verdict (outcome_of m.past w.0) in
-    two_settled m facts a b u.0 w.0 u.1 w.1 other
-    ∙ ap (λ us. past_released (record m.past { unreleased = us })) (in_any_order a b v x m.past.unreleased other back)
-    ∙ sym (two_settled m facts b a w.0 u.0 w.1 u.1 back)
+pub same_replies_in_any_order : (m : Machine) (ids other : List ℕ) → Facts m → IsPermutation ids other → NoneRefused m.past ids → all_settled m ids ≡ all_settled m other
+same_replies_in_any_order m ids other facts moved none =
+    let P : ℕ → Type 0 = λ id. IsntRefused m.past (pending_of m.past id) in
+    let none_other : NoneRefused m.past other = recursion_from_All P other (All-permutation P ids other moved (All-from_recursion P ids none)) in
+    all_quiet ids m facts none ∙ all_reordered m ids other facts moved ∙ sym (all_quiet other m facts none_other)

@@ -1,5 +1,5 @@
 -- A commit comes. It draws its number unless it would pass a limit; of several such limits the first in their order is told. Where
--- a commit before it isn't released yet and writes a name that it writes, it waits (Parked.antt). Else it is pending, one
+-- a commit before it isn't released yet and writes a name that it writes, it waits (Retry.antt). Else it is pending, one
 -- microsecond after the last time that was issued.
 use Rattle.std.specs.Prelude.{ℕ, ℤ, pos, ◌+ℤ◌, ◌+◌, Bool, List, [], ◌∷◌, ◌++◌, Option, Some, None, length, nat_lt, nat_le, int_lt, sum_by, codes, if◌then◌else◌}
 use Rattle.fs_history.specs.Bytes.{batch_size, commit_size, history_size}

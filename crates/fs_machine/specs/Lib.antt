@@ -14,6 +14,7 @@ pub mod Retry
 pub mod Settle
 pub mod Pending
 pub mod Compact
+pub mod Config
 pub mod Outbox
 pub mod Event
 pub mod HistoryRises
@@ -26,4 +27,3 @@ pub mod SessionsNumbered
 pub mod Facts
 pub mod Grows
 pub mod Laws
-pub mod Alone

@@ -1,6 +1,6 @@
 -- What is released: the accepted commits before which none is pending any more. They enter the history in the order of their
 -- times, readers see them, and their replies go to the outboxes, all at once.
-use Rattle.std.specs.Prelude.{ℤ, pos, ◌-ℤ◌, Bool, not, ◌&&◌, int_le, List, [], ◌∷◌, unwrap_or, if◌then◌else◌}
+use Rattle.std.specs.Prelude.{ℤ, pos, ◌-ℤ◌, Bool, not, ◌&&◌, int_le, List, [], ◌∷◌, map, unwrap_or, if◌then◌else◌}
 use Rattle.std.specs.List.{filter}
 use Rattle.fs_history.specs.declared.batch.Batch.{Batch}
 use Rattle.fs_rpc.specs.declared.message.Message.{Message}
@@ -8,6 +8,7 @@ use Rattle.fs_rpc.specs.declared.message.Message.TheVariants as message
 use Rattle.fs_machine.specs.Past.{Past, is_pending}
 use Rattle.fs_machine.specs.declared.unreleased.Unreleased.{Unreleased}
 use Rattle.fs_machine.specs.Sessions.{delivered}
+use Rattle.fs_machine.specs.declared.reply.Reply.{Reply}
 use Rattle.fs_machine.specs.declared.session.Session.{Session}
 use Rattle.fs_machine.specs.State.{Machine}
 
@@ -41,13 +42,22 @@ past_released p = released_to (free_to p.last p.unreleased) p
 abbrev pub reply_to : Unreleased → Message
 reply_to u = message.Commit u.request u.batch.time (unwrap_or u.results [])
 
-abbrev pub all_delivered : List Unreleased → List Session → List Session
+-- and who is told so
+abbrev pub reply_of : Unreleased → Reply
+reply_of u = record { session = u.session; message = reply_to u }
+
+-- these replies, the first of them first
+abbrev pub all_delivered : List Reply → List Session → List Session
 all_delivered [] ss = ss
-all_delivered (u ∷ us) ss = all_delivered us (delivered u.session (reply_to u) ss)
+all_delivered (r ∷ rs) ss = all_delivered rs (delivered r.session r.message ss)
 
 -- what a release lets out
 abbrev pub let_out : Past → List Unreleased
 let_out p = freed (free_to p.last p.unreleased) p.unreleased
 
+-- and its replies
+abbrev pub replies_out : Past → List Reply
+replies_out p = map reply_of (let_out p)
+
 abbrev pub released : Machine → Machine
-released m = record m { past = past_released m.past; sessions = all_delivered (let_out m.past) m.sessions }
+released m = record m { past = past_released m.past; sessions = all_delivered (replies_out m.past) m.sessions }

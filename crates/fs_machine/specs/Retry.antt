@@ -1,6 +1,6 @@
 -- A request that waits is tried again. It is refused where a limit would be passed by now, and then waits no more; it waits on where
 -- something holds it still; else it is carried out, as if it came now, and waits no more.
-use Rattle.std.specs.Prelude.{ℕ, List, [], Option, Some, None, slice_get, remove}
+use Rattle.std.specs.Prelude.{ℕ, List, [], Option, Some, None, option_map, slice_get, remove}
 use Rattle.fs_rpc.specs.declared.request.Request.{Request}
 use Rattle.fs_rpc.specs.declared.request.Request.TheVariants.{Commit, GetDocument, BatchGetDocuments, RunQuery}
 use Rattle.fs_status.specs.declared.refusal.Refusal.{Refusal}
@@ -8,7 +8,9 @@ use Rattle.fs_write.specs.declared.write.Write.{Write}
 use Rattle.fs_machine.specs.Behind.{behind}
 use Rattle.fs_machine.specs.Commit.{Decision, carried_answer, next_commit, prepared, retry_refusal}
 use Rattle.fs_machine.specs.declared.answer.Answer.{Answer}
+use Rattle.fs_machine.specs.declared.parked.Parked.{Parked}
 use Rattle.fs_machine.specs.declared.parked_request.ParkedRequest.{ParkedRequest}
+use Rattle.fs_machine.specs.Past.{Past}
 use Rattle.fs_machine.specs.State.{Machine}
 
 -- the writes that a request asks for; only commits wait
@@ -47,6 +49,15 @@ retried_if m place (Some r) = tried m place r (writes_of r.envelope.request) (re
 abbrev pub retried : Machine → ℕ → Machine
 retried m place = retried_if m place (slice_get m.parked place)
 
--- what the request at a place is answered
-abbrev pub retry_answer : Machine → ParkedRequest → Answer
-retry_answer m r = carried_answer m.past r (retry_decision m (writes_of r.envelope.request))
+-- what a request is answered that is tried again
+abbrev pub tried_answer : Machine → ParkedRequest → Answer
+tried_answer m r = carried_answer m.past r (retry_decision m (writes_of r.envelope.request))
+
+-- and the one at a place
+abbrev pub retry_answer : Machine → ℕ → Option Answer
+retry_answer m place = option_map (tried_answer m) (slice_get m.parked place)
+
+-- ---- what is told of it
+
+abbrev pub parked_of : Past → ParkedRequest → Parked
+parked_of p r = record { session = r.session; id = r.envelope.id; held = behind p (writes_of r.envelope.request) }

@@ -1,15 +1,28 @@
 //! The laws of servers.
-ghost use Rattle.fs_machine.specs.Laws.{AlwaysGrows, AlwaysKept, DocumentsStay, OutcomesStay, SettledInAnyOrder};
+ghost use Rattle.fs_machine.specs.Laws.{AlwaysGrows, AlwaysKept, DocumentsStay, HeldByTheLeast, OutcomesStay, RefusedIsNeverSeen, RepliesComeOnce, RetriedAsIfItCame, SameRepliesInAnyOrder, SettledInAnyOrder};
 
 /// What holds of every run of a server, whatever events come. The times of its history rise, those of the commits behind it
 /// too; no two of these write one name, and those that are accepted have the results that they have on what the history leaves;
-/// commits and sessions have numbers of their own. The history only grows, by later batches, so the documents of a time that
-/// was released are the same ever after. And what was computed for a pending commit stays right as long as it is pending, in whatever
-/// order others are settled; so two that are settled leave the same, whichever is settled first.
+/// commits and sessions have numbers of their own (`kept`). The history only grows, by later batches (`grows`), so the documents of
+/// a time that was released are the same ever after (`unchanged`).
+///
+/// What was computed for a pending commit stays right as long as it is pending, in whatever order others are settled
+/// (`outcomes`). So any number of them leave the same, in whatever order they are settled (`any_order`), with the same replies in the
+/// same order where none is refused (`same_replies`).
+///
+/// What waits, waits for the commit of the least number of those that write one of its names, and what goes on has none
+/// (`held`). A request that waited and goes on is carried out as if it came then (`retried`). The commits that are let out and
+/// answered are the batches that the history has more, in its order: each is answered once, as it comes to be seen
+/// (`replies`). One whose writes are refused is never seen (`refused`).
 pub fn machines_are_lawful()
     ensures kept { AlwaysKept }
     ensures grows { AlwaysGrows }
     ensures unchanged { DocumentsStay }
     ensures outcomes { OutcomesStay }
     ensures any_order { SettledInAnyOrder }
+    ensures same_replies { SameRepliesInAnyOrder }
+    ensures held { HeldByTheLeast }
+    ensures retried { RetriedAsIfItCame }
+    ensures replies { RepliesComeOnce }
+    ensures refused { RefusedIsNeverSeen }
 {}

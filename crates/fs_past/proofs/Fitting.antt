@@ -34,7 +34,7 @@ use Rattle.fs_machine.specs.UnreleasedRise.{RiseFrom}
 use Rattle.fs_machine.specs.declared.unreleased.Unreleased.{Unreleased}
 use Rattle.fs_machine.proofs.ResultsHold.{agree_behind}
 use Rattle.fs_past.specs.declared.accepted.Accepted.{Accepted}
-use Rattle.fs_past.specs.Kept.{BringsEffects, Stands, all_history, all_unreleased, changes_of, left}
+use Rattle.fs_past.specs.Kept.{BringsEffects, Stands, all_history, all_unreleased, changes_of, kept_on_board}
 use Rattle.fs_past.proofs.OnBoard.{Posted1}
 
 -- ---- each change is the next of its name
@@ -103,8 +103,8 @@ stand_behind (c ∷ cs) h u all apart = (
 -- ---- all that is let in
 
 -- the changes of a commit and of those after it
-abbrev changes_from : Option Accepted → List Posted1 → List TimedChange
-changes_from o cs = map (λ (a : Accepted). a.change) (option_map_or (λ a. a ∷ all_ready cs) o [])
+abbrev changes_from : Unreleased → Option Accepted → List Posted1 → List TimedChange
+changes_from u o cs = map (λ (r : Unreleased × Accepted). r.1.change) (option_map_or (λ a. (u, a) ∷ all_ready cs) o [])
 
 abbrev history_from : Option Accepted → List Batch → Unreleased → List Posted1 → List Batch
 history_from o h u cs = cond (is_none o) h (all_history (u.batch ∷ h) cs)
@@ -116,7 +116,7 @@ module _ (law : ChangesOfTheLast) where
 
   in_next : (h : List Batch) (v : Chains) (u : Unreleased) (o : Option Accepted) (cs : List Posted1) → BringsEffects (whole h) u o → AreNewest h v
       → ((w : Chains) → AreNewest (u.batch ∷ h) w → GoIn (u.batch ∷ h) w (changes_of cs) (all_history (u.batch ∷ h) cs))
-      → GoIn h v (changes_from o cs) (history_from o h u cs)
+      → GoIn h v (changes_from u o cs) (history_from o h u cs)
   in_next h v u None cs brings newest more = (tt, refl)
   in_next h v u (Some a) cs brings newest more =
       let are = law u.batch h a.change.changes a.results brings.1 in
@@ -130,7 +130,7 @@ module _ (law : ChangesOfTheLast) where
 
 -- their times rise, up to what can be released
 times_next : (docs : Docs) (u : Unreleased) (o : Option Accepted) (cs : List Posted1) (from last : ℤ) → BringsEffects docs u o → from <ℤ u.batch.time → TimesRise u.batch.time (free_to last (all_unreleased cs)) (changes_of cs)
-    → TimesRise from (cond (is_none (option_map (λ (a : Accepted). a.results) o)) (u.batch.time -ℤ pos 1) (free_to last (all_unreleased cs))) (changes_from o cs)
+    → TimesRise from (cond (is_none (option_map (λ (a : Accepted). a.results) o)) (u.batch.time -ℤ pos 1) (free_to last (all_unreleased cs))) (changes_from u o cs)
 times_next docs u None cs from last brings above more = omega (arith, ints)
 times_next docs u (Some a) cs from last brings above more =
     (subst (λ t. from <ℤ t) (sym brings.0) above, subst (λ t. TimesRise t (free_to last (all_unreleased cs)) (changes_of cs)) (sym brings.0) more)
@@ -139,13 +139,13 @@ pub times_rise : (docs : Docs) (cs : List Posted1) (from last : ℤ) → AllByRe
 times_rise docs [] from last all above = above
 times_rise docs (c ∷ cs) from last all above = times_next docs c.asked c.batch cs from last all.0.effects above.0 (times_rise docs cs c.asked.batch.time last all.1 above.1)
 
--- those that are left stand still
-left_next : (h : List Batch) (u : Unreleased) (c : Posted1) (cs : List Posted1) (b : Bool) → Stands (whole h) c → AllByRecursion (Stands (whole h)) cs → AllByRecursion (Stands (whole (all_history (u.batch ∷ h) cs))) (left cs)
-    → AllByRecursion (Stands (whole (cond b h (all_history (u.batch ∷ h) cs)))) (cond b (c ∷ cs) (left cs))
+-- those that stay stand still
+left_next : (h : List Batch) (u : Unreleased) (c : Posted1) (cs : List Posted1) (b : Bool) → Stands (whole h) c → AllByRecursion (Stands (whole h)) cs → AllByRecursion (Stands (whole (all_history (u.batch ∷ h) cs))) (kept_on_board cs)
+    → AllByRecursion (Stands (whole (cond b h (all_history (u.batch ∷ h) cs)))) (cond b (c ∷ cs) (kept_on_board cs))
 left_next h u c cs true here all more = (here, all)
 left_next h u c cs false here all more = more
 
-pub stand_left : (cs : List Posted1) (h : List Batch) → AllByRecursion (Stands (whole h)) cs → AreApart (batches (all_unreleased cs)) → AllByRecursion (Stands (whole (all_history h cs))) (left cs)
+pub stand_left : (cs : List Posted1) (h : List Batch) → AllByRecursion (Stands (whole h)) cs → AreApart (batches (all_unreleased cs)) → AllByRecursion (Stands (whole (all_history h cs))) (kept_on_board cs)
 stand_left [] h all apart = tt
 stand_left (c ∷ cs) h all apart =
     left_next h c.asked c cs (is_none c.batch) all.0 all.1 (stand_left cs (c.asked.batch ∷ h) (stand_behind cs h c.asked all.1 apart.0) apart.1)

@@ -1,17 +1,18 @@
 -- What is kept of a past after each of its calls.
-use Rattle.std.proofs.Common.{◌≡◌, ℕ, ◌+◌, ◌-◌, ◌^◌, ◌<◌, ◌≤◌, min, ℤ, ◌<ℤ◌, true, List, [], ◌∷◌, ◌++◌, length, Option, Some, None, Ok, refl, sym, ap, ◌∙◌, subst, arith}
+use Rattle.std.proofs.Common.{◌≡◌, ℕ, ◌+◌, ◌≤◌, ℤ, ◌<ℤ◌, true, List, [], ◌∷◌, ◌++◌, length, Option, Some, None, Ok, refl, sym, ap, ◌∙◌, subst, arith}
 use Rattle.std.specs.Prelude.{pos, ◌+ℤ◌, IsSome, IsNone}
 use Rattle.std.specs.Borrow.{Bor}
 use Rattle.std.specs.List.{AllByRecursion}
 use Rattle.std.specs.Option.{option_copied}
 use Rattle.std.proofs.lemmas.Int.{ints}
-use Rattle.fs_board.specs.Board.{Posted, accepted_with, asked_in, free_to as board_free_to, pending_in as board_pending, prepared as board_prepared, ticked, without}
+use Rattle.fs_board.specs.Board.{HasNo, Posted, accepted_with, asked_in, free_to as board_free_to, pending_in as board_pending, prepared as board_prepared, ticked, without}
 use Rattle.fs_board.specs.Rising.{Differ}
 use Rattle.fs_history.specs.Bytes.{batch_size}
 use Rattle.fs_history.specs.History.{whole}
 use Rattle.fs_history.specs.Journal.{Recorded}
 use Rattle.fs_history.specs.Laws.{ChangesOfTheLast}
 use Rattle.fs_history.specs.declared.batch.Batch.{Batch}
+use Rattle.fs_locks.specs.Holds.{Hold, IsLeastOther}
 use Rattle.fs_store.proofs.Absorbing.{floor_all}
 use Rattle.fs_store.specs.Brings.{Brings}
 use Rattle.fs_store.specs.Fits.{AreNext, Fits, TimesRise}
@@ -19,6 +20,7 @@ use Rattle.fs_store.specs.Shows.{Shows}
 use Rattle.fs_store.specs.Stored.{Stored, absorbed}
 use Rattle.fs_write.proofs.BatchLaws.{law_named}
 use Rattle.fs_write.specs.Batch.{IsOutcome}
+use Rattle.fs_write.specs.declared.write.Write.{Write}
 use Rattle.fs_write.specs.declared.change.Change.{Change}
 use Rattle.fs_write.specs.declared.timed_change.TimedChange.{TimedChange}
 use Rattle.fs_write.specs.declared.write_result.WriteResult.{WriteResult}
@@ -30,7 +32,7 @@ use Rattle.fs_machine.specs.Commit.{next_time, past_prepared}
 use Rattle.fs_machine.specs.Facts.{PastFacts}
 use Rattle.fs_machine.specs.IdsAreDrawn.{times_in}
 use Rattle.fs_machine.specs.Past.{Past, batches}
-use Rattle.fs_machine.specs.Release.{free_to, past_released}
+use Rattle.fs_machine.specs.Release.{free_to, let_out, past_released}
 use Rattle.fs_machine.specs.Settle.{ComesTo, IsOutcomeOf, IsOutcomeOfPending, IsOutcomeOn, accepted_in, docs_for, dropped_from, pending_of}
 use Rattle.fs_machine.proofs.Behind.{free_behind_none}
 use Rattle.fs_machine.proofs.NamesApart.{apart_dropped, names_prepared}
@@ -40,11 +42,13 @@ use Rattle.fs_machine.proofs.ResultsHold.{docs_agree, results_dropped, results_p
 use Rattle.fs_machine.proofs.Runs.{past_kept_advanced, past_kept_at_deciding, past_kept_at_release}
 use Rattle.fs_machine.proofs.UnreleasedRise.{rise_dropped, unreleased_prepared}
 use Rattle.fs_past.specs.declared.accepted.Accepted.{Accepted}
-use Rattle.fs_past.specs.Kept.{BringsEffects, GoOn, IsKept, Stands, all_history, all_unreleased, bytes_of, changes_of, left, past_of, unreleased_of}
+use Rattle.fs_past.specs.Kept.{AreHeld, AreNumbered, BringsEffects, GoOn, HoldsWritten, IsKept, Stands, all_history, all_unreleased, bytes_of, changes_of, kept_on_board, let_out_of, past_of, unreleased_of}
 use Rattle.fs_past.specs.Next.{next_release}
 use Rattle.fs_past.proofs.Fitting.{go_in, stand_left, times_rise}
+use Rattle.fs_past.proofs.Holding.{HeldBut, HeldMore, are_numbered, held_accepted, held_back, held_dropped, held_more}
 use Rattle.fs_past.proofs.OnBoard.{Posted1, accepted_there, all_dropped, all_more, asked_there, bytes_accepted, bytes_and_more, bytes_dropped, dropped_there, fewer_dropped, free_there, fresh_there, length_accepted, length_more, pending_there, stand_accepted, unreleased_more, with_none}
-use Rattle.fs_past.proofs.Releasing.{go_on, moves}
+use Rattle.fs_past.proofs.Releasing.{go_on, lets_out, moves}
+use Rattle.fs_past.proofs.Waiting.{behind_held}
 
 none_is : {A : Type 0} (o : Option A) → IsNone o → o ≡ None
 none_is None none = refl
@@ -58,14 +62,14 @@ lent_some : {A : Type 0} (o : Option (Bor A)) → IsSome (option_copied o) → I
 lent_some None some = absurd (cc)
 lent_some (Some x) some = refl
 
-module _ (j : Recorded) (b : Posted Unreleased Accepted) (s : Stored) (moment : ℤ) (bytes : ℕ) (kept : IsKept j b s moment bytes) where
+module _ (j : Recorded) (b : Posted Unreleased Accepted) (l : List Hold) (s : Stored) (moment : ℤ) (bytes : ℕ) (kept : IsKept j b l s moment bytes) where
   abbrev held : Past
   held = past_of j.history b s moment
 
   -- ---- the clock
 
-  pub kept_ticked : (now : ℤ) → IsKept j (ticked b now) s now bytes
-  kept_ticked now = record { facts = past_kept_advanced held now kept.facts; shows = kept.shows; stand = kept.stand; room = kept.room; waiting = kept.waiting }
+  pub kept_ticked : (now : ℤ) → IsKept j (ticked b now) l s now bytes
+  kept_ticked now = record { facts = past_kept_advanced held now kept.facts; shows = kept.shows; stand = kept.stand; room = kept.room; locks = kept.locks; waiting = kept.waiting }
 
   -- ---- a new commit
 
@@ -94,8 +98,8 @@ module _ (j : Recorded) (b : Posted Unreleased Accepted) (s : Stored) (moment : 
           results = results_prepared held u (none_is u.results none) kept.facts.results;
         }
 
-    pub kept_prepared : behind p u.batch.writes ≡ None → length b.commits + 1 ≤ k.room → (then : ℕ) → then ≡ bytes + batch_size u.batch → IsKept k (board_prepared b u.batch.id u) s moment then
-    kept_prepared free room then is =
+    pub kept_prepared : behind p u.batch.writes ≡ None → length b.commits + 1 ≤ k.room → (m : List Hold) → HeldMore l m u.batch.id u.batch.writes → (then : ℕ) → then ≡ bytes + batch_size u.batch → IsKept k (board_prepared b u.batch.id u) m s moment then
+    kept_prepared free room m holds then is =
         let shape = length_more more u more_is b.commits in
         record {
           facts = subst (λ h. PastFacts (past_of h (board_prepared b u.batch.id u) s moment)) (sym same) (subst PastFacts (sym prepared_held) (facts_prepared free));
@@ -103,12 +107,24 @@ module _ (j : Recorded) (b : Posted Unreleased Accepted) (s : Stored) (moment : 
           stand = subst (λ h. AllByRecursion (Stands (whole h)) (b.commits ++ more ∷ [])) (sym same)
               (all_more (Stands (whole j.history)) b.commits more kept.stand (record { time = time_is; id = refl; pending = none_is u.results none; effects = tt }));
           room = omega arith;
+          locks = held_more l m b.commits more holds kept.locks;
           waiting = is ∙ ap (λ n. n + batch_size u.batch) kept.waiting ∙ sym (bytes_and_more more u more_is b.commits);
         }
 
   -- no commit has a new number
-  pub fresh_on_board : (p : Past) → held ≡ p → (id : ℕ) → times_in id (batches p.unreleased) ≡ 0 → Rattle.fs_board.specs.Board.HasNo id b.commits
+  pub fresh_on_board : (p : Past) → held ≡ p → (id : ℕ) → times_in id (batches p.unreleased) ≡ 0 → HasNo id b.commits
   fresh_on_board p view id none = fresh_there (whole j.history) b.commits id kept.stand (ap (λ (q : Past). times_in id (batches q.unreleased)) view ∙ none)
+
+  -- it comes to nothing, though there is room and its names were held
+  pub kept_back : (k : Recorded) → k.history ≡ j.history → j.room ≤ k.room → (id : ℕ) → HasNo id b.commits → (ws : List Write) (m n : List Hold) → HeldMore l m id ws → HeldBut m n id → IsKept k b n s moment bytes
+  kept_back k same room id none ws m n more but = record {
+    facts = subst (λ h. PastFacts (past_of h b s moment)) (sym same) kept.facts;
+    shows = subst (λ h. Shows h s) (sym same) kept.shows;
+    stand = subst (λ h. AllByRecursion (Stands (whole h)) b.commits) (sym same) kept.stand;
+    room = let r = kept.room in omega arith;
+    locks = held_back l m n b.commits id ws none more but kept.locks;
+    waiting = kept.waiting;
+  }
 
   -- ---- a pending one
 
@@ -165,31 +181,26 @@ module _ (j : Recorded) (b : Posted Unreleased Accepted) (s : Stored) (moment : 
           effects = subst (λ x. BringsEffects (whole j.history) x (Some brought)) (sym same) (time, had, own.1);
         }
 
-        pub kept_accepted : IsKept j accepted s moment bytes
+        pub kept_accepted : IsKept j accepted l s moment bytes
         kept_accepted = record {
           facts = subst PastFacts (sym after_accept) facts_accepted;
           shows = kept.shows;
           stand = stand_accepted (whole j.history) b.commits id brought w kept.stand at stands_accepted;
           room = subst (λ n. n ≤ j.room) (sym (length_accepted b.commits id brought)) kept.room;
+          locks = held_accepted l b.commits id brought kept.locks;
           waiting = kept.waiting ∙ sym (bytes_accepted b.commits id brought);
         }
 
     -- it is dropped
-    module _ (w : Unreleased) (at : asked_in id b.commits ≡ Some w) (pending : board_pending id b.commits ≡ true) (told : ℕ) (tells : told ≡ min (batch_size w.batch) (2 ^ 128 - 1)) (within : bytes < 2 ^ 128) where
+    module _ (w : Unreleased) (at : Some w ≡ asked_in id b.commits) (pending : board_pending id b.commits ≡ true) where
       abbrev dropped : Posted Unreleased Accepted
       dropped = record b { commits = without id b.commits }
 
       pub after_reject : past_of j.history dropped s moment ≡ record held { unreleased = dropped_from id held.unreleased }
       after_reject = ap (λ us. record held { unreleased = us }) (dropped_there (whole j.history) b.commits id kept.stand pending)
 
-      both : bytes ≡ batch_size w.batch + bytes_of (without id b.commits)
-      both = kept.waiting ∙ bytes_dropped b.commits id w at
-
-      pub size_within : told ≤ bytes
-      size_within = let x = both in omega arith
-
-      bytes_left : bytes - told ≡ bytes_of (without id b.commits)
-      bytes_left = let x = both in omega arith
+      pub bytes_but : bytes ≡ batch_size w.batch + bytes_of (without id b.commits)
+      bytes_but = kept.waiting ∙ bytes_dropped b.commits id w (sym at)
 
       facts_dropped : PastFacts (record held { unreleased = dropped_from id held.unreleased })
       facts_dropped = record {
@@ -200,16 +211,29 @@ module _ (j : Recorded) (b : Posted Unreleased Accepted) (s : Stored) (moment : 
         results = results_dropped held.unreleased id (whole j.history) kept.facts.results;
       }
 
-      pub kept_dropped : IsKept j dropped s moment (bytes - told)
-      kept_dropped = record {
+      pub kept_dropped : (m : List Hold) → HeldBut l m id → Differ b.commits → (left : ℕ) → left ≡ bytes_of (without id b.commits) → IsKept j dropped m s moment left
+      kept_dropped m holds differ left is = record {
         facts = subst PastFacts (sym after_reject) facts_dropped;
         shows = kept.shows;
         stand = all_dropped (Stands (whole j.history)) b.commits id kept.stand;
         room = let r = kept.room in let f = fewer_dropped b.commits id in omega arith;
-        waiting = bytes_left;
+        locks = held_dropped l m b.commits id differ holds kept.locks;
+        waiting = is;
       }
 
+  -- ---- whom a commit waits for
+
+  pub behind_board : (p : Past) → held ≡ p → (ws : List Write) (by : ℕ) (told : Option ℕ) → times_in by (batches p.unreleased) ≡ 0 → IsLeastOther (HoldsWritten l ws) by told → told ≡ behind p ws
+  behind_board p view ws by told none is =
+      behind_held (whole j.history) l b.commits kept.stand kept.locks ws by told (ap (λ (q : Past). times_in by (batches q.unreleased)) view ∙ none) is ∙ ap (λ q. behind q ws) view
+
   -- ---- a release
+
+  pub out_of_board : let_out_of b.commits ≡ let_out held
+  out_of_board = lets_out b.commits s.absorbed b.last kept.facts.unreleased
+
+  pub numbered_board : Differ b.commits → AreNumbered b.commits
+  numbered_board differ = are_numbered (whole j.history) b.commits kept.stand differ
 
   pub go_on_board : GoOn j.history b.commits
   go_on_board = go_on b.commits j.history s.absorbed b.last kept.facts.history.ends kept.facts.unreleased
@@ -230,10 +254,10 @@ module _ (j : Recorded) (b : Posted Unreleased Accepted) (s : Stored) (moment : 
           next = goes.0;
         })
 
-    module _ (k : Recorded) (c : Posted Unreleased Accepted) (t : Stored) (left_bytes : ℕ) (history : k.history ≡ all_history j.history b.commits) (board : c ≡ record b { commits = left b.commits })
+    module _ (k : Recorded) (c : Posted Unreleased Accepted) (t : Stored) (left_bytes : ℕ) (history : k.history ≡ all_history j.history b.commits) (board : c ≡ record b { commits = kept_on_board b.commits })
         (brought : t ≡ absorbed s (next_release s to cs)) where
       abbrev there : Past
-      there = record held { history = all_history j.history b.commits; unreleased = all_unreleased (left b.commits); released = free_to b.last (all_unreleased b.commits) }
+      there = record held { history = all_history j.history b.commits; unreleased = all_unreleased (kept_on_board b.commits); released = free_to b.last (all_unreleased b.commits) }
 
       there_is : past_of k.history c t moment ≡ there
       there_is = λ i. record there {
@@ -252,12 +276,13 @@ module _ (j : Recorded) (b : Posted Unreleased Accepted) (s : Stored) (moment : 
       pub after_release : past_of k.history c t moment ≡ past_released held
       after_release = there_is ∙ released_is
 
-      pub kept_released : ((f g : List Batch) → Shows f s → Brings f cs g → Shows g t) → length c.commits ≤ k.room → left_bytes ≡ bytes_of c.commits → IsKept k c t moment left_bytes
-      kept_released shows room waiting = record {
+      pub kept_released : ((f g : List Batch) → Shows f s → Brings f cs g → Shows g t) → length c.commits ≤ k.room → (m : List Hold) → AreHeld m c.commits → left_bytes ≡ bytes_of c.commits → IsKept k c m t moment left_bytes
+      kept_released shows room m locks waiting = record {
         facts = subst PastFacts (sym after_release) (past_kept_at_release held kept.facts);
         shows = subst (λ h. Shows h t) (sym history) (shows j.history (all_history j.history b.commits) kept.shows (subst (λ x. Brings j.history x (all_history j.history b.commits)) (sym is) goes.1));
         stand = subst (λ h. AllByRecursion (Stands (whole h)) c.commits) (sym history)
             (subst (λ (x : Posted Unreleased Accepted). AllByRecursion (Stands (whole (all_history j.history b.commits))) x.commits) (sym board) (stand_left b.commits j.history kept.stand kept.facts.names));
         room = room;
+        locks = locks;
         waiting = waiting;
       }

@@ -1,6 +1,8 @@
 mod Fitting
+mod Holding
 mod Keeping
-mod Lone
 mod Naming
 mod OnBoard
 mod Releasing
+mod Rooms
+mod Waiting

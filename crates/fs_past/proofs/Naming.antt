@@ -15,7 +15,7 @@ use Rattle.fs_write.specs.Batch.{Docs}
 use Rattle.fs_write.specs.WrittenName.{written_name, is_written}
 use Rattle.fs_write.specs.declared.write.Write.{Write}
 
-turned : (a b : DocName) → eq_by_cmp name_cmp a b ≡ eq_by_cmp name_cmp b a
+pub turned : (a b : DocName) → eq_by_cmp name_cmp a b ≡ eq_by_cmp name_cmp b a
 turned a b = (eq_by_cmp_equiv name_cmp_total).symm a b
 
 -- ---- the names that are written

@@ -6,7 +6,7 @@ use Rattle.std.specs.Option.{option_map}
 use Rattle.std.proofs.lemmas.Bool.{eqb-true}
 use Rattle.std.proofs.lemmas.List.{map-append}
 use Rattle.std.proofs.lemmas.List.Sums.{sum_by-cons, sum_by_push}
-use Rattle.fs_board.specs.Board.{Commit, HasNo, accepted_with, asked_in, free_to as board_free_to, next_pending_in, pending_in as board_pending, time_in, without}
+use Rattle.fs_board.specs.Board.{Commit, HasNo, accepted_with, asked_in, asked_pending, free_to as board_free_to, next_pending_in, pending_in as board_pending, time_in, without}
 use Rattle.fs_board.specs.Rising.{Differ}
 use Rattle.fs_history.specs.Bytes.{batch_size}
 use Rattle.fs_machine.specs.declared.unreleased.Unreleased.{Unreleased}
@@ -38,11 +38,11 @@ abbrev pub Found : Bool → Option Unreleased → Option Unreleased → Type 0
 Found true asked found = (u : Unreleased) × (asked ≡ Some u) × (found ≡ Some u)
 Found false asked found = found ≡ None
 
-not_here : (b : Bool) (t : ℤ) (rest : Option ℤ) → cond b (Some t) rest ≡ None → b ≡ false
+pub not_here : (b : Bool) (t : ℤ) (rest : Option ℤ) → cond b (Some t) rest ≡ None → b ≡ false
 not_here true t rest e = absurd (cc)
 not_here false t rest e = refl
 
-not_later : (b : Bool) (t : ℤ) (rest : Option ℤ) → cond b (Some t) rest ≡ None → rest ≡ None
+pub not_later : (b : Bool) (t : ℤ) (rest : Option ℤ) → cond b (Some t) rest ≡ None → rest ≡ None
 not_later true t rest e = absurd (cc)
 not_later false t rest e = e
 
@@ -83,13 +83,13 @@ told_some : (b : Bool) (asked found : Option Unreleased) → Found b asked found
 told_some true asked found f = sym (ap is_some f.2)
 told_some false asked found f = sym (ap is_some f)
 
+told_pending : (b : Bool) (asked found : Option Unreleased) → Found b asked found → cond b asked None ≡ found
+told_pending true asked found f = f.1 ∙ sym f.2
+told_pending false asked found f = sym f
+
 told_true : (b : Bool) (asked found : Option Unreleased) → Found b asked found → true ≡ b → asked ≡ found
 told_true true asked found f is = f.1 ∙ sym f.2
 told_true false asked found f is = absurd (cc)
-
-told_false : (b : Bool) (asked found : Option Unreleased) → Found b asked found → false ≡ b → None ≡ found
-told_false true asked found f is = absurd (cc)
-told_false false asked found f is = sym f
 
 some_is : (found : Option Unreleased) → IsSome found → is_some found ≡ true
 some_is None is = absurd (cc)
@@ -102,8 +102,8 @@ module _ (docs : Docs) (cs : List Posted1) (id : ℕ) (stand : AllByRecursion (S
   pub asked_there : true ≡ board_pending id cs → asked_in id cs ≡ pending_in id (all_unreleased cs)
   asked_there is = told_true (board_pending id cs) (asked_in id cs) (pending_in id (all_unreleased cs)) (found_on_board docs cs id stand differ) is
 
-  pub none_there : false ≡ board_pending id cs → None ≡ pending_in id (all_unreleased cs)
-  none_there is = told_false (board_pending id cs) (asked_in id cs) (pending_in id (all_unreleased cs)) (found_on_board docs cs id stand differ) is
+  pub asked_pending_there : asked_pending id cs ≡ pending_in id (all_unreleased cs)
+  asked_pending_there = told_pending (board_pending id cs) (asked_in id cs) (pending_in id (all_unreleased cs)) (found_on_board docs cs id stand differ)
 
   pub pending_there : IsSome (pending_in id (all_unreleased cs)) → board_pending id cs ≡ true
   pending_there some = is_pending_there ∙ some_is (pending_in id (all_unreleased cs)) some
@@ -130,7 +130,7 @@ free_there docs last (c ∷ cs) stand = free_next c.asked c.time c.batch (board_
 
 -- ---- a new one
 
-count_by : (b : Bool) (rest : ℕ) → cond b 1 0 + rest ≡ 0 → (b ≡ false) × (rest ≡ 0)
+pub count_by : (b : Bool) (rest : ℕ) → cond b 1 0 + rest ≡ 0 → (b ≡ false) × (rest ≡ 0)
 count_by true rest none = absurd (omega arith)
 count_by false rest none = (refl, omega arith)
 

@@ -2,18 +2,23 @@
 --
 --     the journal     c/b at 7, c/a at 5
 --     the board       8 pending, 9 accepted with its results and changes, last 9
+--     the locks       8 holds c/a and c/d, 9 holds c/e: the names that they write
 --     the store       what 5 and 7 leave, up to 7
-use Rattle.std.specs.Prelude.{◌≡◌, ℕ, ℤ, ◌≤◌, ⊤, List, [], ◌∷◌, Option, Some, None, is_none, length, map, sum_by, if◌then◌else◌}
-use Rattle.std.specs.List.{AllByRecursion}
+use Rattle.std.specs.Prelude.{◌≡◌, ℕ, ℤ, ◌≤◌, ⊤, Bool, ◌&&◌, ◌==◌, IsTrue, List, [], ◌∷◌, Option, Some, None, is_none, length, map, sum_by, if◌then◌else◌}
+use Rattle.std.specs.List.{AllByRecursion, list_any}
 use Rattle.std.specs.Option.{option_map}
-use Rattle.fs_board.specs.Board.{Commit, Posted, all_ready}
+use Rattle.fs_board.specs.Board.{Commit, HasNo, Posted, all_ready}
 use Rattle.fs_history.specs.Bytes.{batch_size}
 use Rattle.fs_history.specs.History.{EndsBefore, whole}
 use Rattle.fs_history.specs.Journal.{Recorded}
 use Rattle.fs_history.specs.declared.batch.Batch.{Batch}
+use Rattle.fs_locks.specs.Holds.{Hold, is_held}
+use Rattle.fs_path.specs.declared.name.DocName.{DocName}
 use Rattle.fs_store.specs.Shows.{Shows}
 use Rattle.fs_store.specs.Stored.{Stored}
 use Rattle.fs_write.specs.Batch.{Docs, IsNamed, IsOutcome}
+use Rattle.fs_write.specs.WrittenName.{is_written, written_name}
+use Rattle.fs_write.specs.declared.write.Write.{Write}
 use Rattle.fs_write.specs.declared.timed_change.TimedChange.{TimedChange}
 use Rattle.fs_machine.specs.declared.unreleased.Unreleased.{Unreleased}
 use Rattle.fs_machine.specs.Facts.{PastFacts}
@@ -51,9 +56,28 @@ pub record Stands (docs : Docs) (c : Commit Unreleased Accepted) : Type 0 where
   pub pending : c.asked.results ≡ None
   pub effects : BringsEffects docs c.asked c.batch
 
+-- each has its id, which no other has
+abbrev pub AreNumbered : List (Commit Unreleased Accepted) → Type 0
+AreNumbered [] = ⊤
+AreNumbered (c ∷ cs) = (c.asked.batch.id ≡ c.id) × HasNo c.id cs × AreNumbered cs
+
 -- what they count together, in bytes
 abbrev pub bytes_of : List (Commit Unreleased Accepted) → ℕ
 bytes_of cs = sum_by (λ u. batch_size u.batch) (all_unreleased cs)
+
+-- ---- the names that they hold
+
+-- the commit of an id writes a name
+abbrev pub writes_name : ℕ → DocName → List (Commit Unreleased Accepted) → Bool
+writes_name i n cs = list_any (λ c. c.id == i && is_written n c.asked.batch.writes) cs
+
+-- each holds the names that it writes, and nothing else is held
+abbrev pub AreHeld : List Hold → List (Commit Unreleased Accepted) → Type 0
+AreHeld holds cs = (i : ℕ) (n : DocName) → is_held holds i n ≡ writes_name i n cs
+
+-- an id holds a name that one of these writes
+abbrev pub HoldsWritten : List Hold → List Write → ℕ → Type 0
+HoldsWritten holds ws i = IsTrue (list_any (λ w. is_held holds i (written_name w)) ws)
 
 -- ---- what a release lets in
 
@@ -62,14 +86,18 @@ abbrev pub all_history : List Batch → List (Commit Unreleased Accepted) → Li
 all_history h [] = h
 all_history h (c ∷ cs) = if is_none c.batch then h else all_history (c.asked.batch ∷ h) cs
 
--- the commits that are left
-abbrev pub left : List (Commit Unreleased Accepted) → List (Commit Unreleased Accepted)
-left [] = []
-left (c ∷ cs) = if is_none c.batch then c ∷ cs else left cs
+-- the commits that stay on the board
+abbrev pub kept_on_board : List (Commit Unreleased Accepted) → List (Commit Unreleased Accepted)
+kept_on_board [] = []
+kept_on_board (c ∷ cs) = if is_none c.batch then c ∷ cs else kept_on_board cs
+
+-- those that leave it, with their results
+abbrev pub let_out_of : List (Commit Unreleased Accepted) → List Unreleased
+let_out_of cs = map (λ r. record r.0 { results = Some r.1.results }) (all_ready cs)
 
 -- the changes that come to be seen
 abbrev pub changes_of : List (Commit Unreleased Accepted) → List TimedChange
-changes_of cs = map (λ a. a.change) (all_ready cs)
+changes_of cs = map (λ r. r.1.change) (all_ready cs)
 
 -- each is later than those before it
 abbrev pub GoOn : List Batch → List (Commit Unreleased Accepted) → Type 0
@@ -78,10 +106,11 @@ GoOn h (c ∷ cs) = EndsBefore h c.asked.batch.time × GoOn (c.asked.batch ∷ h
 
 -- ---- always
 
-pub record IsKept (journal : Recorded) (board : Posted Unreleased Accepted) (store : Stored) (moment : ℤ) (bytes : ℕ) : Type 0 where
+pub record IsKept (journal : Recorded) (board : Posted Unreleased Accepted) (holds : List Hold) (store : Stored) (moment : ℤ) (bytes : ℕ) : Type 0 where
   pub facts : PastFacts (past_of journal.history board store moment)
   -- the store has the documents of each time that can be read
   pub shows : Shows journal.history store
   pub stand : AllByRecursion (Stands (whole journal.history)) board.commits
   pub room : length board.commits ≤ journal.room
+  pub locks : AreHeld holds board.commits
   pub waiting : bytes ≡ bytes_of board.commits

@@ -27,9 +27,9 @@ fn answer_uncounted<L: Ledger>(
     requires name { blank.name ≡ L.name }
     requires parts { blank.parts ≡ L.parts }
     requires some { 0 < blank.parts }
-    requires from { store.now.chains.floor ≤ℤ time }
-    requires to { time ≤ℤ store.now.absorbed }
-    ensures { IfOk result (λ ds. (h : List Batch) → Shows h store.now → ds ≡ answer_to query.now (values (at h time))) }
+    requires from { store.now.stored.chains.floor ≤ℤ time }
+    requires to { time ≤ℤ store.now.stored.absorbed }
+    ensures { IfOk result (λ ds. (h : List Batch) → Shows h store.now.stored → ds ≡ answer_to query.now (values (at h time))) }
 {
     histories_are_lawful();
     answers_are_lawful();
@@ -44,9 +44,9 @@ pub(crate) fn answer_at(
     query: &Query,
     time: Micros,
 ) -> Result<Documents, AllocError>
-    requires from { store.now.chains.floor ≤ℤ time }
-    requires to { time ≤ℤ store.now.absorbed }
-    ensures { IfOk result (λ ds. (h : List Batch) → Shows h store.now → ds ≡ answer_to query.now (values (at h time))) }
+    requires from { store.now.stored.chains.floor ≤ℤ time }
+    requires to { time ≤ℤ store.now.stored.absorbed }
+    ensures { IfOk result (λ ds. (h : List Batch) → Shows h store.now.stored → ds ≡ answer_to query.now (values (at h time))) }
 {
     answer_uncounted::<Brand>(alloc, store, query, time, Blank::new(1))
 }

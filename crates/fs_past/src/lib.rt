@@ -4,10 +4,13 @@
 
 mod accepted;
 mod answer;
+mod commits;
+mod holds;
 mod named;
 mod outcome;
 mod past;
 mod release;
+mod replies;
 
-pub use fs_store::Chain;
+pub use fs_store::Version;
 pub use past::Past;

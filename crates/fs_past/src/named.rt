@@ -23,7 +23,7 @@ pub(crate) fn named_by(
     writes: &[Write],
 ) -> Result<Documents, AllocError>
     ensures rising { IfOk result (λ ds. IsTrue (is_sorted name_cmp (by_name ds))) }
-    ensures named { IfOk result (λ ds. (h : List Batch) → Shows h store.now → (name : DocName) → is_written name writes.now ≡ true
+    ensures named { IfOk result (λ ds. (h : List Batch) → Shows h store.now.stored → (name : DocName) → is_written name writes.now ≡ true
         → get (docs_of ds) name ≡ get (whole h) name) }
 {
     histories_are_lawful();

@@ -34,7 +34,7 @@ pub(crate) fn outcome_among(
     writes: &Writes,
     time: Micros,
 ) -> Result<Outcome, AllocError>
-    ensures { IfOk result (λ o. (h : List Batch) → Shows h store.now → IsOutcomeOn (whole h) writes.now time o) }
+    ensures { IfOk result (λ o. (h : List Batch) → Shows h store.now.stored → IsOutcomeOn (whole h) writes.now time o) }
 {
     if writes.len() > u32::MAX as usize {
         return Err(AllocError);

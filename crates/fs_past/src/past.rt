@@ -1,21 +1,24 @@
 //! The past of a database.
-ghost use Rattle.std.specs.Prelude.{◌≡◌, ◌-◌, ◌^◌, min};
-ghost use Rattle.fs_history.specs.Bytes.{batch_size as bytes_of_batch};
+ghost use Rattle.fs_board.specs.Rising.{Differ};
 
 use crate::accepted::Accepted;
 use crate::answer::answer_at;
+use crate::commits::{bytes_in, bytes_left, id_of};
+use crate::holds::{first_behind, hold};
 use crate::outcome::outcome_among;
-use crate::release::{alone, bring, changes_ready, let_in};
+use crate::release::{bring, let_in, make_room};
+use crate::replies::replies_ready;
 use fs_board::Board;
-use fs_history::{Batch, Journal, batch_size, histories_are_lawful};
-use fs_machine::{Outcome, Unreleased};
+use fs_history::{Journal, histories_are_lawful};
+use fs_locks::Locks;
+use fs_machine::{Outcome, Reply, Unreleased};
 use fs_path::DocName;
 use fs_query::Query;
 use fs_status::Id;
-use fs_store::{Chain, Store};
+use fs_store::{Store, Version};
 use fs_time::Micros;
 use fs_value::{Document, Documents};
-use fs_write::{Changes, TimedChange, TimedChanges, WriteResults};
+use fs_write::{Changes, TimedChange, TimedChanges, Write, WriteResults};
 use std::alloc::{AllocError, Global};
 use std::marker::Model;
 
@@ -34,6 +37,8 @@ pub struct Past {
     board: Board<Unreleased, Accepted>,
     // what these count in the limit of the journal, in bytes
     waiting: u128,
+    // the names that they write, which each holds until it leaves the board
+    locks: Locks,
     // its absorbed time is the released time, and its floor that of the past
     store: Store,
     moment: Micros,
@@ -48,22 +53,16 @@ impl Model for Past {
 
     ghost use Rattle.fs_past.specs.Kept.{past_of, IsKept};
 
-    ghost view = { λ p. past_of p.journal.history p.board p.store p.moment };
+    ghost view = { λ p. past_of p.journal.history p.board p.store.stored p.moment };
 
-    ghost invariant = { λ p. IsKept p.journal p.board p.store p.moment p.waiting };
+    ghost invariant = { λ p. IsKept p.journal p.board p.locks p.store.stored p.moment p.waiting };
 }
 
-// Read by reference.
-fn id_of(commit: &Unreleased) -> Id
-    ensures { result ≡ commit.now.batch.id }
+// That no two commits on a board have one id is known of it once it is read.
+fn ids_differ(board: &Board<Unreleased, Accepted>)
+    ensures { Differ board.now.commits }
 {
-    commit.batch.id
-}
-
-fn bytes_in(commit: &Unreleased) -> u128
-    ensures { result ≡ min (bytes_of_batch commit.now.batch) (2 ^ 128 - 1) }
-{
-    batch_size(&commit.batch)
+    let _ = board.last();
 }
 
 impl Past {
@@ -75,7 +74,6 @@ impl Past {
     ghost use Rattle.fs_history.specs.Versions.{chain as chain_from};
     ghost use Rattle.fs_query.specs.AnswerTo.{answer_to};
     ghost use Rattle.fs_time.specs.Moment.{IsMoment};
-    ghost use Rattle.fs_machine.specs.Alone.{IsAlone, with_batch, without_batch};
     ghost use Rattle.fs_machine.specs.Behind.{behind};
     ghost use Rattle.fs_machine.specs.Commit.{journal_count as counted_in, journal_size as size_of, next_time as time_after, past_prepared};
     ghost use Rattle.fs_machine.specs.Compact.{floor_after, past_compacted};
@@ -84,11 +82,10 @@ impl Past {
     ghost use Rattle.fs_machine.specs.Limits.{greatest};
     ghost use Rattle.fs_machine.specs.Past.{batches, past_from};
     ghost use Rattle.fs_machine.specs.Pending.{next_pending as next_in};
-    ghost use Rattle.fs_machine.specs.Release.{past_released};
+    ghost use Rattle.fs_machine.specs.Release.{let_out, past_released, reply_of};
     ghost use Rattle.fs_machine.specs.Settle.{ComesTo, accepted_in, dropped_from, pending_of};
     ghost use Rattle.fs_machine.specs.Tick.{past_advanced};
     ghost use Rattle.fs_machine.specs.declared.answer.Outcome.TheVariants.{Effects};
-    ghost use Rattle.fs_write.specs.declared.write_result.WriteResult.{WriteResult};
 
     /// No commits, at a moment, which can be read. The allocator serves those that come.
     pub fn new(alloc: Global, start: Micros) -> Past
@@ -98,6 +95,7 @@ impl Past {
             journal: Journal::new(alloc),
             board: Board::new(alloc, start),
             waiting: 0,
+            locks: Locks::new(alloc),
             store: Store::new(alloc, start),
             moment: start,
         }
@@ -153,7 +151,7 @@ impl Past {
     pub fn is_pending(&self, id: Id) -> bool
         ensures { result ≡ is_some (pending_of self.now id) }
     {
-        let _ = self.board.last();
+        ids_differ(&self.board);
         self.board.is_pending(id)
     }
 
@@ -168,17 +166,26 @@ impl Past {
     pub fn commit(&self, id: Id) -> Option<&Unreleased>
         ensures { option_copied result ≡ pending_of self.now id }
     {
-        let _ = self.board.last();
-        if self.board.is_pending(id) {
-            self.board.asked(id)
-        } else {
+        ids_differ(&self.board);
+        self.board.pending(id)
+    }
+
+    /// What these writes of a new commit wait behind: the least number of a commit that isn't released and writes a name that they
+    /// write. It takes no memory.
+    pub fn behind(&self, writes: &[Write], by: Id) -> Option<Id>
+        requires { times_in by (batches self.now.unreleased) ≡ 0 }
+        ensures { result ≡ behind self.now writes.now }
+    {
+        if self.board.is_empty() {
             None
+        } else {
+            first_behind(&self.locks, writes, by)
         }
     }
 
     /// A commit is pending from now on, at the next time. It writes no name that a commit writes which isn't released. Where memory
     /// runs out, nothing is changed.
-    pub fn prepare(&mut self, commit: Unreleased) -> Result<(), AllocError>
+    pub fn prepare(&mut self, alloc: Global, commit: Unreleased) -> Result<(), AllocError>
         requires pending { IsNone commit.results }
         requires time { commit.batch.time ≡ time_after self.old }
         requires fresh { times_in commit.batch.id (batches self.old.unreleased) ≡ 0 }
@@ -187,15 +194,17 @@ impl Past {
         ensures ok { OnOk result (self.new ≡ past_prepared self.old commit) }
         ensures err { OnErr result (self.new ≡ self.old) }
     {
-        let _ = self.board.last();
+        ids_differ(&self.board);
         let id = id_of(&commit);
         let waiting = self.waiting + bytes_in(&commit);
         let Some(more) = (self.board.len() as u64).checked_add(1) else {
             return Err(AllocError);
         };
         self.journal.reserve(more)?;
+        hold(alloc, &mut self.locks, &commit)?;
         // A time is left, since the commit has it.
         if let Err(_) = self.board.prepare(id, commit) {
+            self.locks.release_all(id);
             return Err(AllocError);
         }
         self.waiting = waiting;
@@ -231,7 +240,7 @@ impl Past {
         requires { ComesTo self.old id (Effects changes results) }
         ensures { self.new ≡ record self.old { unreleased = accepted_in id results self.old.unreleased } }
     {
-        let _ = self.board.last();
+        ids_differ(&self.board);
         let time = self.board.asked(id).unwrap().time();
         let change = TimedChange { time, id, changes };
         self.board.accept(id, Accepted { results, change });
@@ -242,10 +251,10 @@ impl Past {
         requires { IsSome (pending_of self.old id) }
         ensures { self.new ≡ record self.old { unreleased = dropped_from id self.old.unreleased } }
     {
-        let _ = self.board.last();
-        let size = bytes_in(self.board.asked(id).unwrap());
-        self.board.drop(id);
-        self.waiting -= size;
+        ids_differ(&self.board);
+        let gone = self.board.drop(id);
+        self.locks.release_all(id);
+        self.waiting = bytes_left(&self.board, self.waiting, &gone);
     }
 
     /// Releases what can be: the accepted commits before which none is pending are in the history, and the times before the first that
@@ -256,48 +265,23 @@ impl Past {
     {
         histories_are_lawful();
         let to = self.board.released();
-        let changes = changes_ready(alloc, &self.board)?;
-        bring(alloc, &mut self.store, to, changes)?;
-        let_in(&mut self.journal, &mut self.board, &mut self.waiting);
+        let mut changes = make_room(alloc, &mut self.store, &self.board)?;
+        let_in(
+            &mut self.journal,
+            &mut self.board,
+            &mut self.locks,
+            &mut self.waiting,
+            &mut changes,
+        );
+        bring(&mut self.store, to, TimedChanges::of(changes));
         Ok(())
     }
 
-    /// A pending commit that is alone is accepted, with these changes, and released. Where memory runs out, nothing is changed.
-    pub fn accept_alone(
-        &mut self,
-        alloc: Global,
-        id: Id,
-        changes: Changes,
-    ) -> Result<(), AllocError>
-        requires alone { IsAlone self.old id }
-        requires comes { (results : List WriteResult) × ComesTo self.old id (Effects changes results) }
-        ensures ok { OnOk result ((a : IsAlone self.old id) → self.new ≡ with_batch self.old a.commit) }
-        ensures err { OnErr result (self.new ≡ self.old) }
+    /// What sessions are told at the next release: the replies of the commits that it lets out, the first of them first.
+    pub fn replies(&self, alloc: Global) -> Result<Vec<Reply>, AllocError>
+        ensures { IfOk result (λ rs. rs.items ≡ map reply_of (let_out self.now)) }
     {
-        histories_are_lawful();
-        let to = self.board.last();
-        let time = self.board.asked(id).unwrap().time();
-        let seen = alone(alloc, TimedChange { time, id, changes })?;
-        bring(alloc, &mut self.store, to, seen)?;
-        let commit = self.board.drop(id);
-        self.waiting -= batch_size(&commit.batch);
-        self.journal.push(commit.batch);
-        Ok(())
-    }
-
-    /// A pending commit that is alone is dropped, and its time is used up and released. Where memory runs out, nothing is changed.
-    pub fn reject_alone(&mut self, alloc: Global, id: Id) -> Result<(), AllocError>
-        requires { IsAlone self.old id }
-        ensures ok { OnOk result (self.new ≡ without_batch self.old) }
-        ensures err { OnErr result (self.new ≡ self.old) }
-    {
-        histories_are_lawful();
-        let to = self.board.last();
-        let size = bytes_in(self.board.asked(id).unwrap());
-        bring(alloc, &mut self.store, to, TimedChanges::new(alloc))?;
-        self.board.drop(id);
-        self.waiting -= size;
-        Ok(())
+        replies_ready(alloc, &self.board)
     }
 
     /// The floor rises to a time, as far as that is released. It takes no memory, and tells the floor.
@@ -329,7 +313,7 @@ impl Past {
     }
 
     /// The versions of a name from the floor on, and `None` where there are none.
-    pub fn chain(&self, name: &DocName) -> Option<&Chain>
+    pub fn chain(&self, name: &DocName) -> Option<&[Version]>
         ensures some { IfSome result (λ c. c.now ≡ chain_from self.now.history self.now.floor name.now) }
         ensures none { IsNone result ↔ (chain_from self.now.history self.now.floor name.now ≡ []) }
     {

@@ -1,82 +1,84 @@
 //! Releases of a store.
-ghost use Rattle.std.specs.Prelude.{◌≡◌, ◌≤◌, ◌∷◌, [], List, IfOk, OnOk, OnErr, length};
+ghost use Rattle.std.specs.Prelude.{◌≡◌, ◌-◌, ◌≤◌, ◌++◌, List, [], IfOk, OnOk, length};
+ghost use Rattle.std.specs.List.{All};
+ghost use Rattle.std.specs.Vec.{vec_len, vec_capacity};
 ghost use Rattle.fs_history.specs.declared.batch.Batch.{Batch};
 ghost use Rattle.fs_store.specs.Brings.{Brings};
 ghost use Rattle.fs_store.specs.Fits.{Fits};
+ghost use Rattle.fs_store.specs.Room.{HasRoomFor};
 ghost use Rattle.fs_store.specs.Shows.{Shows};
 ghost use Rattle.fs_store.specs.Stored.{absorbed};
-ghost use Rattle.fs_past.specs.Kept.{GoOn, all_history, bytes_of, changes_of, left};
+ghost use Rattle.fs_versions.specs.Room.{HasRoom};
+ghost use Rattle.fs_past.specs.Kept.{AreHeld, AreNumbered, GoOn, all_history, bytes_of, changes_of, kept_on_board};
 ghost use Rattle.fs_past.specs.Next.{next_release};
 
 use crate::accepted::Accepted;
+use crate::commits::{batch_of, bytes_left, change_of, id_of};
 use fs_board::Board;
-use fs_history::{Journal, batch_size};
+use fs_history::Journal;
+use fs_locks::Locks;
 use fs_machine::Unreleased;
 use fs_store::{Release, Store};
 use fs_time::Micros;
 use fs_write::{TimedChange, TimedChanges};
 use std::alloc::{AllocError, Global};
 
-/// The changes that come to be seen: those of the accepted commits before which none is pending.
-pub(crate) fn changes_ready(
+/// Makes room for the changes of the accepted commits before which none is pending: in a store, one version at each name, and in a
+/// list, which is empty yet. Where memory runs out, nothing is changed that is stored.
+pub(crate) fn make_room(
     alloc: Global,
+    store: &mut Store,
     board: &Board<Unreleased, Accepted>,
-) -> Result<TimedChanges, AllocError>
-    ensures { IfOk result (λ changes. changes ≡ changes_of board.now.commits) }
+) -> Result<Vec<TimedChange>, AllocError>
+    ensures same { store.new.stored ≡ store.old.stored }
+    ensures room { OnOk result (All (λ c. HasRoom store.new.room 1 c.changes) (changes_of board.now.commits)) }
+    ensures none { IfOk result (λ v. v.items ≡ []) }
+    ensures places { IfOk result (λ v. length (changes_of board.now.commits) ≤ vec_capacity v - vec_len v) }
 {
     let ready = board.all_ready(alloc)?;
-    let mut changes = TimedChanges::new(alloc);
-    for accepted in ready.as_slice() {
-        changes.push(accepted.change.copy(alloc)?)?;
+    for commit in ready.as_slice() {
+        store.make_room_for(alloc, &commit.1.change.changes)?;
     }
-    Ok(changes)
+    Ok(Vec::with_capacity(alloc, ready.len())?)
 }
 
-/// The changes of one commit.
-pub(crate) fn alone(alloc: Global, change: TimedChange) -> Result<TimedChanges, AllocError>
-    ensures { IfOk result (λ changes. changes ≡ change ∷ []) }
-{
-    let mut changes = TimedChanges::new(alloc);
-    changes.push(change)?;
-    Ok(changes)
-}
-
-/// Lets the accepted commits into a journal before which none is pending, the first of them first. It takes no memory.
+/// Lets the accepted commits into a journal before which none is pending, the first of them first. They hold no names any more, and
+/// what they change comes into a list. It takes no memory.
 pub(crate) fn let_in(
     journal: &mut Journal,
     board: &mut Board<Unreleased, Accepted>,
+    locks: &mut Locks,
     waiting: &mut u128,
+    changes: &mut Vec<TimedChange>,
 )
     requires room { length board.old.commits ≤ journal.old.room }
     requires times { GoOn journal.old.history board.old.commits }
+    requires numbered { AreNumbered board.old.commits }
+    requires held { AreHeld locks.old board.old.commits }
     requires waiting { waiting.old ≡ bytes_of board.old.commits }
+    requires places { length (changes_of board.old.commits) ≤ vec_capacity changes.old - vec_len changes.old }
     ensures history { journal.new.history ≡ all_history journal.old.history board.old.commits }
-    ensures board { board.new ≡ record board.old { commits = left board.old.commits } }
+    ensures board { board.new ≡ record board.old { commits = kept_on_board board.old.commits } }
     ensures room { length board.new.commits ≤ journal.new.room }
+    ensures held { AreHeld locks.new board.new.commits }
     ensures waiting { waiting.new ≡ bytes_of board.new.commits }
+    ensures changes { changes.new.items ≡ changes.old.items ++ changes_of board.old.commits }
 {
-    while let Some((_, commit, _)) = board.take_ready() {
-        *waiting -= batch_size(&commit.batch);
-        journal.push(commit.batch);
+    while let Some((_, commit, accepted)) = board.take_ready() {
+        locks.release_all(id_of(&commit));
+        *waiting = bytes_left(board, *waiting, &commit);
+        journal.push(batch_of(commit));
+        changes.push_reserved(change_of(accepted));
     }
 }
 
-/// Brings a store up to a time, with the changes of the commits up to it. Where memory runs out, nothing is changed.
-pub(crate) fn bring(
-    alloc: Global,
-    store: &mut Store,
-    to: Micros,
-    changes: TimedChanges,
-) -> Result<(), AllocError>
-    requires { Fits store.old (next_release store.old to changes) }
-    ensures ok { OnOk result (store.new ≡ absorbed store.old (next_release store.old to changes)) }
-    ensures shows { OnOk result ((h : List Batch) (k : List Batch) → Shows h store.old → Brings h changes k → Shows k store.new) }
-    ensures err { OnErr result (store.new ≡ store.old) }
+/// Brings a store up to a time, with the changes of the commits up to it, for which it has room. It takes no memory.
+pub(crate) fn bring(store: &mut Store, to: Micros, changes: TimedChanges)
+    requires fits { Fits store.old.stored (next_release store.old.stored to changes) }
+    requires room { HasRoomFor store.old.room changes }
+    ensures value { store.new.stored ≡ absorbed store.old.stored (next_release store.old.stored to changes) }
+    ensures shows { (h : List Batch) (k : List Batch) → Shows h store.old.stored → Brings h changes k → Shows k store.new.stored }
 {
-    let release = Release {
-        from: store.absorbed(),
-        to,
-        changes,
-    };
-    store.absorb(alloc, &release)
+    let from = store.absorbed();
+    store.absorb(Release { from, to, changes });
 }

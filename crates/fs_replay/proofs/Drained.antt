@@ -1,8 +1,8 @@
 -- What emptying the outboxes of a directory's sessions does, where one message at most waits.
-use Rattle.std.proofs.Common.{◌≡◌, ℕ, Bool, true, false, List, [], ◌∷◌, ◌++◌, refl, ap, ◌∙◌, arith}
+use Rattle.std.proofs.Common.{◌≡◌, ℕ, Bool, true, false, List, [], ◌∷◌, ◌++◌, refl, ap, ◌∙◌}
 use Rattle.std.specs.Prelude.{◌==◌}
-use Rattle.std.specs.List.{list_any, AllByRecursion}
-use Rattle.std.proofs.lemmas.Bool.Decides.{nat_tests}
+use Rattle.std.specs.List.{AllByRecursion}
+use Rattle.std.proofs.lemmas.Bool.{eqb-true}
 use Rattle.std.proofs.lemmas.List.{append-nil}
 use Rattle.fs_rpc.specs.declared.message.Message.{Message}
 use Rattle.fs_machine.specs.Outbox.{outbox_of, taken}
@@ -12,6 +12,7 @@ use Rattle.fs_machine.specs.declared.session.Session.{Session}
 use Rattle.fs_replay.specs.Laws.{HasNothing, is_open}
 use Rattle.fs_replay.specs.Outboxes.{drained, drain_output, message_line, message_lines}
 use Rattle.fs_replay.specs.declared.directory.Named.{Named}
+use Rattle.fs_replay.proofs.Known.{has_number}
 use Rattle.fs_replay.proofs.Waiting.{behind, emptied_same, nothing_in, delivered_elsewhere, delivered_taken, delivered_there}
 
 -- the server with these sessions
@@ -35,21 +36,14 @@ drain_none (n ∷ ns) m none =
 
 -- ---- where one message does
 
--- a session of a directory
-abbrev pub has_number : ℕ → List Named → Bool
-has_number number ns = list_any (λ n. n.number == number) ns
-
 -- the server where a message waits for a session
 abbrev pub delivering : Machine → ℕ → Message → Machine
 delivering m number message = with_list m (delivered number message m.sessions)
 
-same_number : (a b : ℕ) → (a == b) ≡ true → a ≡ b
-same_number a b is = grind (arith, nat_tests)
-
 -- it is taken from that session
 taken_there : (m : Machine) (number at : ℕ) (message : Message) → AllByRecursion HasNothing m.sessions → (at == number) ≡ true → taken (delivering m number message) at ≡ m
 taken_there m number at message none here =
-    ap (λ (k : ℕ). taken (delivering m number message) k) (same_number at number here) ∙ ap (with_list m) (delivered_taken m.sessions number message none)
+    ap (λ (k : ℕ). taken (delivering m number message) k) (eqb-true at number here) ∙ ap (with_list m) (delivered_taken m.sessions number message none)
 
 -- and not from another
 taken_elsewhere : (m : Machine) (number at : ℕ) (message : Message) → AllByRecursion HasNothing m.sessions → (at == number) ≡ false → taken (delivering m number message) at ≡ delivering m number message
@@ -74,7 +68,7 @@ IsToldOnce message output = (name : List ℕ) × (output ≡ message_line name m
 there_delivered : (m : Machine) (number at : ℕ) (message : Message) → AllByRecursion HasNothing m.sessions → is_open number m.sessions ≡ true → (at == number) ≡ true
     → outbox_of (delivering m number message) at ≡ message ∷ []
 there_delivered m number at message none opened here =
-    ap (λ (k : ℕ). outbox_in k (delivered number message m.sessions)) (same_number at number here) ∙ delivered_there m.sessions number message none opened
+    ap (λ (k : ℕ). outbox_in k (delivered number message m.sessions)) (eqb-true at number here) ∙ delivered_there m.sessions number message none opened
 
 output_next : (n : Named) (ns : List Named) (m : Machine) (number : ℕ) (message : Message) (b : Bool) → (n.number == number) ≡ b → AllByRecursion HasNothing m.sessions
     → is_open number m.sessions ≡ true → has_number number (n ∷ ns) ≡ true → (has_number number ns ≡ true → IsToldOnce message (drain_output ns (delivering m number message)))

@@ -3,6 +3,8 @@ use Rattle.std.proofs.Common.{◌≡◌, ℕ, Bool, List, [], ◌++◌, Option, 
 use Rattle.std.proofs.lemmas.List.{append-nil, append_cancel_right}
 use Rattle.fs_edge.specs.declared.status.Status.{Status}
 use Rattle.fs_edge.specs.declared.status.Status.TheVariants as status
+use Rattle.fs_machine.specs.declared.config.Config.{Config}
+use Rattle.fs_machine.specs.declared.limits.Limits.{Limits}
 use Rattle.fs_replay.specs.Run.{Wrote}
 use Rattle.fs_replay.specs.Step.{start}
 use Rattle.fs_replay.specs.Gathering.{is_whole, status_of}
@@ -28,17 +30,18 @@ if_all_taken (Some all) (Some rest) x P took none p =
     let lists : all ≡ x ++ rest = cc in
     subst P (sym (lists ∙ ap (λ r. x ++ r) none ∙ append-nil x)) p
 
--- a front of what was carried out is a front of the transcript
-pub front_of_transcript : (a b : Option (List ℕ)) (whole : Bool) (script : List ℕ) → GainedFront a b (played whole start 1 script) → GainedFront a b (transcript script)
-front_of_transcript a b whole script part =
-    let front = played_front whole script in
-    gained_front_more a a b [] (played whole start 1 script) front.0 (transcript script) (gained_nothing a) part front.1
+module _ (config : Config) (limits : Limits) where
+  -- a front of what was carried out is a front of the transcript
+  pub front_of_transcript : (a b : Option (List ℕ)) (whole : Bool) (script : List ℕ) → GainedFront a b (played whole (start config limits) 1 script) → GainedFront a b (transcript config limits script)
+  front_of_transcript a b whole script part =
+      let front = played_front config limits whole script in
+      gained_front_more a a b [] (played whole (start config limits) 1 script) front.0 (transcript config limits script) (gained_nothing a) part front.1
 
--- what was written where all that was read is carried out
-pub wrote_all : (stop : Stop) (a b : Option (List ℕ)) (taken : List ℕ) → Gained a b (played (is_whole stop) start 1 taken) → Wrote (status_of stop) taken a b
-wrote_all End a b taken gained = gained
-wrote_all Failed a b taken gained = gained
-wrote_all Full a b taken gained = gained
+  -- what was written where all that was read is carried out
+  pub wrote_all : (stop : Stop) (a b : Option (List ℕ)) (taken : List ℕ) → Gained a b (played (is_whole stop) (start config limits) 1 taken) → Wrote config limits (status_of stop) taken a b
+  wrote_all End a b taken gained = gained
+  wrote_all Failed a b taken gained = gained
+  wrote_all Full a b taken gained = gained
 
 pub ended_whole : (stop : Stop) → status_of stop ≡ status.Ok → stop ≡ End
 ended_whole End e = refl
@@ -55,8 +58,9 @@ ended_failed End e = absurd (cc)
 ended_failed Failed e = refl
 ended_failed Full e = absurd (cc)
 
-pub wrote_here : (stop : Stop) (whole : Bool) (status : Status) (a b : Option (List ℕ)) (script bytes : List ℕ)
-    → whole ≡ is_whole stop → status ≡ status_of stop → script ≡ bytes → Gained a b (played whole start 1 script) → Wrote status bytes a b
-wrote_here stop whole status a b script bytes w s t gained =
-    subst (λ x. Wrote x bytes a b) (sym s)
-    (wrote_all stop a b bytes (subst (λ v. Gained a b (played v start 1 bytes)) w (subst (λ t. Gained a b (played whole start 1 t)) t gained)))
+module _ (config : Config) (limits : Limits) where
+  pub wrote_here : (stop : Stop) (whole : Bool) (status : Status) (a b : Option (List ℕ)) (script bytes : List ℕ)
+      → whole ≡ is_whole stop → status ≡ status_of stop → script ≡ bytes → Gained a b (played whole (start config limits) 1 script) → Wrote config limits status bytes a b
+  wrote_here stop whole status a b script bytes w s t gained =
+      subst (λ x. Wrote config limits x bytes a b) (sym s)
+      (wrote_all config limits stop a b bytes (subst (λ v. Gained a b (played v (start config limits) 1 bytes)) w (subst (λ t. Gained a b (played whole (start config limits) 1 t)) t gained)))

@@ -1,171 +1,239 @@
--- What follows from a line.
-use Rattle.std.proofs.Common.{◌≡◌, ◌⊎◌, inl, inr, ℕ, ℤ, true, false, List, [], ◌∷◌, ◌++◌, Option, Some, None, Result, Ok, Err, refl, sym, ap, ◌∙◌, subst}
-use Rattle.std.specs.Prelude.{pos, ◌+ℤ◌, codes}
-use Rattle.std.specs.FinMap.{get}
+-- What follows from a line, by its kind: what it leaves of what was committed, and how many lines it gives.
+use Rattle.std.proofs.Common.{◌≡◌, ℕ, ℤ, Bool, true, false, List, [], ◌∷◌, ◌++◌, Option, Some, None, refl, sym, ap, ◌∙◌, subst}
+use Rattle.std.specs.Prelude.{pos, ◌+ℤ◌, codes, not}
+use Rattle.std.specs.List.{AllByRecursion}
 use Rattle.std.proofs.lemmas.List.{append-nil}
-use Rattle.fs_path.specs.declared.name.DocName.{DocName}
 use Rattle.fs_rpc.specs.MessageJson.{error_json}
 use Rattle.fs_rpc.specs.declared.envelope.SessionRequest.{SessionRequest}
+use Rattle.fs_rpc.specs.declared.request.Envelope.{Envelope}
+use Rattle.fs_rpc.specs.declared.request.Request.{Request}
+use Rattle.fs_rpc.specs.declared.request.Request.TheVariants.{Commit, GetDocument, BatchGetDocuments, RunQuery}
 use Rattle.fs_status.specs.declared.code.Code.TheVariants.{Unimplemented}
 use Rattle.fs_status.specs.declared.refusal.Refusal.{Refusal}
-use Rattle.fs_write.specs.After.{after_batch}
-use Rattle.fs_write.specs.Batch.{Docs}
-use Rattle.fs_write.specs.WrittenName.{is_written}
 use Rattle.fs_write.specs.declared.write.Write.{Write}
-use Rattle.fs_write.specs.declared.write_result.WriteResult.{WriteResult}
-use Rattle.fs_history.specs.History.{whole}
-use Rattle.fs_machine.specs.Commit.{next_commit, prepared}
-use Rattle.fs_machine.specs.Event.{Event}
-use Rattle.fs_machine.specs.Facts.{Facts}
-use Rattle.fs_machine.specs.Grows.{Grows}
-use Rattle.fs_machine.specs.Laws.{AlwaysGrows}
+use Rattle.fs_machine.specs.Behind.{behind}
+use Rattle.fs_machine.specs.Commit.{Decision, after_limits, arrived, carried, commit_refusal, decision_behind, drawn, next_commit}
+use Rattle.fs_machine.specs.Compact.{compacted}
+use Rattle.fs_machine.specs.Leave.{of_others}
 use Rattle.fs_machine.specs.Past.{Past}
+use Rattle.fs_machine.specs.Release.{all_delivered, free_to, kept_back}
+use Rattle.fs_machine.specs.Request.{after_request}
 use Rattle.fs_machine.specs.State.{Machine}
-use Rattle.fs_machine.proofs.Grows.{grows_on, grows_same}
 use Rattle.fs_machine.specs.Tick.{later}
+use Rattle.fs_machine.specs.declared.parked_request.ParkedRequest.{ParkedRequest}
+use Rattle.fs_machine.specs.declared.reply.Reply.{Reply}
 use Rattle.fs_machine.specs.declared.unreleased.Unreleased.{Unreleased}
 use Rattle.fs_replay.specs.Directory.{number_of}
-use Rattle.fs_replay.specs.Laws.{IsBetweenLines, IsOneLine, asked_writes, is_answered, is_commit, is_silent, may_move}
+use Rattle.fs_replay.specs.Laws.{HasNothing, IsBetweenLines, IsOneLine, IsSettled, is_answered, is_commit, is_silent, may_move}
+use Rattle.fs_replay.specs.Played.{Played, nothing, followed_by}
 use Rattle.fs_replay.specs.Reply.{line_error, refused_json}
-use Rattle.fs_replay.specs.Step.{Played, closed, clocked, in_session, leaves, line_played, nothing}
+use Rattle.fs_replay.specs.Settling.{closed}
+use Rattle.fs_replay.specs.Step.{clocked, in_session, leaves, line_played}
 use Rattle.fs_replay.specs.declared.request.Line.{Line}
 use Rattle.fs_replay.specs.declared.request.Line.TheVariants as line
 use Rattle.fs_replay.specs.declared.state.State.{State}
-use Rattle.fs_replay.proofs.Asking.{Answers, Prepares, comes}
-use Rattle.fs_replay.proofs.Between.{clocked_between, clocked_to, compacted_between, compacted_to, last_after, departed_between, departed_by, settling_between, ticked_idle}
-use Rattle.fs_replay.proofs.Closing.{closed_commit, closed_idle, closed_one_line, committed, json_one_line, outcome_on, past_after, preparing, settled_commit, settling}
-
--- a law of batches
-abbrev pub Unwritten : Type 0
-Unwritten = (docs : Docs) (ws : List Write) (t : ℤ) (n : DocName) → is_written n ws ≡ false → get (after_batch docs ws t) n ≡ get docs n
-
--- the state after a line, and what is written for it
-pub record Follows (s : State) (l : Line) (after : State) (output : List ℕ) : Type 0 where
-  pub between : IsBetweenLines after
-  pub grows : Grows s.server.past after.server.past
-  pub unmoved : may_move s l ≡ false → after.server.past ≡ s.server.past
-  pub rises : is_commit s l ≡ true → after.server.past.last ≡ (s.server.past.last +ℤ pos 1)
-  pub kept : (name : DocName) → is_written name (asked_writes l) ≡ false → get (whole after.server.past.history) name ≡ get (whole s.server.past.history) name
-  pub answered : is_answered l ≡ true → IsOneLine output
-  pub silent : is_silent l ≡ true → output ≡ []
-
-same_past : (p q : Past) → q ≡ p → Grows p q
-same_past p q is = grows_same p q (ap (λ (r : Past). r.history) is) (ap (λ (r : Past). r.released) is)
+use Rattle.fs_replay.proofs.Asking.{Comes, answers, comes, prepares, waits}
+use Rattle.fs_replay.proofs.Closing.{closed_by_hand, closed_last, closed_one_line, closed_settled, closed_stays}
+use Rattle.fs_replay.proofs.Ended.{Empty, stands_between}
+use Rattle.fs_replay.proofs.Kept.{KeepsAsking, asked_kept, departed_by, with_server}
+use Rattle.fs_replay.proofs.OneLine.{json_one_line}
+use Rattle.fs_replay.proofs.Released.{nobody_told}
+use Rattle.fs_replay.proofs.Standing.{Any, Stands, any_read, stands_asking}
+use Rattle.fs_replay.proofs.Waiting.{nothing_more}
 
 never : {A : Type 0} → true ≡ false → A
 never e = absurd (cc)
 
--- a line that leaves what was committed as it is
-same_follows : (s : State) (l : Line) (t : State) (output : List ℕ) → IsBetweenLines t → t.server.past ≡ s.server.past → is_commit s l ≡ false
-    → (is_answered l ≡ true → IsOneLine output) → (is_silent l ≡ true → output ≡ []) → Follows s l t output
-same_follows s l t output between past idle answered silent = record {
-  between = between;
-  grows = same_past s.server.past t.server.past past;
-  unmoved = λ _. past;
-  rises = λ yes. never (sym yes ∙ idle);
-  kept = λ name _. ap (λ (p : Past). get (whole p.history) name) past;
-  answered = answered;
-  silent = silent;
+-- ---- a request, before its line is closed
+
+-- the sessions but for the one that may open are as they were
+carried_sessions : (m : Machine) (r : ParkedRequest) (writes : List Write) (d : Decision) → (carried (drawn m) r writes d).sessions ≡ m.sessions
+carried_sessions m r writes (Decision.refused refusal) = refl
+carried_sessions m r writes (Decision.held id) = refl
+carried_sessions m r writes Decision.goes_on = refl
+
+limited_sessions : (m : Machine) (r : ParkedRequest) (writes : List Write) (refusal : Option Refusal) → (after_limits refusal m r writes).sessions ≡ m.sessions
+limited_sessions m r writes (Some refusal) = refl
+limited_sessions m r writes None = carried_sessions m r writes (decision_behind m (behind m.past writes))
+
+request_sessions : (m : Machine) (number : ℕ) (e : Envelope) (request : Request) → (after_request m number e request).sessions ≡ m.sessions
+request_sessions m number e (Commit database writes) = limited_sessions m (arrived m number e) writes (commit_refusal m number writes)
+request_sessions m number e (GetDocument name mask time) = refl
+request_sessions m number e (BatchGetDocuments database names mask time) = refl
+request_sessions m number e (RunQuery database query time) = refl
+
+empty_asking : KeepsAsking Empty Any
+empty_asking = record {
+  by_opening = λ s name empty. nothing_more s.server.sessions s.server.numbers.sessions empty;
+  by_asking = λ s number e knows may empty. subst (AllByRecursion HasNothing) (sym (request_sessions s.server number e e.request)) empty;
 }
 
--- ---- requests
+manual_asking : (manual : Bool) → KeepsAsking (λ s. s.manual ≡ manual) Any
+manual_asking manual = record { by_opening = λ s name is. is; by_asking = λ s number e knows may is. is }
 
--- what follows from a request that was played, once it is closed
-abbrev Asks : State → SessionRequest → Played → Type 0
-Asks s a p = Follows s (line.Asked a) (closed p.state).state (p.output ++ (closed p.state).output)
+module _ (s : State) (a : SessionRequest) (b : IsBetweenLines s) where
+  abbrev played : Played
+  played = in_session s a (number_of a.session s.directory)
 
-answer_follows : (s : State) (a : SessionRequest) (p : Played) → Answers s.server.past (is_commit s (line.Asked a)) p → Asks s a p
-answer_follows s a p answers =
-    let on = answers.on in
-    let closes : closed p.state ≡ nothing on = ap closed answers.state ∙ closed_idle on answers.between in
-    let one : IsOneLine (p.output ++ []) = subst IsOneLine (sym (append-nil p.output)) answers.line in
-    subst (λ (q : Played). Follows s (line.Asked a) q.state (p.output ++ q.output)) (sym closes)
-    (same_follows s (line.Asked a) on (p.output ++ []) answers.between answers.past answers.no (λ _. one) (λ e. never (sym e)))
+  abbrev asked_state : State
+  asked_state = played.state
 
-module _ (unwritten : Unwritten) (grow : AlwaysGrows) where
-  kept_after : (p : Past) (u : Unreleased) (r : Result (Docs × List WriteResult) Refusal) (name : DocName) → is_written name u.batch.writes ≡ false
-      → get (whole (past_after p u r).history) name ≡ get (whole p.history) name
-  kept_after p u (Ok done) name e = unwritten (whole p.history) u.batch.writes u.batch.time name e
-  kept_after p u (Err refusal) name e = refl
+  stands : Stands asked_state
+  stands = asked_kept Stands Any stands_asking s a (any_read a.request) (stands_between s b)
 
-  commit_grows : (m : Machine) (u : Unreleased) → m.past.unreleased ≡ [] → u.results ≡ None → Facts (prepared m u) → Grows m.past (committed m u).past
-  commit_grows m u idle pending facts =
-      let settles = grow (prepared m u) (Event.deciding u.batch.id ∷ Event.releasing ∷ []) facts in
-      let is = settled_commit m u idle pending facts.past.unreleased in
-      grows_on m.past (prepared m u).past (committed m u).past (grows_same _ _ refl refl) (subst (λ (n : Machine). Grows (prepared m u).past n.past) is settles)
+  empty : Empty asked_state
+  empty = asked_kept Empty Any empty_asking s a (any_read a.request) b.empty
 
-  commit_follows : (s : State) (a : SessionRequest) (p : Played) → Prepares s.server.past a.request (is_commit s (line.Asked a)) p → Asks s a p
-  commit_follows s a p prepares =
-      let on = prepares.on in
-      let u = next_commit on.server.past prepares.asks prepares.writes in
-      let m = prepared on.server u in
-      let state : (closed p.state).state ≡ settling on u = ap (λ (t : State). (closed t).state) prepares.state ∙ closed_commit on u prepares.between prepares.own in
-      let told : IsOneLine (p.output ++ (closed p.state).output) =
-      subst (λ (t : State). IsOneLine (p.output ++ (closed t).output)) (sym prepares.state)
-      (subst (λ (o : List ℕ). IsOneLine (o ++ (closed (preparing on u)).output)) (sym prepares.output) (closed_one_line on u prepares.between prepares.own)) in
-      let all : Follows s (line.Asked a) (settling on u) (p.output ++ (closed p.state).output) = record {
-        between = settling_between on u prepares.between prepares.own;
-        grows = subst (λ (q : Past). Grows q (settling on u).server.past) prepares.past (commit_grows on.server u prepares.between.idle prepares.own.pending prepares.own.facts);
-        unmoved = λ e. never (sym prepares.yes ∙ e);
-        rises = λ _. last_after m.past u (outcome_on on.server u) ∙ ap (λ (q : Past). q.last +ℤ pos 1) prepares.past;
-        kept = λ name e.
-            kept_after m.past u (outcome_on on.server u) name (ap (is_written name) (sym prepares.asked) ∙ e) ∙ ap (λ (q : Past). get (whole q.history) name) prepares.past;
-        answered = λ _. told;
-        silent = λ e. never (sym e);
-      } in
-      subst (λ (t : State). Follows s (line.Asked a) t (p.output ++ (closed p.state).output)) (sym state) all
+  same_manual : (manual : Bool) → s.manual ≡ manual → asked_state.manual ≡ manual
+  same_manual manual is = asked_kept (λ (t : State). t.manual ≡ manual) Any (manual_asking manual) s a (any_read a.request) is
 
-  asked_follows : (s : State) (a : SessionRequest) (p : Played) → Answers s.server.past (is_commit s (line.Asked a)) p ⊎ Prepares s.server.past a.request (is_commit s (line.Asked a)) p → Asks s a p
-  asked_follows s a p (inl answers) = answer_follows s a p answers
-  asked_follows s a p (inr prepares) = commit_follows s a p prepares
+  -- nothing is left to settle where what was committed and what waits is as it was
+  still_settled : s.manual ≡ false → asked_state.server.past ≡ s.server.past → asked_state.server.parked ≡ s.server.parked → IsSettled asked_state.server
+  still_settled manual past parked =
+      let settled = b.settled manual in
+      record { released = ap (λ (p : Past). p.unreleased) past ∙ settled.released; parked = parked ∙ settled.parked }
 
-  -- ---- other lines
+  abbrev commits : Bool
+  commits = is_commit s (line.Asked a)
 
-  clock_follows : (s : State) (time : ℤ) → IsBetweenLines s → Follows s (line.Clock time) (closed (clocked s time)).state (closed (clocked s time)).output
-  clock_follows s time b =
-      let now = later s.moment time in
-      let t = clocked_to s now in
-      let closes : closed (clocked s time) ≡ nothing t =
-      ap (λ (m : Machine). closed (record s { server = m; moment = now })) (ticked_idle s.server now b.idle) ∙ closed_idle t (clocked_between s now b) in
-      let all : Follows s (line.Clock time) t [] = record {
-        between = clocked_between s now b;
-        grows = subst (λ (m : Machine). Grows s.server.past m.past) (ticked_idle s.server now b.idle) (grow s.server (Event.advancing now ∷ Event.releasing ∷ []) b.facts);
-        unmoved = λ e. never e;
-        rises = λ e. never (sym e);
-        kept = λ name _. refl;
-        answered = λ e. never (sym e);
-        silent = λ _. refl;
-      } in
-      subst (λ (q : Played). Follows s (line.Clock time) q.state q.output) (sym closes) all
+  -- ---- what was committed stays, but for a commit
 
-  compact_follows : (s : State) (time : ℤ) → IsBetweenLines s → Follows s (line.Compact time) (closed (compacted_to s time)).state (closed (compacted_to s time)).output
-  compact_follows s time b =
-      let t = compacted_to s time in
-      let all : Follows s (line.Compact time) t [] = record {
-        between = compacted_between s time b;
-        grows = grow s.server (Event.compacting time ∷ []) b.facts;
-        unmoved = λ e. never e;
-        rises = λ e. never (sym e);
-        kept = λ name _. refl;
-        answered = λ e. never (sym e);
-        silent = λ _. refl;
-      } in
-      subst (λ (q : Played). Follows s (line.Compact time) q.state q.output) (sym (closed_idle t (compacted_between s time b))) all
+  settled_then : Comes s commits played → commits ≡ false → s.manual ≡ false → IsSettled asked_state.server
+  settled_then (answers it) other manual = still_settled manual it.past it.parked
+  settled_then (waits it) other manual = absurd (it.busy (b.settled manual).released)
+  settled_then (prepares it) other manual = never (sym it.yes ∙ other)
 
-  leave_follows : (s : State) (n : ℕ) (name : List ℕ) (number : Option ℕ) → number_of name s.directory ≡ number → IsBetweenLines s
-      → Follows s (line.Leave name) (leaves s n name number).state (leaves s n name number).output
-  leave_follows s n name None is b = same_follows s (line.Leave name) s _ b refl refl (λ e. never (sym e)) (λ e. never (sym e))
-  leave_follows s n name (Some number) is b =
-      let t = departed_by s number name in
-      let between = departed_between s number name is b in
-      subst (λ (q : Played). Follows s (line.Leave name) q.state q.output) (sym (closed_idle t between))
-      (same_follows s (line.Leave name) t [] between refl refl (λ e. never (sym e)) (λ e. never (sym e)))
+  same_past : Comes s commits played → commits ≡ false → asked_state.server.past ≡ s.server.past
+  same_past (answers it) other = it.past
+  same_past (waits it) other = it.past
+  same_past (prepares it) other = never (sym it.yes ∙ other)
 
-  pub follows : (s : State) (n : ℕ) (l : Line) → IsBetweenLines s → Follows s l (line_played s n l).state (line_played s n l).output
-  follows s n line.Empty b = same_follows s line.Empty s [] b refl refl (λ e. never (sym e)) (λ _. refl)
-  follows s n line.NotBuilt b = same_follows s line.NotBuilt s _ b refl refl (λ _. json_one_line (line_error (error_json Unimplemented (codes "line not read yet")) n)) (λ e. never (sym e))
-  follows s n (line.Refused reason) b = same_follows s (line.Refused reason) s _ b refl refl (λ _. json_one_line (line_error (refused_json reason) n)) (λ e. never (sym e))
-  follows s n (line.Asked a) b = asked_follows s a (in_session s a (number_of a.session s.directory)) (comes s a b)
-  follows s n (line.Clock time) b = clock_follows s time b
-  follows s n (line.Compact time) b = compact_follows s time b
-  follows s n (line.Leave name) b = leave_follows s n name (number_of name s.directory) refl b
+  pub asked_unmoved : commits ≡ false → (closed asked_state).state.server.past ≡ s.server.past
+  asked_unmoved other = closed_stays asked_state (λ off. settled_then (comes s a) other (sym (same_manual s.manual refl) ∙ off)) ∙ same_past (comes s a) other
+
+  -- ---- a commit gets the next time
+
+  prepared_last : Comes s commits played → commits ≡ true → asked_state.server.past.last ≡ (s.server.past.last +ℤ pos 1)
+  prepared_last (answers it) made = never (sym made ∙ it.no)
+  prepared_last (waits it) made = never (sym made ∙ it.no)
+  prepared_last (prepares it) made = ap (λ (p : Past). p.last) it.past
+
+  prepared_parked : Comes s commits played → commits ≡ true → asked_state.server.parked ≡ s.server.parked
+  prepared_parked (answers it) made = it.parked
+  prepared_parked (waits it) made = never (sym made ∙ it.no)
+  prepared_parked (prepares it) made = it.parked
+
+  same_last : (manual : Bool) → s.manual ≡ manual → commits ≡ true → (closed asked_state).state.server.past.last ≡ asked_state.server.past.last
+  same_last true manual made = ap (λ (p : Played). p.state.server.past.last) (closed_by_hand asked_state empty (same_manual true manual))
+  same_last false manual made = closed_last asked_state (prepared_parked (comes s a) made ∙ (b.settled manual).parked)
+
+  pub asked_rises : commits ≡ true → (closed asked_state).state.server.past.last ≡ (s.server.past.last +ℤ pos 1)
+  asked_rises made = same_last s.manual refl made ∙ prepared_last (comes s a) made
+
+  -- ---- one line
+
+  told_one : s.manual ≡ false → Comes s commits played → IsOneLine (followed_by played closed).output
+  told_one manual (answers it) =
+      let same = closed_settled asked_state empty (same_manual false manual) (still_settled manual it.past it.parked) in
+      subst (λ (p : Played). IsOneLine (played.output ++ p.output)) (sym same) (subst IsOneLine (sym (append-nil played.output)) it.line)
+  told_one manual (waits it) = absurd (it.busy (b.settled manual).released)
+  told_one manual (prepares it) =
+      let settled = b.settled manual in
+      let u = next_commit s.server.past it.request it.writes in
+      let alone : asked_state.server.past.unreleased ≡ u ∷ [] = ap (λ (p : Past). p.unreleased) it.past ∙ ap (λ us. us ++ u ∷ []) settled.released in
+      let one = closed_one_line asked_state u stands empty alone refl (it.parked ∙ settled.parked) it.knows (same_manual false manual) in
+      subst (λ o. IsOneLine (o ++ (closed asked_state).output)) (sym it.output) one
+
+  pub asked_one_line : s.manual ≡ false → IsOneLine (followed_by played closed).output
+  asked_one_line manual = told_one manual (comes s a)
+
+-- ---- lines that give nothing
+
+-- closed where nothing waits to be told, and by hand or with nothing left to settle
+quiet_closed : (s t : State) (manual : Bool) → t.manual ≡ manual → Empty t → (t.manual ≡ false → IsSettled t.server) → closed t ≡ nothing t
+quiet_closed s t true is empty settled = closed_by_hand t empty is
+quiet_closed s t false is empty settled = closed_settled t empty is (settled is)
+
+no_output : (t : State) → closed t ≡ nothing t → (closed t).output ≡ []
+no_output t same = ap (λ (p : Played). p.output) same
+
+clock_silent : (s : State) (time : ℤ) → IsBetweenLines s → (closed (clocked s time)).output ≡ []
+clock_silent s time b =
+    let now = later s.moment time in
+    let t = clocked s time in
+    let same : t.server.sessions ≡ s.server.sessions = ap (λ (rs : List Reply). all_delivered rs s.server.sessions) (nobody_told s.server.past now b.facts.past.unreleased b.released) in
+    let none : s.server.past.unreleased ≡ [] → t.server.past.unreleased ≡ [] = λ idle. ap (λ (us : List Unreleased). kept_back (free_to (later s.server.past.last now) us) us) idle in
+    no_output t (quiet_closed s t t.manual refl (subst (AllByRecursion HasNothing) (sym same) b.empty) (λ manual. record { released = none (b.settled manual).released; parked = (b.settled manual).parked }))
+
+compact_silent : (s : State) (time : ℤ) → IsBetweenLines s → (closed (with_server s (compacted s.server time))).output ≡ []
+compact_silent s time b =
+    let t = with_server s (compacted s.server time) in
+    no_output t (quiet_closed s t t.manual refl b.empty (λ manual. record { released = (b.settled manual).released; parked = (b.settled manual).parked }))
+
+hands_silent : (s : State) → IsBetweenLines s → (closed (record s { manual = true })).output ≡ []
+hands_silent s b = let t : State = record s { manual = true } in no_output t (closed_by_hand t b.empty refl)
+
+manual_silent : (s : State) (on : Bool) → on ≡ true → IsBetweenLines s → (closed (record s { manual = on })).output ≡ []
+manual_silent s true is b = hands_silent s b
+manual_silent s false is b = never (sym is)
+
+pub silent : (s : State) (n : ℕ) (l : Line) → is_silent l ≡ true → IsBetweenLines s → (line_played s n l).output ≡ []
+silent s n line.Empty is b = refl
+silent s n line.NotBuilt is b = never (sym is)
+silent s n (line.Refused reason) is b = never (sym is)
+silent s n (line.Asked a) is b = never (sym is)
+silent s n (line.Clock time) is b = clock_silent s time b
+silent s n (line.Compact time) is b = compact_silent s time b
+silent s n (line.Leave name) is b = never (sym is)
+silent s n (line.Manual on) is b = manual_silent s on is b
+silent s n (line.Settle id) is b = never (sym is)
+silent s n line.Retry is b = never (sym is)
+
+-- ---- lines that leave what was committed
+
+leaves_unmoved : (s : State) (n : ℕ) (name : List ℕ) (number : Option ℕ) → IsBetweenLines s → (leaves s n name number).state.server.past ≡ s.server.past
+leaves_unmoved s n name None b = refl
+leaves_unmoved s n name (Some number) b =
+    closed_stays (departed_by s number name) (λ manual. record { released = (b.settled manual).released; parked = ap (of_others number) (b.settled manual).parked })
+
+manual_unmoved : (s : State) (on : Bool) → not on ≡ false → IsBetweenLines s → (closed (record s { manual = on })).state.server.past ≡ s.server.past
+manual_unmoved s true is b = closed_stays (record s { manual = true }) never
+manual_unmoved s false is b = never is
+
+pub unmoved : (s : State) (n : ℕ) (l : Line) → may_move s l ≡ false → IsBetweenLines s → (line_played s n l).state.server.past ≡ s.server.past
+unmoved s n line.Empty is b = refl
+unmoved s n line.NotBuilt is b = refl
+unmoved s n (line.Refused reason) is b = refl
+unmoved s n (line.Asked a) is b = asked_unmoved s a b is
+unmoved s n (line.Clock time) is b = never is
+unmoved s n (line.Compact time) is b = never is
+unmoved s n (line.Leave name) is b = leaves_unmoved s n name (number_of name s.directory) b
+unmoved s n (line.Manual on) is b = manual_unmoved s on is b
+unmoved s n (line.Settle id) is b = never is
+unmoved s n line.Retry is b = never is
+
+-- ---- commits, and answers
+
+pub rises : (s : State) (n : ℕ) (l : Line) → is_commit s l ≡ true → IsBetweenLines s → (line_played s n l).state.server.past.last ≡ (s.server.past.last +ℤ pos 1)
+rises s n line.Empty is b = never (sym is)
+rises s n line.NotBuilt is b = never (sym is)
+rises s n (line.Refused reason) is b = never (sym is)
+rises s n (line.Asked a) is b = asked_rises s a b is
+rises s n (line.Clock time) is b = never (sym is)
+rises s n (line.Compact time) is b = never (sym is)
+rises s n (line.Leave name) is b = never (sym is)
+rises s n (line.Manual on) is b = never (sym is)
+rises s n (line.Settle id) is b = never (sym is)
+rises s n line.Retry is b = never (sym is)
+
+pub answered_once : (s : State) (n : ℕ) (l : Line) → is_answered l ≡ true → s.manual ≡ false → IsBetweenLines s → IsOneLine (line_played s n l).output
+answered_once s n line.Empty is manual b = never (sym is)
+answered_once s n line.NotBuilt is manual b = json_one_line (line_error (error_json Unimplemented (codes "line not read yet")) n)
+answered_once s n (line.Refused reason) is manual b = json_one_line (line_error (refused_json reason) n)
+answered_once s n (line.Asked a) is manual b = asked_one_line s a b manual
+answered_once s n (line.Clock time) is manual b = never (sym is)
+answered_once s n (line.Compact time) is manual b = never (sym is)
+answered_once s n (line.Leave name) is manual b = never (sym is)
+answered_once s n (line.Manual on) is manual b = never (sym is)
+answered_once s n (line.Settle id) is manual b = never (sym is)
+answered_once s n line.Retry is manual b = never (sym is)

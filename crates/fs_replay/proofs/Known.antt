@@ -1,89 +1,99 @@
--- The sessions of a directory: they are open, and each has a number of its own, also after one more opens or one leaves.
-use Rattle.std.proofs.Common.{◌≡◌, ℕ, ◌+◌, ◌<◌, ◌≤◌, Bool, true, false, cond, List, [], ◌∷◌, ◌++◌, Some, refl, ap, ◌∙◌, subst, arith}
-use Rattle.std.specs.Prelude.{◌==◌, ◌||◌}
-use Rattle.std.specs.List.{AllByRecursion}
+-- The sessions of a directory are those that are open, in the order of opening: also after one more opens or one leaves.
+use Rattle.std.proofs.Common.{◌≡◌, ℕ, ◌+◌, ◌<◌, ◌≤◌, Bool, true, false, cond, List, [], ◌∷◌, ◌++◌, Some, refl, sym, ap, ◌∙◌, subst, arith}
+use Rattle.std.specs.Prelude.{◌==◌, ◌||◌, not}
+use Rattle.std.specs.List.{list_any, AllByRecursion}
 use Rattle.std.specs.Str.{bytes_eq}
+use Rattle.std.proofs.lemmas.Bool.{eq-eqb, or_left, or_right}
 use Rattle.std.proofs.lemmas.Bool.Decides.{nat_tests}
 use Rattle.std.proofs.lemmas.List.Folds.{list_any-append}
+use Rattle.fs_machine.specs.Leave.{of_others}
 use Rattle.fs_machine.specs.Sessions.{without as without_session}
-use Rattle.fs_machine.specs.declared.session.Session.{Session}
-use Rattle.fs_replay.specs.Directory.{number_of, without}
 use Rattle.fs_machine.specs.SessionsNumbered.{NumbersRise}
-use Rattle.fs_machine.proofs.SessionsNumbered.{rise_lower}
-use Rattle.fs_replay.specs.Laws.{IsOpen, is_open, numbers_in}
+use Rattle.fs_machine.specs.declared.parked_request.ParkedRequest.{ParkedRequest}
+use Rattle.fs_machine.specs.declared.session.Session.{Session}
+use Rattle.fs_machine.proofs.SessionsNumbered.{numbers_of}
+use Rattle.fs_replay.specs.Directory.{number_of, without}
+use Rattle.fs_replay.specs.Laws.{is_open, numbers_in}
 use Rattle.fs_replay.specs.declared.directory.Named.{Named}
-use Rattle.fs_replay.proofs.Drained.{has_number}
-use Rattle.fs_replay.proofs.Waiting.{apart}
 
 -- ---- the session of a name
 
-either_true : (b c : Bool) → c ≡ true → (b || c) ≡ true
-either_true true c e = refl
-either_true false c e = e
-
-same_true : (n : ℕ) → (n == n) ≡ true
-same_true n = grind (arith, nat_tests)
+-- a session of a directory
+abbrev pub has_number : ℕ → List Named → Bool
+has_number number ns = list_any (λ n. n.number == number) ns
 
 same_some : (a b : ℕ) → Some a ≡ Some b → a ≡ b
 same_some a b e = cc
 
-here_number : (n : Named) (ns : List Named) (number : ℕ) → n.number ≡ number → has_number number (n ∷ ns) ≡ true
-here_number n ns number is = let here : (n.number == number) ≡ true = grind (arith, nat_tests) in rw here refl
-
 known_next : (n : Named) (ns : List Named) (name : List ℕ) (number : ℕ) (b : Bool) → cond b (Some n.number) (number_of name ns) ≡ Some number → (number_of name ns ≡ Some number → has_number number ns ≡ true)
     → has_number number (n ∷ ns) ≡ true
-known_next n ns name number true e more = here_number n ns number (same_some n.number number e)
-known_next n ns name number false e more = either_true (n.number == number) (has_number number ns) (more e)
+known_next n ns name number true e more = or_left (n.number == number) (has_number number ns) (eq-eqb n.number number (same_some n.number number e))
+known_next n ns name number false e more = or_right (n.number == number) (has_number number ns) (more e)
 
 -- a name's number is in the directory
 pub known : (ns : List Named) (name : List ℕ) (number : ℕ) → number_of name ns ≡ Some number → has_number number ns ≡ true
 known [] name number e = absurd (cc)
 known (n ∷ ns) name number e = known_next n ns name number (bytes_eq n.name name) e (known ns name number)
 
-open_next : (n : Named) (ns : List Named) (name : List ℕ) (number : ℕ) (ss : List Session) (b : Bool) → IsOpen ss n → cond b (Some n.number) (number_of name ns) ≡ Some number
-    → (number_of name ns ≡ Some number → is_open number ss ≡ true) → is_open number ss ≡ true
-open_next n ns name number ss true here e more = subst (λ (k : ℕ). is_open k ss ≡ true) (same_some n.number number e) here
-open_next n ns name number ss false here e more = more e
+-- and that of the last is
+pub knows_it : (ns : List Named) (name : List ℕ) (number : ℕ) → has_number number (ns ++ record { name = name; number = number } ∷ []) ≡ true
+knows_it ns name number =
+    list_any-append (λ (n : Named). n.number == number) ns (record { name = name; number = number } ∷ [])
+    ∙ or_right (has_number number ns) (has_number number (record { name = name; number = number } ∷ [])) (or_left (number == number) false (eq-eqb number number refl))
 
--- and it is open
-pub open_by_name : (ns : List Named) (name : List ℕ) (number : ℕ) (ss : List Session) → AllByRecursion (IsOpen ss) ns → number_of name ns ≡ Some number → is_open number ss ≡ true
-open_by_name [] name number ss all e = absurd (cc)
-open_by_name (n ∷ ns) name number ss all e = open_next n ns name number ss (bytes_eq n.name name) all.0 e (open_by_name ns name number ss all.1)
+-- ---- which sessions are open hangs on their numbers alone
+
+open_by_number : (ss : List Session) (number : ℕ) → is_open number ss ≡ list_any (λ k. k == number) (numbers_of ss)
+open_by_number [] number = refl
+open_by_number (s ∷ ss) number = ap (λ b. (s.number == number) || b) (open_by_number ss number)
+
+known_by_number : (ns : List Named) (number : ℕ) → has_number number ns ≡ list_any (λ k. k == number) (numbers_in ns)
+known_by_number [] number = refl
+known_by_number (n ∷ ns) number = ap (λ b. (n.number == number) || b) (known_by_number ns number)
+
+pub open_alike : (ss ts : List Session) (number : ℕ) → numbers_of ts ≡ numbers_of ss → is_open number ts ≡ is_open number ss
+open_alike ss ts number same = open_by_number ts number ∙ ap (list_any (λ k. k == number)) same ∙ sym (open_by_number ss number)
+
+-- what the script knows is open
+pub known_open : (ns : List Named) (ss : List Session) (number : ℕ) → numbers_in ns ≡ numbers_of ss → has_number number ns ≡ true → is_open number ss ≡ true
+known_open ns ss number same knows = open_by_number ss number ∙ sym (ap (list_any (λ k. k == number)) same) ∙ sym (known_by_number ns number) ∙ knows
+
+-- that what waits is of a session that is open
+abbrev pub OfOpen : List Session → List ParkedRequest → Type 0
+OfOpen ss rs = AllByRecursion (λ r. is_open r.session ss ≡ true) rs
+
+pub of_open_alike : (ss ts : List Session) (rs : List ParkedRequest) → numbers_of ts ≡ numbers_of ss → OfOpen ss rs → OfOpen ts rs
+of_open_alike ss ts [] same all = tt
+of_open_alike ss ts (r ∷ rs) same all = (open_alike ss ts r.session same ∙ all.0, of_open_alike ss ts rs same all.1)
 
 -- ---- one session more
 
 -- a session that has just opened
-abbrev session_of : ℕ → Session
+abbrev pub session_of : ℕ → Session
 session_of number = record { number = number; outbox = [] }
 
-first_true : (b c : Bool) → b ≡ true → (b || c) ≡ true
-first_true true c e = refl
-first_true false c e = absurd (cc)
+pub known_more : (ns : List Named) (ss : List Session) (name : List ℕ) (number : ℕ) → numbers_in ns ≡ numbers_of ss
+    → numbers_in (ns ++ record { name = name; number = number } ∷ []) ≡ numbers_of (ss ++ session_of number ∷ [])
+known_more [] [] name number same = refl
+known_more [] (s ∷ ss) name number same = absurd (cc)
+known_more (n ∷ ns) [] name number same = absurd (cc)
+known_more (n ∷ ns) (s ∷ ss) name number same =
+    let first : n.number ≡ s.number = cc in
+    let rest : numbers_in ns ≡ numbers_of ss = cc in
+    λ i. first i ∷ known_more ns ss name number rest i
 
 still_open : (ss : List Session) (number more : ℕ) → is_open number ss ≡ true → is_open number (ss ++ session_of more ∷ []) ≡ true
 still_open ss number more opened =
-    list_any-append (λ (s : Session). s.number == number) ss (session_of more ∷ []) ∙ first_true (is_open number ss) (is_open number (session_of more ∷ [])) opened
+    list_any-append (λ (s : Session). s.number == number) ss (session_of more ∷ []) ∙ or_left (is_open number ss) (is_open number (session_of more ∷ [])) opened
 
-pub opens_it : (ss : List Session) (number : ℕ) → is_open number (ss ++ session_of number ∷ []) ≡ true
-opens_it ss number =
-    list_any-append (λ (s : Session). s.number == number) ss (session_of number ∷ [])
-    ∙ either_true (is_open number ss) (is_open number (session_of number ∷ [])) (first_true (number == number) false (same_true number))
-
-pub knows_it : (ns : List Named) (name : List ℕ) (number : ℕ) → has_number number (ns ++ record { name = name; number = number } ∷ []) ≡ true
-knows_it ns name number =
-    list_any-append (λ (n : Named). n.number == number) ns (record { name = name; number = number } ∷ [])
-    ∙ either_true (has_number number ns) (has_number number (record { name = name; number = number } ∷ [])) (first_true (number == number) false (same_true number))
-
-pub all_open_more : (ns : List Named) (ss : List Session) (name : List ℕ) (number : ℕ) → AllByRecursion (IsOpen ss) ns
-    → AllByRecursion (IsOpen (ss ++ session_of number ∷ [])) (ns ++ record { name = name; number = number } ∷ [])
-all_open_more [] ss name number all = (opens_it ss number, tt)
-all_open_more (n ∷ ns) ss name number all = (still_open ss n.number number all.0, all_open_more ns ss name number all.1)
-
-pub numbers_more : (ns : List Named) (name : List ℕ) (from to : ℕ) → NumbersRise from to (numbers_in ns) → NumbersRise from (to + 1) (numbers_in (ns ++ record { name = name; number = to } ∷ []))
-numbers_more [] name from to rise = (rise, omega arith)
-numbers_more (n ∷ ns) name from to rise = (rise.0, numbers_more ns name (n.number + 1) to rise.1)
+pub of_open_more : (ss : List Session) (number : ℕ) (rs : List ParkedRequest) → OfOpen ss rs → OfOpen (ss ++ session_of number ∷ []) rs
+of_open_more ss number [] all = tt
+of_open_more ss number (r ∷ rs) all = (still_open ss r.session number all.0, of_open_more ss number rs all.1)
 
 -- ---- one less
+
+pub apart : (a b c : ℕ) → (a == b) ≡ true → (c == b) ≡ false → (a == c) ≡ false
+apart a b c is other = grind (arith, nat_tests)
 
 open_without_next : (s : Session) (ss : List Session) (number other : ℕ) (b : Bool) → (s.number == number) ≡ b → (other == number) ≡ false → is_open other (without_session number ss) ≡ is_open other ss
     → is_open other (cond b ss (s ∷ without_session number ss)) ≡ is_open other (s ∷ ss)
@@ -95,48 +105,47 @@ open_without : (ss : List Session) (number other : ℕ) → (other == number) �
 open_without [] number other distinct = refl
 open_without (s ∷ ss) number other distinct = open_without_next s ss number other (s.number == number) refl distinct (open_without ss number other distinct)
 
-above_apart : (a b : ℕ) → b < a → (a == b) ≡ false
-above_apart a b above = grind (arith, nat_tests)
+others_next : (ss : List Session) (number : ℕ) (r : ParkedRequest) (rs : List ParkedRequest) (b : Bool) → (r.session == number) ≡ b → is_open r.session ss ≡ true → OfOpen (without_session number ss) (of_others number rs)
+    → OfOpen (without_session number ss) (cond (not b) (r ∷ of_others number rs) (of_others number rs))
+others_next ss number r rs true is opened more = more
+others_next ss number r rs false is opened more = (open_without ss number r.session is ∙ opened, more)
 
-below_apart : (a b : ℕ) → a < b → (a == b) ≡ false
+-- so what waits of others is of one that is open
+pub of_open_departed : (ss : List Session) (number : ℕ) (rs : List ParkedRequest) → OfOpen ss rs → OfOpen (without_session number ss) (of_others number rs)
+of_open_departed ss number [] all = tt
+of_open_departed ss number (r ∷ rs) all = others_next ss number r rs (r.session == number) refl all.0 (of_open_departed ss number rs all.1)
+
+pub below_apart : (a b : ℕ) → a < b → (a == b) ≡ false
 below_apart a b below = grind (arith, nat_tests)
-
-others_open : (ns : List Named) (ss : List Session) (number from to : ℕ) → number < from → NumbersRise from to (numbers_in ns) → AllByRecursion (IsOpen ss) ns → AllByRecursion (IsOpen (without_session number ss)) ns
-others_open [] ss number from to below rise all = tt
-others_open (n ∷ ns) ss number from to below rise all =
-    let first = rise.0 in
-    (open_without ss number n.number (above_apart n.number number (omega (arith, first))) ∙ all.0, others_open ns ss number (n.number + 1) to (omega (arith, first)) rise.1 all.1)
 
 found_next : (n : Named) (ns : List Named) (name : List ℕ) (number from : ℕ) (b : Bool) → from ≤ n.number → cond b (Some n.number) (number_of name ns) ≡ Some number
     → (number_of name ns ≡ Some number → n.number + 1 ≤ number) → from ≤ number
-found_next n ns name number from true first e more = let is = same_some n.number number e in omega arith
-found_next n ns name number from false first e more = let rest = more e in omega arith
+found_next n ns name number from true first e more = let is = same_some n.number number e in omega (arith, first, is)
+found_next n ns name number from false first e more = let rest = more e in omega (arith, first, rest)
 
 found_above : (ns : List Named) (name : List ℕ) (number from to : ℕ) → NumbersRise from to (numbers_in ns) → number_of name ns ≡ Some number → from ≤ number
 found_above [] name number from to rise e = absurd (cc)
 found_above (n ∷ ns) name number from to rise e = found_next n ns name number from (bytes_eq n.name name) rise.0 e (found_above ns name number (n.number + 1) to rise.1)
 
-departed_next : (n : Named) (ns : List Named) (ss : List Session) (name : List ℕ) (number to : ℕ) (b : Bool) → NumbersRise (n.number + 1) to (numbers_in ns) → IsOpen ss n → AllByRecursion (IsOpen ss) ns
-    → cond b (Some n.number) (number_of name ns) ≡ Some number → (number_of name ns ≡ Some number → AllByRecursion (IsOpen (without_session number ss)) (without name ns))
-    → AllByRecursion (IsOpen (without_session number ss)) (cond b ns (n ∷ without name ns))
-departed_next n ns ss name number to true rise here all e more =
-    let is = same_some n.number number e in others_open ns ss number (n.number + 1) to (omega arith) rise all
-departed_next n ns ss name number to false rise here all e more =
-    let above : n.number + 1 ≤ number = found_above ns name number (n.number + 1) to rise e in
-    (open_without ss number n.number (below_apart n.number number (omega arith)) ∙ here, more e)
+departed_next : (n : Named) (ns : List Named) (s : Session) (ss : List Session) (name : List ℕ) (number to : ℕ) (b : Bool) → n.number ≡ s.number → numbers_in ns ≡ numbers_of ss
+    → NumbersRise (s.number + 1) to (numbers_in ns) → cond b (Some n.number) (number_of name ns) ≡ Some number
+    → (number_of name ns ≡ Some number → numbers_in (without name ns) ≡ numbers_of (without_session number ss))
+    → numbers_in (cond b ns (n ∷ without name ns)) ≡ numbers_of (without_session number (s ∷ ss))
+departed_next n ns s ss name number to true first rest rise e more =
+    let here : (s.number == number) ≡ true = eq-eqb s.number number (sym first ∙ same_some n.number number e) in
+    rw here rest
+departed_next n ns s ss name number to false first rest rise e more =
+    let above : s.number + 1 ≤ number = found_above ns name number (s.number + 1) to rise e in
+    let elsewhere : (s.number == number) ≡ false = below_apart s.number number (omega (arith, above)) in
+    rw elsewhere (λ i. first i ∷ more e i)
 
--- those that stay are open, where the session of a name leaves
-pub all_open_departed : (ns : List Named) (ss : List Session) (name : List ℕ) (number from to : ℕ) → NumbersRise from to (numbers_in ns) → AllByRecursion (IsOpen ss) ns → number_of name ns ≡ Some number
-    → AllByRecursion (IsOpen (without_session number ss)) (without name ns)
-all_open_departed [] ss name number from to rise all e = tt
-all_open_departed (n ∷ ns) ss name number from to rise all e =
-    departed_next n ns ss name number to (bytes_eq n.name name) rise.1 all.0 all.1 e (all_open_departed ns ss name number (n.number + 1) to rise.1 all.1)
-
-numbers_next : (n : Named) (ns : List Named) (name : List ℕ) (from to : ℕ) (b : Bool) → from ≤ n.number → NumbersRise (n.number + 1) to (numbers_in ns) → NumbersRise (n.number + 1) to (numbers_in (without name ns))
-    → NumbersRise from to (numbers_in (cond b ns (n ∷ without name ns)))
-numbers_next n ns name from to true first rise more = rise_lower (numbers_in ns) from (n.number + 1) to (omega arith) rise
-numbers_next n ns name from to false first rise more = (first, more)
-
-pub numbers_departed : (ns : List Named) (name : List ℕ) (from to : ℕ) → NumbersRise from to (numbers_in ns) → NumbersRise from to (numbers_in (without name ns))
-numbers_departed [] name from to rise = rise
-numbers_departed (n ∷ ns) name from to rise = numbers_next n ns name from to (bytes_eq n.name name) rise.0 rise.1 (numbers_departed ns name (n.number + 1) to rise.1)
+-- where the session of a name leaves, the others stay
+pub known_departed : (ns : List Named) (ss : List Session) (name : List ℕ) (number from to : ℕ) → numbers_in ns ≡ numbers_of ss → NumbersRise from to (numbers_of ss) → number_of name ns ≡ Some number
+    → numbers_in (without name ns) ≡ numbers_of (without_session number ss)
+known_departed [] ss name number from to same rise e = absurd (cc)
+known_departed (n ∷ ns) [] name number from to same rise e = absurd (cc)
+known_departed (n ∷ ns) (s ∷ ss) name number from to same rise e =
+    let first : n.number ≡ s.number = cc in
+    let rest : numbers_in ns ≡ numbers_of ss = cc in
+    departed_next n ns s ss name number to (bytes_eq n.name name) first rest (subst (NumbersRise (s.number + 1) to) (sym rest) rise.1) e
+    (λ behind. known_departed ns ss name number (s.number + 1) to rest rise.1 behind)

@@ -8,6 +8,8 @@ use Rattle.std.proofs.lemmas.Bool.Decides.{nat_tests}
 use Rattle.json.specs.Print.{quoted, escape, escape_byte}
 use Rattle.serde_json.specs.Data.{Num, unsigned, negative, float, Data, null, boolean, number, string, array, object, Items, no_items, item, Members, no_members, member}
 use Rattle.serde_json.specs.Written.{compact_text, items_text, members_text, number_text, comma_if}
+use Rattle.fs_replay.specs.Laws.{IsOneLine}
+use Rattle.fs_replay.specs.Reply.{json_line}
 
 abbrev is_newline : ℕ → Bool
 is_newline b = b == 10
@@ -78,3 +80,6 @@ mutual
       joined (comma_if later) (quoted k ++ 58 ∷ (compact_text d ++ members_text true ms)) (comma later)
       (joined (quoted k) (58 ∷ (compact_text d ++ members_text true ms)) (quoted_text k)
       (joined (compact_text d) (members_text true ms) (no_newline d) (members_no_newline true ms)))
+
+pub json_one_line : (d : Data) → IsOneLine (json_line d)
+json_one_line d = (compact_text d, refl, no_newline d)

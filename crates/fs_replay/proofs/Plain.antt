@@ -1,5 +1,5 @@
 -- A line that is read as a request has no member that is there and tells another form.
-use Rattle.std.proofs.Common.{◌≡◌, ℕ, Bool, true, false, List, [], ◌∷◌, ◌++◌, Option, Some, None, Result, Ok, Err, ◌&&◌, ◌∙◌, unwrap_or, refl, sym, ap, is_some, codes, if◌then◌else◌}
+use Rattle.std.proofs.Common.{◌≡◌, ℕ, Bool, true, false, List, [], ◌∷◌, ◌++◌, Option, Some, None, Result, Ok, Err, ◌&&◌, ◌∙◌, refl, sym, ap, is_some, codes, if◌then◌else◌}
 use Rattle.std.proofs.lemmas.Map.Lookups.{exact_bytes}
 use Rattle.std.specs.Cmp.Lexicographic.{slice_cmp}
 use Rattle.std.specs.Bool.{⊤}
@@ -11,7 +11,7 @@ use Rattle.std.specs.declared.cmp.Ordering.TheVariants.{Less, Equal, Greater}
 use Rattle.std.proofs.lemmas.Bool.{or_parts}
 use Rattle.serde_json.specs.Data.{Data, null, boolean, number, string, array, object, Members, no_members, member}
 use Rattle.serde_json.specs.Find.{get, get_member}
-use Rattle.fs_json.specs.Answer.{◌>>=◌}
+use Rattle.fs_json.specs.Answer.{made, ◌>>=◌}
 use Rattle.fs_json.specs.Members.{first_twice, first_unknown, is_there, only_at}
 use Rattle.fs_json.specs.Names.{spells}
 use Rattle.fs_json.specs.declared.bad.Bad.{Bad}
@@ -22,7 +22,7 @@ use Rattle.fs_path.specs.declared.place.Rule.TheVariants.{G}
 use Rattle.fs_rpc.specs.Envelope.{session_request_at}
 use Rattle.fs_rpc.specs.Methods.{methods, session_head}
 use Rattle.fs_rpc.specs.declared.envelope.SessionRequest.{SessionRequest}
-use Rattle.fs_replay.specs.Line.{bare, form_of, has_any, is_unbuilt_form, leaves_session, line_read, other_form, unbuilt_forms, without_member}
+use Rattle.fs_replay.specs.Line.{bare, form_at, form_members, form_of, has_any, is_unbuilt_form, leaves_session, line_read, unbuilt_forms, without_each, without_member}
 use Rattle.fs_replay.specs.declared.request.Line.{Line}
 use Rattle.fs_replay.specs.declared.request.Line.TheVariants as line
 
@@ -76,15 +76,20 @@ all_kept : (k : List ℕ) (ms : Members) → get_member k ms ≡ None → withou
 all_kept k no_members none = refl
 all_kept k (member l d ms) none = kept k l d ms (slice_cmp nat_cmp k l) none (all_kept k ms)
 
-is_bare : (d : Data) → get (codes "clock") d ≡ None → get (codes "compact") d ≡ None → get (codes "leave") d ≡ None → bare d ≡ d
-is_bare null clock compact leave = refl
-is_bare (boolean b) clock compact leave = refl
-is_bare (number n) clock compact leave = refl
-is_bare (string s) clock compact leave = refl
-is_bare (array ds) clock compact leave = refl
-is_bare (object ms) clock compact leave =
-    ap object (ap (λ ns. without_member (codes "leave") (without_member (codes "compact") ns)) (all_kept (codes "clock") ms clock)
-    ∙ ap (without_member (codes "leave")) (all_kept (codes "compact") ms compact) ∙ all_kept (codes "leave") ms leave)
+-- those of which none is there
+each_kept : (names : List (List ℕ)) (ms : Members) → has_any names (object ms) ≡ false → without_each names ms ≡ ms
+each_kept [] ms none = refl
+each_kept (k ∷ ks) ms none =
+    let each = or_parts (is_some (get_member k ms)) (has_any ks (object ms)) none in
+    ap (without_each ks) (all_kept k ms (none_found (get_member k ms) each.0)) ∙ each_kept ks ms each.1
+
+is_bare : (d : Data) → has_any form_members d ≡ false → bare d ≡ d
+is_bare null none = refl
+is_bare (boolean b) none = refl
+is_bare (number n) none = refl
+is_bare (string s) none = refl
+is_bare (array ds) none = refl
+is_bare (object ms) none = ap object (each_kept form_members ms none)
 
 -- ---- requests
 
@@ -101,9 +106,9 @@ any_absent names (k ∷ ks) d r unknown passed =
     let each = or_parts (list_any (λ name. spells name k) names) (list_any (λ key. list_any (λ name. spells name key) names) ks) unknown in
     rw (is_absent names k d r each.0 passed) (any_absent names ks d r each.1 passed)
 
-none_told : (a b c e : Bool) (w x y z : Line) → a ≡ false → b ≡ false → c ≡ false → e ≡ false
-    → (if a then Some w else if b then Some x else if c then Some y else if e then Some z else None) ≡ None
-none_told a b c e w x y z not_a not_b not_c not_e = rw (not_a, not_b, not_c, not_e) refl
+none_told : (a b c e f g h : Bool) (s t u v w x y z : Result Line Bad) → a ≡ false → b ≡ false → c ≡ false → e ≡ false → f ≡ false → g ≡ false → h ≡ false
+    → (if a then s else if b then t else if c then u else if e then v else if f then w else if g then x else if h then y else z) ≡ z
+none_told a b c e f g h s t u v w x y z not_a not_b not_c not_e not_f not_g not_h = rw (not_a, not_b, not_c, not_e, not_f, not_g, not_h) refl
 
 isnt_there : (k : List ℕ) (d : Data) → get k d ≡ None → is_there k d ≡ false
 isnt_there k d none = rw none refl
@@ -113,33 +118,25 @@ neither_both true b none = none
 neither_both false b none = refl
 
 -- what is read as a request has no member that tells another form, and none of those members
-pub record IsPlain (d : Data) : Type 0 where
-  told : other_form d ≡ None
+pub record IsPlain (root : Root) (d : Data) : Type 0 where
+  untold : form_at root d ≡ made line.Asked (session_request_at root (bare d))
   bare : bare d ≡ d
 
-is_plain : (root : Root) (d : Data) (asked : SessionRequest) → session_request_at root d ≡ Ok asked → IsPlain d
+is_plain : (root : Root) (d : Data) (asked : SessionRequest) → session_request_at root d ≡ Ok asked → IsPlain root d
 unfolding session_request_at
 is_plain root d asked is =
     let passed = first_passes (only_at known d []) _ asked is in
-    let clock : get (codes "clock") d ≡ None = is_absent known (codes "clock") d passed.0 refl passed.1 in
-    let compact : get (codes "compact") d ≡ None = is_absent known (codes "compact") d passed.0 refl passed.1 in
-    let leave : get (codes "leave") d ≡ None = is_absent known (codes "leave") d passed.0 refl passed.1 in
+    let none = λ (k : List ℕ) (spelled : list_any (λ name. spells name k) known ≡ false). isnt_there k d (is_absent known k d passed.0 spelled passed.1) in
     record {
-      told = none_told (is_unbuilt_form d) (is_there (codes "clock") d) (is_there (codes "compact") d) (leaves_session d) _ _ _ _
-          (any_absent known unbuilt_forms d passed.0 refl passed.1) (isnt_there (codes "clock") d clock) (isnt_there (codes "compact") d compact)
-          (neither_both (is_there (codes "session") d) (is_there (codes "leave") d) (isnt_there (codes "leave") d leave));
-      bare = is_bare d clock compact leave;
+      untold = none_told (is_unbuilt_form d) (is_there (codes "clock") d) (is_there (codes "compact") d) (is_there (codes "manual") d) (is_there (codes "settle") d)
+          (is_there (codes "retry") d) (leaves_session d) _ _ _ _ _ _ _ _
+          (any_absent known unbuilt_forms d passed.0 refl passed.1) (none (codes "clock") refl) (none (codes "compact") refl) (none (codes "manual") refl)
+          (none (codes "settle") refl) (none (codes "retry") refl)
+          (neither_both (is_there (codes "session") d) (is_there (codes "leave") d) (none (codes "leave") refl));
+      bare = is_bare d (any_absent known form_members d passed.0 refl passed.1);
     }
-
--- ---- the form of a line
-
-pub form_told : (root : Root) (d : Data) (l : Line) → other_form d ≡ Some l → form_of root d ≡ l
-form_told root d l told = ap (λ o. unwrap_or o (line_read line.Asked (session_request_at root (bare d)))) told
-
-pub form_untold : (root : Root) (d : Data) → other_form d ≡ None → form_of root d ≡ line_read line.Asked (session_request_at root (bare d))
-form_untold root d told = ap (λ o. unwrap_or o (line_read line.Asked (session_request_at root (bare d)))) told
 
 pub form_asked : (root : Root) (d : Data) (asked : SessionRequest) → session_request_at root d ≡ Ok asked → form_of root d ≡ line.Asked asked
 form_asked root d asked is =
     let plain = is_plain root d asked is in
-    form_untold root d plain.told ∙ ap (λ e. line_read line.Asked (session_request_at root e)) plain.bare ∙ ap (line_read line.Asked) is
+    ap line_read (plain.untold ∙ ap (λ e. made line.Asked (session_request_at root e)) plain.bare ∙ ap (made line.Asked) is)

@@ -8,12 +8,12 @@ use Rattle.fs_replay.specs.Line.{IsFault, line_read, line_reason}
 use Rattle.fs_replay.specs.declared.request.Line.{Line}
 use Rattle.fs_replay.specs.declared.request.Line.TheVariants as line
 
-fault_given : {X Y : Type 0} (view : X → Y) (bad : Bad) (reading : Result Y Bad) → Gives view (Err bad) reading → IsFault bad → reading ≡ Err bad
-fault_given view (At rule place) reading given fault = given
-fault_given view (Method name) reading given fault = given
-fault_given view (Memory e) reading given fault = absurd fault
+fault_given : (bad : Bad) (reading : Result Line Bad) → Gives {X = Line} (λ l. l) (Err bad) reading → IsFault bad → reading ≡ Err bad
+fault_given (At rule place) reading given fault = given
+fault_given (Method name) reading given fault = given
+fault_given (Memory e) reading given fault = absurd fault
 
-pub read_refused : {X Y E : Type 0} (view : X → Y) (of : Y → Line) (bad : Bad) (reading : Result Y Bad) (r : Result Line E) → Gives view (Err bad) reading
-    → IfOk r (λ l. IsFault bad × (l ≡ line.Refused (line_reason bad))) → IfOk r (λ l. l ≡ line_read of reading)
-read_refused view of bad reading (Ok l) given so = so.1 ∙ sym (ap (line_read of) (fault_given view bad reading given so.0))
-read_refused view of bad reading (Err e) given so = tt
+pub read_refused : {E : Type 0} (bad : Bad) (reading : Result Line Bad) (r : Result Line E) → Gives {X = Line} (λ l. l) (Err bad) reading
+    → IfOk r (λ l. IsFault bad × (l ≡ line.Refused (line_reason bad))) → IfOk r (λ l. l ≡ line_read reading)
+read_refused bad reading (Ok l) given so = so.1 ∙ sym (ap line_read (fault_given bad reading given so.0))
+read_refused bad reading (Err e) given so = tt

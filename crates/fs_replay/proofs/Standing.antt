@@ -1,13 +1,61 @@
--- What stands at every moment of a server stands after each of its events.
-use Rattle.std.proofs.Common.{ℕ, ℤ}
+-- What stands all the time while a script is played stands after each thing that a line is made of, and after each line.
+use Rattle.std.proofs.Common.{◌≡◌, ℕ, ℤ, true, List, [], ◌∷◌, ◌++◌, Option, Some, None, Result, Ok, Err, refl, sym, ap, ◌∙◌, subst}
+use Rattle.std.specs.Prelude.{⊤, slice_get}
+use Rattle.fs_json.specs.declared.bad.Bad.{Bad}
+use Rattle.fs_rpc.specs.MessageJson.{refused}
+use Rattle.fs_rpc.specs.declared.request.Envelope.{Envelope}
+use Rattle.fs_rpc.specs.declared.request.Request.{Request}
+use Rattle.fs_rpc.specs.declared.request.Request.TheVariants.{Commit, GetDocument, BatchGetDocuments, RunQuery}
+use Rattle.fs_status.specs.declared.refusal.Refusal.{Refusal}
+use Rattle.fs_write.specs.Batch.{Docs}
+use Rattle.fs_write.specs.declared.write.Write.{Write}
+use Rattle.fs_write.specs.declared.write_result.WriteResult.{WriteResult}
+use Rattle.fs_machine.specs.Behind.{behind}
+use Rattle.fs_machine.specs.Commit.{Decision, after_limits, arrived, carried, commit_refusal, decision_behind, drawn, next_commit}
 use Rattle.fs_machine.specs.Compact.{compacted}
 use Rattle.fs_machine.specs.Event.{Event}
 use Rattle.fs_machine.specs.Facts.{Facts}
 use Rattle.fs_machine.specs.Leave.{departed}
-use Rattle.fs_machine.specs.Settle.{decided, settled}
+use Rattle.fs_machine.specs.Limits.{AreAllowed}
+use Rattle.fs_machine.specs.Open.{with_session}
+use Rattle.fs_machine.specs.Outbox.{taken}
+use Rattle.fs_machine.specs.Release.{all_delivered, replies_out}
+use Rattle.fs_machine.specs.Request.{after_request}
+use Rattle.fs_machine.specs.Retry.{retried, retry_decision, tried, writes_of}
+use Rattle.fs_machine.specs.Sessions.{delivered}
+use Rattle.fs_machine.specs.Settle.{decided, decided_if, decided_with, outcome_of, pending_of, settled}
 use Rattle.fs_machine.specs.State.{Machine}
 use Rattle.fs_machine.specs.Tick.{advanced, ticked}
-use Rattle.fs_machine.proofs.Runs.{keeps}
+use Rattle.fs_machine.specs.declared.parked_request.ParkedRequest.{ParkedRequest}
+use Rattle.fs_machine.specs.declared.reply.Reply.{Reply}
+use Rattle.fs_machine.specs.declared.session.Session.{Session}
+use Rattle.fs_machine.specs.declared.unreleased.Unreleased.{Unreleased}
+use Rattle.fs_machine.proofs.Runs.{keeps, kept_with_session}
+use Rattle.fs_machine.proofs.SessionsNumbered.{numbers_of, same_numbers}
+use Rattle.fs_replay.specs.Directory.{number_of, without}
+use Rattle.fs_replay.specs.Laws.{IsReleased, is_open, numbers_in}
+use Rattle.fs_replay.specs.declared.directory.Named.{Named}
+use Rattle.fs_replay.specs.declared.request.Line.{Line}
+use Rattle.fs_replay.specs.declared.request.Line.TheVariants as line
+use Rattle.fs_replay.specs.declared.state.State.{State}
+use Rattle.fs_replay.proofs.Each.{all_more, all_removed}
+use Rattle.fs_replay.proofs.Falling.{retried_is, settled_is, settled_parked}
+use Rattle.fs_replay.proofs.Kept.{Keeps, KeepsAll, KeepsAsking, MayAsk, MayRead}
+use Rattle.fs_replay.proofs.Known.{OfOpen, known_departed, known_more, known_open, of_open_alike, of_open_departed, of_open_more}
+use Rattle.fs_replay.proofs.Released.{compacted_released, prepared_released, owes_nothing}
+
+-- of a server and of the sessions that the script knows
+pub record Fits (ns : List Named) (m : Machine) : Type 0 where
+  pub released : IsReleased m.past
+  pub known : numbers_in ns ≡ numbers_of m.sessions
+  pub waiting : OfOpen m.sessions m.parked
+  pub limits : AreAllowed m.limits
+
+pub record Stands (s : State) : Type 0 where
+  pub facts : Facts s.server
+  pub fits : Fits s.directory s.server
+
+-- ---- events of a server
 
 pub settled_stands : (m : Machine) (id : ℕ) → Facts m → Facts (settled m id)
 settled_stands m id facts = keeps (decided m id) Event.releasing (keeps m (Event.deciding id) facts)
@@ -15,8 +63,154 @@ settled_stands m id facts = keeps (decided m id) Event.releasing (keeps m (Event
 pub ticked_stands : (m : Machine) (now : ℤ) → Facts m → Facts (ticked m now)
 ticked_stands m now facts = keeps (advanced m now) Event.releasing (keeps m (Event.advancing now) facts)
 
-pub compacted_stands : (m : Machine) (to : ℤ) → Facts m → Facts (compacted m to)
-compacted_stands m to facts = keeps m (Event.compacting to) facts
+-- the sessions are the same, but for their messages
+all_numbers : (rs : List Reply) (ss : List Session) → numbers_of (all_delivered rs ss) ≡ numbers_of ss
+all_numbers [] ss = refl
+all_numbers (r ∷ rs) ss = all_numbers rs (delivered r.session r.message ss) ∙ same_numbers ss r.session (λ ms. ms ++ r.message ∷ [])
 
-pub departed_stands : (m : Machine) (session : ℕ) → Facts m → Facts (departed m session)
-departed_stands m session facts = keeps m (Event.leaving session) facts
+decided_numbers : (m : Machine) (u : Unreleased) (r : Result (Docs × List WriteResult) Refusal) → numbers_of (decided_with m u r).sessions ≡ numbers_of m.sessions
+decided_numbers m u (Ok done) = refl
+decided_numbers m u (Err refusal) = same_numbers m.sessions u.session (λ ms. ms ++ refused u.request refusal ∷ [])
+
+if_numbers : (m : Machine) (found : Option Unreleased) → numbers_of (decided_if m found).sessions ≡ numbers_of m.sessions
+if_numbers m None = refl
+if_numbers m (Some u) = decided_numbers m u (outcome_of m.past u)
+
+settled_numbers : (m : Machine) (id : ℕ) → numbers_of (settled m id).sessions ≡ numbers_of m.sessions
+settled_numbers m id = let n = decided m id in all_numbers (replies_out n.past) n.sessions ∙ if_numbers m (pending_of m.past id)
+
+settled_fits : (ns : List Named) (m : Machine) (id : ℕ) → Facts m → Fits ns m → Fits ns (settled m id)
+settled_fits ns m id facts fits =
+    let n = settled m id in
+    record {
+      released = owes_nothing (decided m id).past (keeps m (Event.deciding id) facts).past.unreleased;
+      known = fits.known ∙ sym (settled_numbers m id);
+      waiting = of_open_alike m.sessions n.sessions n.parked (settled_numbers m id) (subst (OfOpen m.sessions) (sym (settled_parked m id)) fits.waiting);
+      limits = subst AreAllowed (ap (λ (k : Machine). k.limits) (sym (settled_is m id))) fits.limits;
+    }
+
+tried_fits : (ns : List Named) (m : Machine) (place : ℕ) (r : ParkedRequest) (writes : List Write) (d : Decision) → Facts m → Fits ns m → Fits ns (tried m place r writes d)
+tried_fits ns m place r writes (Decision.refused refusal) facts fits = record { released = fits.released; known = fits.known; waiting = all_removed (λ (q : ParkedRequest). is_open q.session m.sessions ≡ true) m.parked place fits.waiting; limits = fits.limits }
+tried_fits ns m place r writes (Decision.held id) facts fits = fits
+tried_fits ns m place r writes Decision.goes_on facts fits = record {
+  released = prepared_released m.past (next_commit m.past r writes) refl refl facts.past.unreleased fits.released;
+  known = fits.known;
+  waiting = all_removed (λ (q : ParkedRequest). is_open q.session m.sessions ≡ true) m.parked place fits.waiting;
+  limits = fits.limits;
+}
+
+retried_fits : (ns : List Named) (m : Machine) (place : ℕ) (r : ParkedRequest) → slice_get m.parked place ≡ Some r → Facts m → Fits ns m → Fits ns (retried m place)
+retried_fits ns m place r is facts fits =
+    let writes = writes_of r.envelope.request in
+    subst (Fits ns) (sym (retried_is m place r is)) (tried_fits ns m place r writes (retry_decision m writes) facts fits)
+
+taken_fits : (ns : List Named) (m : Machine) (number : ℕ) → Fits ns m → Fits ns (taken m number)
+taken_fits ns m number fits =
+    let same = same_numbers m.sessions number (λ ms. []) in
+    record {
+      released = fits.released;
+      known = fits.known ∙ sym same;
+      waiting = of_open_alike m.sessions (taken m number).sessions m.parked same fits.waiting;
+      limits = fits.limits;
+    }
+
+pub stands_closing : Keeps Stands
+stands_closing = record {
+  by_settling = λ s id stands. record { facts = settled_stands s.server id stands.facts; fits = settled_fits s.directory s.server id stands.facts stands.fits };
+  by_retrying = λ s place r is stands. record { facts = keeps s.server (Event.retrying place) stands.facts; fits = retried_fits s.directory s.server place r is stands.facts stands.fits };
+  by_taking = λ s number stands. record { facts = keeps s.server (Event.taking number) stands.facts; fits = taken_fits s.directory s.server number stands.fits };
+}
+
+-- ---- a request
+
+module _ (ns : List Named) (m : Machine) (facts : Facts m) (fits : Fits ns m) where
+  carried_fits : (r : ParkedRequest) (writes : List Write) (d : Decision) → is_open r.session m.sessions ≡ true → Fits ns (carried (drawn m) r writes d)
+  carried_fits r writes (Decision.refused refusal) opened = record { released = fits.released; known = fits.known; waiting = fits.waiting; limits = fits.limits }
+  carried_fits r writes (Decision.held id) opened = record { released = fits.released; known = fits.known; waiting = all_more (λ (q : ParkedRequest). is_open q.session m.sessions ≡ true) m.parked r fits.waiting opened; limits = fits.limits }
+  carried_fits r writes Decision.goes_on opened = record {
+    released = prepared_released m.past (next_commit m.past r writes) refl refl facts.past.unreleased fits.released;
+    known = fits.known;
+    waiting = fits.waiting;
+    limits = fits.limits;
+  }
+
+  limited_fits : (r : ParkedRequest) (writes : List Write) (refusal : Option Refusal) → is_open r.session m.sessions ≡ true → Fits ns (after_limits refusal m r writes)
+  limited_fits r writes (Some refusal) opened = fits
+  limited_fits r writes None opened = carried_fits r writes (decision_behind m (behind m.past writes)) opened
+
+  asked_fits : (number : ℕ) (e : Envelope) (request : Request) → is_open number m.sessions ≡ true → Fits ns (after_request m number e request)
+  asked_fits number e (Commit database writes) opened = limited_fits (arrived m number e) writes (commit_refusal m number writes) opened
+  asked_fits number e (GetDocument name mask time) opened = fits
+  asked_fits number e (BatchGetDocuments database names mask time) opened = fits
+  asked_fits number e (RunQuery database query time) opened = fits
+
+-- ---- all that a line is made of
+
+opened_fits : (ns : List Named) (m : Machine) (name : List ℕ) → Fits ns m → Fits (ns ++ record { name = name; number = m.numbers.sessions } ∷ []) (with_session m)
+opened_fits ns m name fits = record {
+  released = fits.released;
+  known = known_more ns m.sessions name m.numbers.sessions fits.known;
+  waiting = of_open_more m.sessions m.numbers.sessions m.parked fits.waiting;
+  limits = fits.limits;
+}
+
+departed_fits : (ns : List Named) (m : Machine) (number : ℕ) (name : List ℕ) → number_of name ns ≡ Some number → Facts m → Fits ns m → Fits (without name ns) (departed m number)
+departed_fits ns m number name is facts fits = record {
+  released = fits.released;
+  known = known_departed ns m.sessions name number 0 m.numbers.sessions fits.known facts.sessions is;
+  waiting = of_open_departed m.sessions number m.parked fits.waiting;
+  limits = fits.limits;
+}
+
+ticked_fits : (ns : List Named) (m : Machine) (now : ℤ) → Facts m → Fits ns m → Fits ns (ticked m now)
+ticked_fits ns m now facts fits =
+    let n = advanced m now in
+    let same = all_numbers (replies_out n.past) m.sessions in
+    record {
+      released = owes_nothing n.past (keeps m (Event.advancing now) facts).past.unreleased;
+      known = fits.known ∙ sym same;
+      waiting = of_open_alike m.sessions (ticked m now).sessions m.parked same fits.waiting;
+      limits = fits.limits;
+    }
+
+compacted_fits : (ns : List Named) (m : Machine) (to : ℤ) → Fits ns m → Fits ns (compacted m to)
+compacted_fits ns m to fits = record { released = compacted_released m.past to fits.released; known = fits.known; waiting = fits.waiting; limits = fits.limits }
+
+-- any request may be asked
+abbrev pub Any : Request → Type 0
+Any request = ⊤
+
+pub any_read : (r : Result Request Bad) → MayRead Any r
+any_read (Ok request) = tt
+any_read (Err bad) = tt
+
+pub any_line : (l : Line) → MayAsk Any l
+any_line line.Empty = tt
+any_line line.NotBuilt = tt
+any_line (line.Refused reason) = tt
+any_line (line.Asked a) = any_read a.request
+any_line (line.Clock time) = tt
+any_line (line.Compact time) = tt
+any_line (line.Leave name) = tt
+any_line (line.Manual on) = tt
+any_line (line.Settle id) = tt
+any_line line.Retry = tt
+
+pub stands_asking : KeepsAsking Stands Any
+stands_asking = record {
+  by_opening = λ s name stands. record { facts = kept_with_session s.server stands.facts; fits = opened_fits s.directory s.server name stands.fits };
+  by_asking = λ s number e knows may stands. record {
+    facts = keeps s.server (Event.asking number e) stands.facts;
+    fits = asked_fits s.directory s.server stands.facts stands.fits number e e.request (known_open s.directory s.server.sessions number stands.fits.known knows);
+  };
+}
+
+pub stands_all : KeepsAll Stands Any
+stands_all = record {
+  closes = stands_closing;
+  asking = stands_asking;
+  by_leaving = λ s number name is stands. record { facts = keeps s.server (Event.leaving number) stands.facts; fits = departed_fits s.directory s.server number name is stands.facts stands.fits };
+  by_ticking = λ s now stands. record { facts = ticked_stands s.server now stands.facts; fits = ticked_fits s.directory s.server now stands.facts stands.fits };
+  by_compacting = λ s to stands. record { facts = keeps s.server (Event.compacting to) stands.facts; fits = compacted_fits s.directory s.server to stands.fits };
+  by_hand = λ s on stands. record { facts = stands.facts; fits = stands.fits };
+}

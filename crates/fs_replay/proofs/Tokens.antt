@@ -6,7 +6,7 @@ use Rattle.serde_json.specs.Data as json
 use Rattle.json.specs.Tree.{items_tokens}
 use Rattle.serde_json.specs.View.{items_of}
 use Rattle.serde_json.specs.Written.{items_outline}
-use Rattle.fs_rpc.specs.MessageJson.{commit_json, error_json, error_members, message_json_on, message_members, query_answers_json, result_members, with_results as listed_results}
+use Rattle.fs_rpc.specs.MessageJson.{commit_json, error_json, error_members, message_json_on, message_members, query_answers_json, result_members, with_id, with_results as listed_results}
 use Rattle.fs_rpc.specs.declared.message.Message.{Message}
 use Rattle.fs_rpc.specs.declared.message.Message.TheVariants.{Commit, GetDocument, BatchGetDocuments, RunQuery, Error}
 use Rattle.fs_value.specs.Data.{Data}
@@ -16,6 +16,8 @@ use Rattle.fs_valjson.specs.Tokens.{member_tokens, text_member, tokens_of}
 use Rattle.fs_valjson.specs.Writing.{list_json}
 use Rattle.fs_write.specs.declared.write_result.WriteResult.{WriteResult}
 use Rattle.fs_writejson.specs.Results.{result_json, with_results}
+use Rattle.fs_machine.specs.declared.parked.Parked.{Parked}
+use Rattle.fs_replay.specs.Held.{held_json, with_held}
 use Rattle.fs_replay.specs.Tokens.{answers_json, result_head}
 use Rattle.std.specs.Prelude.{map}
 
@@ -72,6 +74,22 @@ pub message_tokens : (m : Message) (session : List ℕ)
     → begin_object ∷ ((member_tokens (message_members m) ++ text_member (codes "session") session) ++ end_object ∷ []) ≡ tokens_of (message_json_on session m)
 message_tokens m session =
     ap (λ ts. begin_object ∷ (ts ++ end_object ∷ [])) (session_last m session) ∙ object_tokens (json.put (codes "session") (json.string session) (message_members m))
+
+-- ---- what still waits
+
+held_members : (held : Option ℕ) (id : Option (List ℕ)) (session : List ℕ)
+    → (member_tokens (with_held held json.no_members) ++ member_tokens (with_id id json.no_members)) ++ text_member (codes "session") session
+    ≡ member_tokens (with_held held (with_id id (json.member (codes "session") (json.string session) json.no_members)))
+held_members None None session = refl
+held_members None (Some id) session = refl
+held_members (Some held) None session = refl
+held_members (Some held) (Some id) session = refl
+
+pub held_tokens : (p : Parked) (session : List ℕ)
+    → begin_object ∷ (((member_tokens (with_held p.held json.no_members) ++ member_tokens (with_id p.id json.no_members)) ++ text_member (codes "session") session) ++ end_object ∷ []) ≡ tokens_of (held_json session p)
+held_tokens p session =
+    ap (λ ts. begin_object ∷ (ts ++ end_object ∷ [])) (held_members p.held p.id session)
+    ∙ object_tokens (with_held p.held (with_id p.id (json.member (codes "session") (json.string session) json.no_members)))
 
 -- ---- lists
 

@@ -1,12 +1,12 @@
 -- What waits in outboxes, where one message at most does.
-use Rattle.std.proofs.Common.{◌≡◌, ℕ, Bool, true, false, cond, List, [], ◌∷◌, ◌++◌, refl, sym, ap, arith}
+use Rattle.std.proofs.Common.{◌≡◌, ℕ, Bool, true, false, cond, List, [], ◌∷◌, ◌++◌, refl, sym, ap}
 use Rattle.std.specs.Prelude.{◌==◌, ◌||◌}
 use Rattle.std.specs.List.{AllByRecursion}
-use Rattle.std.proofs.lemmas.Bool.Decides.{nat_tests}
 use Rattle.fs_rpc.specs.declared.message.Message.{Message}
-use Rattle.fs_machine.specs.Sessions.{emptied, outbox_in, delivered, without}
+use Rattle.fs_machine.specs.Sessions.{emptied, outbox_in, delivered}
 use Rattle.fs_machine.specs.declared.session.Session.{Session}
 use Rattle.fs_replay.specs.Laws.{HasNothing, is_open}
+use Rattle.fs_replay.proofs.Known.{apart}
 
 -- ---- where nothing waits
 
@@ -32,15 +32,6 @@ pub nothing_more : (ss : List Session) (number : ℕ) → AllByRecursion HasNoth
 nothing_more [] number all = (refl, tt)
 nothing_more (s ∷ ss) number all = (all.0, nothing_more ss number all.1)
 
-without_next : (s : Session) (ss : List Session) (number : ℕ) (b : Bool) → HasNothing s → AllByRecursion HasNothing ss → AllByRecursion HasNothing (without number ss)
-    → AllByRecursion HasNothing (cond b ss (s ∷ without number ss))
-without_next s ss number true none all more = all
-without_next s ss number false none all more = (none, more)
-
-pub nothing_without : (ss : List Session) (number : ℕ) → AllByRecursion HasNothing ss → AllByRecursion HasNothing (without number ss)
-nothing_without [] number all = tt
-nothing_without (s ∷ ss) number all = without_next s ss number (s.number == number) all.0 all.1 (nothing_without ss number all.1)
-
 -- ---- where one message does
 
 pub behind : (b c : Bool) → b ≡ false → (b || c) ≡ true → c ≡ true
@@ -57,9 +48,6 @@ delivered_next s ss number message false is none opened more = rw is (more (behi
 pub delivered_there : (ss : List Session) (number : ℕ) (message : Message) → AllByRecursion HasNothing ss → is_open number ss ≡ true → outbox_in number (delivered number message ss) ≡ message ∷ []
 delivered_there [] number message all opened = absurd (cc)
 delivered_there (s ∷ ss) number message all opened = delivered_next s ss number message (s.number == number) refl all.0 opened (delivered_there ss number message all.1)
-
-pub apart : (a b c : ℕ) → (a == b) ≡ true → (c == b) ≡ false → (a == c) ≡ false
-apart a b c is other = grind (arith, nat_tests)
 
 other_next : (s : Session) (ss : List Session) (number other : ℕ) (message : Message) (b : Bool) → (s.number == number) ≡ b → (other == number) ≡ false
     → outbox_in other (delivered number message ss) ≡ outbox_in other ss

@@ -4,7 +4,10 @@ use Rattle.std.proofs.lemmas.List.{append-nil}
 use Rattle.std.specs.List.{onto_first}
 use Rattle.fs_replay.specs.declared.state.State.{State}
 use Rattle.fs_replay.specs.Step.{start, after_line, line_output}
-use Rattle.fs_replay.specs.Transcript.{lines_of, all_but_last, written, played, transcript}
+use Rattle.fs_machine.specs.declared.config.Config.{Config}
+use Rattle.fs_machine.specs.declared.limits.Limits.{Limits}
+use Rattle.fs_replay.specs.Held.{held_lines}
+use Rattle.fs_replay.specs.Transcript.{lines_of, all_but_last, after_lines, written, played, transcript}
 use Rattle.fs_replay.proofs.Flow.{nothing_between}
 
 some_lines_at : (b : Bool) (x : ℕ) (lines : List (List ℕ)) → (line : List ℕ) × (more : List (List ℕ)) × (cond b ([] ∷ lines) (onto_first x lines) ≡ line ∷ more)
@@ -23,12 +26,12 @@ not_last line text = let some = some_lines text in rw some.2 refl
 
 -- the first line writes first
 pub played_cut : (whole : Bool) (s : State) (n : ℕ) (text line more : List ℕ) → lines_of text ≡ line ∷ lines_of more → played whole s n text ≡ line_output s n line ++ played whole (after_line s n line) (n + 1) more
-played_cut true s n text line more cut = rw cut refl
+played_cut true s n text line more cut = rw cut (append_assoc (line_output s n line) (written (after_line s n line) (n + 1) (lines_of more)) (held_lines (after_lines (after_line s n line) (n + 1) (lines_of more))))
 played_cut false s n text line more cut = rw (cut, not_last line more) refl
 
 -- the last line of a whole script
-pub played_last : (s : State) (n : ℕ) (text : List ℕ) → lines_of text ≡ text ∷ [] → played true s n text ≡ line_output s n text
-played_last s n text last = rw last (append-nil (line_output s n text))
+pub played_last : (s : State) (n : ℕ) (text : List ℕ) → lines_of text ≡ text ∷ [] → played true s n text ≡ line_output s n text ++ held_lines (after_line s n text)
+played_last s n text last = rw last (ap (λ w. w ++ held_lines (after_line s n text)) (append-nil (line_output s n text)))
 
 -- a last line that was cut off writes nothing
 pub played_cut_off : (s : State) (n : ℕ) (text : List ℕ) → lines_of text ≡ text ∷ [] → played false s n text ≡ []
@@ -58,13 +61,18 @@ written_front s n (line ∷ next ∷ lines) =
     let rest = written_front (after_line s n line) (n + 1) (next ∷ lines) in
     (rest.0, append_assoc (line_output s n line) (written (after_line s n line) (n + 1) (all_but_last (next ∷ lines))) rest.0 ∙ ap (λ w. line_output s n line ++ w) rest.1)
 
--- what a script writes that was cut off begins what the whole script writes
-pub played_front : (whole : Bool) (script : List ℕ) → (more : List ℕ) × (played whole start 1 script ++ more ≡ transcript script)
-played_front true script = ([], append-nil (transcript script))
-played_front false script = written_front start 1 (lines_of script)
+module _ (config : Config) (limits : Limits) where
+  -- what a script writes that was cut off begins what the whole script writes
+  pub played_front : (whole : Bool) (script : List ℕ) → (more : List ℕ) × (played whole (start config limits) 1 script ++ more ≡ transcript config limits script)
+  played_front true script = ([], append-nil (transcript config limits script))
+  played_front false script =
+      let s = start config limits in
+      let front = written_front s 1 (lines_of script) in
+      let held = held_lines (after_lines s 1 (lines_of script)) in
+      (front.0 ++ held, sym (append_assoc (written s 1 (all_but_last (lines_of script))) front.0 held) ∙ ap (λ w. w ++ held) front.1)
 
--- where a script writes nothing, it does not where it was cut off
-pub played_nothing : (whole : Bool) (script : List ℕ) → transcript script ≡ [] → played whole start 1 script ≡ []
-played_nothing whole script none =
-    let front = played_front whole script in
-    nothing_between [] (played whole start 1 script) front.0 (transcript script) front.1 none
+  -- where a script writes nothing, it does not where it was cut off
+  pub played_nothing : (whole : Bool) (script : List ℕ) → transcript config limits script ≡ [] → played whole (start config limits) 1 script ≡ []
+  played_nothing whole script none =
+      let front = played_front whole script in
+      nothing_between [] (played whole (start config limits) 1 script) front.0 (transcript config limits script) front.1 none

@@ -1,14 +1,16 @@
 -- What the laws of scripts speak of.
-use Rattle.std.specs.Prelude.{◌≡◌, ℕ, ◌+◌, Bool, true, false, ◌||◌, ◌==◌, is_none, List, [], ◌∷◌, ◌++◌, map, Option, Some, None, Result, Ok, Err}
+use Rattle.std.specs.Prelude.{◌≡◌, ℕ, ◌+◌, Bool, true, false, not, ◌&&◌, ◌||◌, ◌==◌, is_none, List, [], ◌∷◌, ◌++◌, map, Option, Some, None, Result, Ok, Err}
 use Rattle.std.specs.List.{list_any, AllByRecursion}
 use Rattle.fs_path.specs.declared.name.DocName.{DocName}
 use Rattle.fs_json.specs.declared.bad.Bad.{Bad}
+use Rattle.fs_machine.specs.Behind.{behind}
 use Rattle.fs_machine.specs.Commit.{commit_refusal}
 use Rattle.fs_machine.specs.Facts.{Facts}
-use Rattle.fs_machine.specs.Limits.{greatest}
+use Rattle.fs_machine.specs.Limits.{AreAllowed}
 use Rattle.fs_machine.specs.Open.{open_answer, opened}
 use Rattle.fs_machine.specs.Retry.{writes_of}
-use Rattle.fs_machine.specs.SessionsNumbered.{NumbersRise}
+use Rattle.fs_machine.specs.Past.{Past}
+use Rattle.fs_machine.specs.Release.{past_released}
 use Rattle.fs_machine.specs.State.{Machine}
 use Rattle.fs_machine.specs.declared.session.Session.{Session}
 use Rattle.fs_rpc.specs.declared.envelope.SessionRequest.{SessionRequest}
@@ -19,7 +21,7 @@ use Rattle.fs_write.specs.WrittenName.{is_written}
 use Rattle.fs_write.specs.declared.write.Write.{Write}
 use Rattle.fs_replay.specs.Directory.{number_of}
 use Rattle.fs_replay.specs.Line.{line_of}
-use Rattle.fs_replay.specs.Step.{after_line, IsIdle}
+use Rattle.fs_replay.specs.Step.{after_line}
 use Rattle.fs_replay.specs.declared.directory.Named.{Named}
 use Rattle.fs_replay.specs.declared.request.Line.{Line}
 use Rattle.fs_replay.specs.declared.request.Line.TheVariants as line
@@ -30,9 +32,6 @@ use Rattle.fs_replay.specs.declared.state.State.{State}
 abbrev pub is_open : ℕ → List Session → Bool
 is_open number ss = list_any (λ s. s.number == number) ss
 
-abbrev pub IsOpen : List Session → Named → Type 0
-IsOpen ss n = is_open n.number ss ≡ true
-
 -- nothing waits for it to be told
 abbrev pub HasNothing : Session → Type 0
 HasNothing session = session.outbox ≡ []
@@ -40,23 +39,30 @@ HasNothing session = session.outbox ≡ []
 abbrev pub numbers_in : List Named → List ℕ
 numbers_in ns = map (λ n. n.number) ns
 
+-- nothing is owed: an accepted commit that isn't released waits for an earlier one that is pending
+abbrev pub IsReleased : Past → Type 0
+IsReleased p = past_released p ≡ p
+
+-- nothing is left to settle
+pub record IsSettled (m : Machine) : Type 0 where
+  -- no commit is under way, and no request waits
+  pub released : m.past.unreleased ≡ []
+  pub parked : m.parked ≡ []
+
 pub record IsBetweenLines (s : State) : Type 0 where
-  -- no commit is under way, no request waits, and nothing waits to be told
-  pub idle : IsIdle s
-  pub parked : s.server.parked ≡ []
+  -- unless the script settles by hand
+  pub settled : s.manual ≡ false → IsSettled s.server
+  pub released : IsReleased s.server.past
+  -- nothing waits to be told
   pub empty : AllByRecursion HasNothing s.server.sessions
-  -- the sessions that the script knows are open, and each has a number of its own, below the one that is given next
-  pub open_all : AllByRecursion (IsOpen s.server.sessions) s.directory
-  pub numbers : NumbersRise 0 s.server.numbers.sessions (numbers_in s.directory)
+  -- the script knows the sessions that are open, in the order of opening
+  pub known : numbers_in s.directory ≡ map (λ x. x.number) s.server.sessions
+  -- and what waits is of one of them
+  pub waiting : AllByRecursion (λ r. is_open r.session s.server.sessions ≡ true) s.server.parked
   pub facts : Facts s.server
-  pub limits : s.server.limits ≡ greatest
+  pub limits : AreAllowed s.server.limits
 
 -- ---- lines
-
--- the state after lines, the first of which has this number
-abbrev pub after_lines : State → ℕ → List (List ℕ) → State
-after_lines s n [] = s
-after_lines s n (line ∷ lines) = after_lines (after_line s n line) (n + 1) lines
 
 abbrev pub line_in_state : State → List ℕ → Line
 line_in_state s bytes = line_of s.server.config.root bytes
@@ -70,6 +76,9 @@ is_answered (line.Asked a) = true
 is_answered (line.Clock time) = false
 is_answered (line.Compact time) = false
 is_answered (line.Leave name) = false
+is_answered (line.Manual on) = false
+is_answered (line.Settle id) = false
+is_answered line.Retry = false
 
 -- whether it gives nothing in any case
 abbrev pub is_silent : Line → Bool
@@ -80,6 +89,9 @@ is_silent (line.Asked a) = false
 is_silent (line.Clock time) = true
 is_silent (line.Compact time) = true
 is_silent (line.Leave name) = false
+is_silent (line.Manual on) = on
+is_silent (line.Settle id) = false
+is_silent line.Retry = false
 
 -- one line of output: a text without a newline, and its newline
 abbrev pub IsOneLine : List ℕ → Type 0
@@ -100,15 +112,18 @@ asked_writes (line.Asked a) = writes_read a.request
 asked_writes (line.Clock time) = []
 asked_writes (line.Compact time) = []
 asked_writes (line.Leave name) = []
+asked_writes (line.Manual on) = []
+asked_writes (line.Settle id) = []
+asked_writes line.Retry = []
 
 -- whether one of the lines writes a name
 abbrev pub is_written_in : DocName → State → ℕ → List (List ℕ) → Bool
 is_written_in name s n [] = false
 is_written_in name s n (line ∷ lines) = is_written name (asked_writes (line_in_state s line)) || is_written_in name (after_line s n line) (n + 1) lines
 
--- whether a request on the session of a number is a commit that passes no limit
+-- whether a request on the session of a number is a commit that passes no limit, and waits for none
 abbrev pub commits_on : Machine → ℕ → Result Request Bad → Bool
-commits_on m session (Ok (Commit database writes)) = is_none (commit_refusal m session writes)
+commits_on m session (Ok (Commit database writes)) = is_none (commit_refusal m session writes) && is_none (behind m.past writes)
 commits_on m session (Ok (GetDocument name mask time)) = false
 commits_on m session (Ok (BatchGetDocuments database names mask time)) = false
 commits_on m session (Ok (RunQuery database query time)) = false
@@ -130,6 +145,9 @@ is_commit s (line.Asked a) = commits_in s.server a (number_of a.session s.direct
 is_commit s (line.Clock time) = false
 is_commit s (line.Compact time) = false
 is_commit s (line.Leave name) = false
+is_commit s (line.Manual on) = false
+is_commit s (line.Settle id) = false
+is_commit s line.Retry = false
 
 -- whether a line may move what was committed, or its times
 abbrev pub may_move : State → Line → Bool
@@ -140,3 +158,11 @@ may_move s (line.Asked a) = is_commit s (line.Asked a)
 may_move s (line.Clock time) = true
 may_move s (line.Compact time) = true
 may_move s (line.Leave name) = false
+may_move s (line.Manual on) = not on
+may_move s (line.Settle id) = true
+may_move s line.Retry = true
+
+-- whether a commit that isn't released, or a request that waits, writes a name
+abbrev pub will_be_written : DocName → Machine → Bool
+will_be_written name m =
+    list_any (λ u. is_written name u.batch.writes) m.past.unreleased || list_any (λ r. is_written name (writes_of r.envelope.request)) m.parked

@@ -1,8 +1,13 @@
 pub mod Limits
+pub mod IdText
+pub mod Forms
 pub mod Line
 pub mod Directory
 pub mod Reply
 pub mod Outboxes
+pub mod Played
+pub mod Settling
+pub mod Held
 pub mod Step
 pub mod Transcript
 pub mod Run

@@ -3,19 +3,21 @@ use Rattle.std.specs.Prelude.{◌≡◌, ℕ, List, Option}
 use Rattle.fs_edge.specs.Count.{one_more, AtMostOneMore}
 use Rattle.fs_edge.specs.declared.status.Status.{Status}
 use Rattle.fs_edge.specs.declared.status.Status.TheVariants as status
+use Rattle.fs_machine.specs.declared.config.Config.{Config}
+use Rattle.fs_machine.specs.declared.limits.Limits.{Limits}
 use Rattle.fs_replay.specs.Moved.{Gained, GainedFront}
 use Rattle.fs_replay.specs.Transcript.{transcript, begun}
 
 -- What the sink has gained of the bytes that were taken. Where the source failed or gave too much, the lines that
 -- have their newline were carried out. Where memory ran out or the sink failed, it has some front of the transcript.
-abbrev pub Wrote : Status → List ℕ → Option (List ℕ) → Option (List ℕ) → Type 0
-Wrote status.Ok taken before after = Gained before after (transcript taken)
-Wrote status.Usage taken before after = after ≡ before
-Wrote status.Memory taken before after = GainedFront before after (transcript taken)
-Wrote status.ReadFault taken before after = Gained before after (begun taken)
-Wrote status.WriteFault taken before after = GainedFront before after (transcript taken)
-Wrote status.InputLimit taken before after = Gained before after (begun taken)
-Wrote status.DoorFault taken before after = after ≡ before
+abbrev pub Wrote : Config → Limits → Status → List ℕ → Option (List ℕ) → Option (List ℕ) → Type 0
+Wrote config limits status.Ok taken before after = Gained before after (transcript config limits taken)
+Wrote config limits status.Usage taken before after = after ≡ before
+Wrote config limits status.Memory taken before after = GainedFront before after (transcript config limits taken)
+Wrote config limits status.ReadFault taken before after = Gained before after (begun config limits taken)
+Wrote config limits status.WriteFault taken before after = GainedFront before after (transcript config limits taken)
+Wrote config limits status.InputLimit taken before after = Gained before after (begun config limits taken)
+Wrote config limits status.DoorFault taken before after = after ≡ before
 
 -- How often a read has failed: the first failure ends the run. Where the sink failed or memory ran out, that came behind
 -- the last read, which may have failed as well.

@@ -1,22 +1,21 @@
 -- Where a script starts, and what a line does: to the server and the sessions, and to the output. A line is an event of the
--- server, with what it answers at once; then a commit that is pending is settled, and the outboxes are emptied.
-use Rattle.std.specs.Prelude.{◌≡◌, ℕ, ℤ, pos, List, [], ◌∷◌, ◌++◌, Option, Some, None, Result, Ok, Err, codes}
+-- server, with what it answers at once, and then the outboxes are emptied. Then commits are settled, and requests that wait are tried
+-- again, until there is nothing left to do (Settling.antt): unless the script settles by hand.
+use Rattle.std.specs.Prelude.{ℕ, ℤ, pos, false, ◌&&◌, is_some, List, [], ◌∷◌, ◌++◌, Option, Some, None, Result, Ok, Err, codes, if◌then◌else◌}
 use Rattle.fs_json.specs.declared.bad.Bad.{Bad}
 use Rattle.fs_machine.specs.Compact.{compacted}
 use Rattle.fs_machine.specs.Leave.{departed}
-use Rattle.fs_machine.specs.Limits.{greatest}
+use Rattle.fs_machine.specs.declared.config.Config.{Config}
+use Rattle.fs_machine.specs.declared.limits.Limits.{Limits}
 use Rattle.fs_machine.specs.Open.{open_answer, opened}
 use Rattle.fs_machine.specs.Request.{answered, asked}
-use Rattle.fs_machine.specs.Settle.{settled}
-use Rattle.fs_machine.specs.State.{Machine, started}
+use Rattle.fs_machine.specs.Settle.{pending_of}
+use Rattle.fs_machine.specs.State.{started}
 use Rattle.fs_machine.specs.Tick.{later, ticked}
-use Rattle.fs_machine.specs.declared.answer.Answer.{Answer}
-use Rattle.fs_machine.specs.declared.answer.Answer.TheVariants.{Reply, Prepared, Held, Refused}
 use Rattle.fs_rpc.specs.MessageJson.{error_json, refused}
 use Rattle.fs_rpc.specs.declared.envelope.SessionRequest.{SessionRequest}
 use Rattle.fs_rpc.specs.declared.request.Envelope.{Envelope}
 use Rattle.fs_rpc.specs.declared.request.Request.{Request}
-use Rattle.fs_machine.specs.Pending.{next_pending}
 use Rattle.fs_status.specs.Refusal.{refusal_of}
 use Rattle.fs_status.specs.declared.code.Code.TheVariants.{Unimplemented}
 use Rattle.fs_status.specs.declared.reason.LineFault.TheVariants.{DoesNotApply}
@@ -25,8 +24,10 @@ use Rattle.fs_status.specs.declared.reason.Reason.TheVariants as reasons
 use Rattle.fs_status.specs.declared.refusal.Refusal.{Refusal}
 use Rattle.fs_replay.specs.Directory.{number_of, without}
 use Rattle.fs_replay.specs.Line.{line_of, reason_of}
-use Rattle.fs_replay.specs.Outboxes.{drained, drain_output, message_line}
+use Rattle.fs_replay.specs.Outboxes.{message_line, reply_output}
+use Rattle.fs_replay.specs.Played.{Played, nothing, prints, followed_by}
 use Rattle.fs_replay.specs.Reply.{refused_json, line_error, json_line}
+use Rattle.fs_replay.specs.Settling.{closed, settles, tries_all}
 use Rattle.fs_replay.specs.declared.request.Line.{Line}
 use Rattle.fs_replay.specs.declared.request.Line.TheVariants as line
 use Rattle.fs_replay.specs.declared.state.State.{State}
@@ -35,63 +36,11 @@ use Rattle.fs_replay.specs.declared.state.State.{State}
 abbrev pub start_moment : ℤ
 start_moment = pos 1704067200000000
 
--- a server without documents, and no session
-abbrev pub start : State
-start = record {
-  server = started (record { root = record { project = codes "demo"; database = codes "(default)" } }) greatest start_moment;
-  directory = [];
-  moment = start_moment;
-}
-
--- no commit is under way
-abbrev pub IsIdle : State → Type 0
-IsIdle s = s.server.past.unreleased ≡ []
-
--- ---- what was played
-
-pub record Played : Type 0 where
-  pub state : State
-  pub output : List ℕ
-
-abbrev pub nothing : State → Played
-nothing s = record { state = s; output = [] }
-
-abbrev pub prints : State → List ℕ → Played
-prints s bytes = record { state = s; output = bytes }
-
-abbrev pub followed_by : Played → (State → Played) → Played
-followed_by p next = record { state = (next p.state).state; output = p.output ++ (next p.state).output }
-
--- that this was played: the state afterwards, and the output with what it adds
-pub record Plays (p : Played) (s : State) (before after : List ℕ) : Type 0 where
-  pub state : s ≡ p.state
-  pub output : after ≡ before ++ p.output
-
--- ---- after each line
-
-abbrev pub settled_if : Machine → Option ℕ → Machine
-settled_if m None = m
-settled_if m (Some id) = settled m id
-
--- the commit that is pending is settled
-abbrev pub settled_next : Machine → Machine
-settled_next m = settled_if m (next_pending m.past)
-
--- and the outboxes are emptied
-abbrev pub closed : State → Played
-closed s = record {
-  state = record s { server = drained s.directory (settled_next s.server) };
-  output = drain_output s.directory (settled_next s.server);
-}
+-- a server without documents, and no session; commits are settled by themselves
+abbrev pub start : Config → Limits → State
+start config limits = record { server = started config limits start_moment; directory = []; moment = start_moment; manual = false }
 
 -- ---- requests
-
--- what is told at once; the reply to a commit comes to the outbox, and what waits is told when it goes on
-abbrev pub reply_output : List ℕ → Option (List ℕ) → Answer → List ℕ
-reply_output name id (Reply message) = message_line name message
-reply_output name id (Prepared commit time) = []
-reply_output name id (Held commit) = []
-reply_output name id (Refused refusal) = message_line name (refused id refusal)
 
 abbrev pub requested : State → List ℕ → ℕ → Envelope → Played
 requested s name number e = record { state = record s { server = asked s.server number e }; output = reply_output name e.id (answered s.server number e) }
@@ -137,9 +86,23 @@ error_line reason n = json_line (line_error (refused_json reason) n)
 abbrev pub clocked : State → ℤ → State
 clocked s time = record s { server = ticked s.server (later s.moment time); moment = later s.moment time }
 
+-- a line that is of a form, and does not apply as things stand
+abbrev pub does_not_apply : State → ℕ → Played
+does_not_apply s n = prints s (error_line (reasons.Line DoesNotApply) n)
+
 abbrev pub leaves : State → ℕ → List ℕ → Option ℕ → Played
-leaves s n name None = prints s (error_line (reasons.Line DoesNotApply) n)
+leaves s n name None = does_not_apply s n
 leaves s n name (Some number) = closed (record s { server = departed s.server number; directory = without name s.directory })
+
+-- ---- settling by hand: only where nothing settles by itself
+
+-- a commit that is pending is settled, with what its writes come to
+abbrev pub settles_by_hand : State → ℕ → ℕ → Played
+settles_by_hand s n id = if s.manual && is_some (pending_of s.server.past id) then settles s id else does_not_apply s n
+
+-- each request that waits is tried once
+abbrev pub tries_by_hand : State → ℕ → Played
+tries_by_hand s n = if s.manual then tries_all s else does_not_apply s n
 
 -- ---- lines
 
@@ -151,6 +114,9 @@ line_played s n (line.Asked a) = followed_by (in_session s a (number_of a.sessio
 line_played s n (line.Clock time) = closed (clocked s time)
 line_played s n (line.Compact time) = closed (record s { server = compacted s.server time })
 line_played s n (line.Leave name) = leaves s n name (number_of name s.directory)
+line_played s n (line.Manual on) = closed (record s { manual = on })
+line_played s n (line.Settle id) = settles_by_hand s n id
+line_played s n line.Retry = tries_by_hand s n
 
 -- the state after a line, which has this number
 unfoldable pub after_line : State → ℕ → List ℕ → State

@@ -2,7 +2,9 @@
 ghost use Rattle.std.specs.Prelude.{◌≡◌, ◌++◌, Ok, Err, IfOk, OnOk};
 ghost use Rattle.fs_replay.specs.Directory.{number_of};
 ghost use Rattle.fs_replay.specs.Line.{reason_of};
-ghost use Rattle.fs_replay.specs.Step.{entered, entry, in_session, reply_output, requested, IsIdle, Plays};
+ghost use Rattle.fs_replay.specs.Outboxes.{reply_output};
+ghost use Rattle.fs_replay.specs.Played.{Plays};
+ghost use Rattle.fs_replay.specs.Step.{entered, entry, in_session, requested};
 
 use crate::calls::{ask, open};
 use crate::reply::{refuse, say};
@@ -21,7 +23,6 @@ pub fn ask_in_session(
     asked: SessionRequest,
     out: &mut Vec<u8>,
 ) -> Result<(), AllocError>
-    requires { IsIdle state.old }
     ensures { OnOk result (Plays (in_session state.old asked (number_of asked.session state.old.directory))
         state.new out.old.items out.new.items) }
 {
@@ -66,7 +67,6 @@ fn ask_as(
     envelope: &Envelope,
     out: &mut Vec<u8>,
 ) -> Result<(), AllocError>
-    requires { IsIdle state.old }
     ensures { OnOk result (Plays (in_session state.old (record { session = name.now; id = envelope.now.id; request = Ok envelope.now.request })
         (number_of name.now state.old.directory)) state.new out.old.items out.new.items) }
 {
@@ -88,7 +88,6 @@ fn refuse_as(
     bad: Bad,
     out: &mut Vec<u8>,
 ) -> Result<(), AllocError>
-    requires { IsIdle state.old }
     ensures { OnOk result (Plays (in_session state.old (record { session = name.now; id = id.now; request = Err bad })
         (number_of name.now state.old.directory)) state.new out.old.items out.new.items) }
 {
@@ -120,7 +119,6 @@ fn reply_to(
     envelope: &Envelope,
     out: &mut Vec<u8>,
 ) -> Result<(), AllocError>
-    requires { IsIdle state.old }
     ensures { OnOk result (Plays (requested state.old name.now number envelope.now) state.new out.old.items out.new.items) }
 {
     let answer = ask(alloc, &mut state.server, number, envelope)?;
@@ -129,8 +127,8 @@ fn reply_to(
     said
 }
 
-// Adds what a request is answered at once.
-fn say_answer(
+/// Adds what a request is answered at once.
+pub fn say_answer(
     alloc: Global,
     name: &str,
     id: &Option<Text>,

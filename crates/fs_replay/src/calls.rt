@@ -1,7 +1,8 @@
 //! Calls of the server that may want memory, which ends a run.
-ghost use Rattle.std.specs.Prelude.{◌≡◌, [], IfOk, IsSome, OnOk};
+ghost use Rattle.std.specs.Prelude.{◌≡◌, ◌<◌, IfOk, IsSome, OnOk, Some, length};
 ghost use Rattle.fs_machine.specs.Open.{open_answer, opened};
 ghost use Rattle.fs_machine.specs.Request.{answered, asked};
+ghost use Rattle.fs_machine.specs.Retry.{retried, retry_answer};
 ghost use Rattle.fs_machine.specs.Settle.{pending_of, settled};
 
 use fs_rpc::Envelope;
@@ -31,11 +32,26 @@ pub fn ask(
     session: u32,
     envelope: &Envelope,
 ) -> Result<Answer, AllocError>
-    requires { server.old.past.unreleased ≡ [] }
     ensures told { IfOk result (λ a. a ≡ answered server.old session envelope.now) }
     ensures state { OnOk result (server.new ≡ asked server.old session envelope.now) }
 {
     let answer = server.request(alloc, session, envelope);
+    if let Answer::Refused(refusal) = &answer
+        && let Reason::Memory = &refusal.reason
+    {
+        drop(answer);
+        return Err(AllocError);
+    }
+    Ok(answer)
+}
+
+/// Tries the request again that waits at a place.
+pub fn retry(alloc: Global, server: &mut Server, place: u64) -> Result<Answer, AllocError>
+    requires { place < length server.old.parked }
+    ensures told { IfOk result (λ a. Some a ≡ retry_answer server.old place) }
+    ensures state { OnOk result (server.new ≡ retried server.old place) }
+{
+    let answer = server.retry(alloc, place);
     if let Answer::Refused(refusal) = &answer
         && let Reason::Memory = &refusal.reason
     {

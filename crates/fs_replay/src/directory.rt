@@ -1,6 +1,6 @@
 //! The sessions of a script.
-ghost use Rattle.std.specs.Prelude.{◌≡◌, ◌<◌, IfSome, length};
-ghost use Rattle.fs_replay.specs.Directory.{number_of, place_in};
+ghost use Rattle.std.specs.Prelude.{◌≡◌, ◌<◌, IfSome, length, option_map};
+ghost use Rattle.fs_replay.specs.Directory.{name_of, number_of, place_in};
 
 use fs_path::Text;
 use std::alloc::{AllocError, Global};
@@ -37,8 +37,8 @@ impl Model for Directory {
 }
 
 impl Directory {
-    ghost use Rattle.std.specs.Prelude.{◌≡◌, ◌∷◌, ◌++◌, OnOk, []};
-    ghost use Rattle.fs_replay.specs.Directory.{number_of, without};
+    ghost use Rattle.std.specs.Prelude.{◌≡◌, ◌∷◌, ◌++◌, OnOk, [], option_map};
+    ghost use Rattle.fs_replay.specs.Directory.{name_of, number_of, without};
 
     /// No sessions. The allocator serves those that come.
     pub fn new(alloc: Global) -> Directory
@@ -60,6 +60,13 @@ impl Directory {
         ensures { result ≡ number_of name.now self.now }
     {
         number_in(&self.items, name)
+    }
+
+    /// The name of the session of a number, if it is open.
+    pub fn name_of(&self, number: u32) -> Option<&str>
+        ensures { option_map (λ name. name.now) result ≡ name_of number self.now }
+    {
+        name_in(&self.items, number)
     }
 
     /// A session more.
@@ -92,6 +99,21 @@ fn number_in(named: &[Named], name: &str) -> Option<u32>
                 Some(first.number)
             } else {
                 number_in(rest, name)
+            }
+        }
+    }
+}
+
+fn name_in(named: &[Named], number: u32) -> Option<&str>
+    ensures { option_map (λ name. name.now) result ≡ name_of number named.now }
+{
+    match named {
+        [] => None,
+        [first, rest @ ..] => {
+            if first.number == number {
+                Some(first.name.as_str())
+            } else {
+                name_in(rest, number)
             }
         }
     }

@@ -6,7 +6,9 @@ mod calls;
 mod close;
 mod commit_line;
 mod directory;
+mod forms;
 mod gather;
+mod held;
 mod laws;
 mod limits;
 mod line;
@@ -21,5 +23,6 @@ mod script;
 mod state;
 mod step;
 
+pub use fs_server::{Config, Limits, Mode};
 pub use laws::scripts_are_lawful;
 pub use script::replay;

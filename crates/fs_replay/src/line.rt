@@ -1,34 +1,37 @@
 //! Reading the lines of a script.
-ghost use Rattle.std.specs.Prelude.{◌≡◌, IfOk, codes, map, option_map};
+ghost use Rattle.std.specs.Prelude.{◌≡◌, IfOk, map, option_map};
 ghost use Rattle.serde_json.specs.View.{members_view, view as json};
 ghost use Rattle.fs_json.specs.Answer.{Gives};
 ghost use Rattle.fs_rpc.specs.Envelope.{session_request_at};
-ghost use Rattle.fs_replay.specs.Line.{bare, form_of, has_any, is_unbuilt_form, IsFault, json_of, leave_at, leaves_session, line_of, line_read, line_reason, other_form, time_line_at, without_member};
+ghost use Rattle.fs_replay.specs.Line.{bare, form_at, form_of, has_any, is_unbuilt_form, IsFault, json_of, leaves_session, line_of, line_reason, without_each, without_member};
 
+use crate::forms::{LEAVE, SESSION, id_in, leaving_in, time_in, true_in, truth_in};
 use crate::limits::LONGEST_LINE;
 use crate::request::Line;
-use fs_json::{Bad, is_there, only, read_required_time, read_text, required};
-use fs_path::{Place, Root, Rule, Text, Way};
-use fs_rpc::read_session_request;
+use fs_json::{Bad, is_there};
+use fs_path::{Place, Root, Rule};
+use fs_rpc::{SessionRequest, read_session_request};
 use fs_status::{LineFault, Reason};
-use fs_time::Micros;
 use serde_json::{Map, Value};
 use std::alloc::{AllocError, Global};
 use std::mem;
 
 /// The forms of lines that aren't built, each told by a member.
-const UNBUILT_FORMS: [&str; 7] = [
-    "manual", "settle", "retry", "load", "match", "raise", "client",
-];
+const UNBUILT_FORMS: [&str; 4] = ["load", "match", "raise", "client"];
 
 // The members that tell the other forms.
 const CLOCK: &str = "clock";
 
 const COMPACT: &str = "compact";
 
-const LEAVE: &str = "leave";
+const MANUAL: &str = "manual";
 
-const SESSION: &str = "session";
+const SETTLE: &str = "settle";
+
+const RETRY: &str = "retry";
+
+// All of them: `leave` tells one beside a session.
+const FORM_MEMBERS: [&str; 6] = [CLOCK, COMPACT, MANUAL, SETTLE, RETRY, LEAVE];
 
 // Whether an object has a member of one of these names, whatever it holds.
 fn has_any(v: &Value, names: &[&str]) -> bool
@@ -97,33 +100,44 @@ fn line_in(alloc: Global, root: &Root, v: &mut Value) -> Result<Line, AllocError
     }
 }
 
-// A line of any form.
+// A line of any form, where one that isn't read is refused.
 fn other_line(alloc: Global, root: &Root, v: &mut Value) -> Result<Line, AllocError>
     ensures { IfOk result (λ l. l ≡ form_of root.now (json v.old)) }
 {
-    match other_form(alloc, v)? {
-        Some(line) => Ok(line),
-        None => bare_line(alloc, root, v),
+    match form_in(alloc, root, v) {
+        Ok(line) => Ok(line),
+        Err(bad) => refused(bad),
     }
 }
 
-// The line that another form tells than that of a request.
-fn other_form(alloc: Global, v: &Value) -> Result<Option<Line>, AllocError>
-    ensures { IfOk result (λ found. found ≡ other_form (json v.now)) }
+// The members that are there tell which form a line has, and are asked for in this order.
+// (docs/DECISIONS.md, "Which form a line has is told by the members that are there".)
+fn form_in(alloc: Global, root: &Root, v: &mut Value) -> Result<Line, Bad>
+    ensures { Gives (λ l. l) result (form_at root.now (json v.old)) }
 {
     if is_unbuilt_form(v) {
-        return Ok(Some(Line::NotBuilt));
+        return Ok(Line::NotBuilt);
     }
     if is_there(v, CLOCK) {
-        return Ok(Some(clock_in(alloc, v)?));
+        return Ok(Line::Clock(time_in(alloc, v, CLOCK)?));
     }
     if is_there(v, COMPACT) {
-        return Ok(Some(compact_in(alloc, v)?));
+        return Ok(Line::Compact(time_in(alloc, v, COMPACT)?));
+    }
+    if is_there(v, MANUAL) {
+        return Ok(Line::Manual(truth_in(alloc, v, MANUAL)?));
+    }
+    if is_there(v, SETTLE) {
+        return Ok(Line::Settle(id_in(alloc, v, SETTLE)?));
+    }
+    if is_there(v, RETRY) {
+        true_in(alloc, v, RETRY)?;
+        return Ok(Line::Retry);
     }
     if leaves_session(v) {
-        return Ok(Some(leave_in(alloc, v)?));
+        return Ok(Line::Leave(leaving_in(alloc, v)?));
     }
-    Ok(None)
+    Ok(Line::Asked(bare_request(alloc, root, v)?))
 }
 
 fn leaves_session(v: &Value) -> bool
@@ -133,22 +147,13 @@ fn leaves_session(v: &Value) -> bool
 }
 
 // The line as a request, with the members of other forms taken out, none of which tells one.
-fn bare_line(alloc: Global, root: &Root, v: &mut Value) -> Result<Line, AllocError>
-    ensures { IfOk result (λ l. l ≡ line_read Line.Asked (session_request_at root.now (bare (json v.old)))) }
+fn bare_request(alloc: Global, root: &Root, v: &mut Value) -> Result<SessionRequest, Bad>
+    ensures { Gives (λ r. r) result (session_request_at root.now (bare (json v.old))) }
 {
     let bare = bare_of(mem::replace(v, Value::Null));
-    let line = request_in(alloc, root, &bare);
+    let asked = read_session_request(alloc, root, &bare);
     drop(bare);
-    line
-}
-
-fn request_in(alloc: Global, root: &Root, v: &Value) -> Result<Line, AllocError>
-    ensures { IfOk result (λ l. l ≡ line_read Line.Asked (session_request_at root.now (json v.now))) }
-{
-    match read_session_request(alloc, root, v) {
-        Ok(asked) => Ok(Line::Asked(asked)),
-        Err(bad) => refused(bad),
-    }
+    asked
 }
 
 fn bare_of(v: Value) -> Value
@@ -156,12 +161,22 @@ fn bare_of(v: Value) -> Value
 {
     match v {
         Value::Object(mut members) => {
-            remove(&mut members, CLOCK);
-            remove(&mut members, COMPACT);
-            remove(&mut members, LEAVE);
+            remove_each(&mut members, &FORM_MEMBERS);
             Value::Object(members)
         }
         other => other,
+    }
+}
+
+fn remove_each(members: &mut Map<String, Value>, names: &[&str])
+    ensures { members_view members.new.entries ≡ without_each (map (λ n. n.now) names.now) (members_view members.old.entries) }
+{
+    match names {
+        [] => (),
+        [name, rest @ ..] => {
+            remove(members, name);
+            remove_each(members, rest);
+        }
     }
 }
 
@@ -169,34 +184,6 @@ fn remove(members: &mut Map<String, Value>, name: &str)
     ensures { members_view members.new.entries ≡ without_member name.now (members_view members.old.entries) }
 {
     drop(members.remove(name));
-}
-
-fn clock_in(alloc: Global, v: &Value) -> Result<Line, AllocError>
-    ensures { IfOk result (λ l. l ≡ line_read Line.Clock (time_line_at (codes "clock") (json v.now))) }
-{
-    match time_in(alloc, v, CLOCK) {
-        Ok(time) => Ok(Line::Clock(time)),
-        Err(bad) => refused(bad),
-    }
-}
-
-fn compact_in(alloc: Global, v: &Value) -> Result<Line, AllocError>
-    ensures { IfOk result (λ l. l ≡ line_read Line.Compact (time_line_at (codes "compact") (json v.now))) }
-{
-    match time_in(alloc, v, COMPACT) {
-        Ok(time) => Ok(Line::Compact(time)),
-        Err(bad) => refused(bad),
-    }
-}
-
-// (docs/DECISIONS.md, "A line with `session` and `leave`".)
-fn leave_in(alloc: Global, v: &Value) -> Result<Line, AllocError>
-    ensures { IfOk result (λ l. l ≡ line_read Line.Leave (leave_at (json v.now))) }
-{
-    match leaving_in(alloc, v) {
-        Ok(name) => Ok(Line::Leave(name)),
-        Err(bad) => refused(bad),
-    }
 }
 
 // A line that isn't read.
@@ -208,30 +195,6 @@ fn refused(bad: Bad) -> Result<Line, AllocError>
         Bad::Method(name) => Ok(Line::Refused(Reason::Method(name))),
         Bad::Memory(e) => Err(e),
     }
-}
-
-// The time of a line that has nothing else.
-fn time_in(alloc: Global, v: &Value, name: &str) -> Result<Micros, Bad>
-    ensures { Gives (λ t. t) result (time_line_at name.now (json v.now)) }
-{
-    let top = Way::method("");
-    only(alloc, v, &[name], &top)?;
-    read_required_time(alloc, v, name, &top)
-}
-
-// The name of a session that leaves.
-fn leaving_in(alloc: Global, v: &Value) -> Result<Text, Bad>
-    ensures { Gives (λ t. t) result (leave_at (json v.now)) }
-{
-    let top = Way::method("");
-    only(alloc, v, &[SESSION, LEAVE], &top)?;
-    let session = required(alloc, v, SESSION, &top)?;
-    let name = read_text(alloc, session, &Way::method(SESSION))?;
-    let leave = required(alloc, v, LEAVE, &top)?;
-    if leave.as_bool() == Some(true) {
-        return Ok(name);
-    }
-    Err(Bad::at(alloc, Rule::G, &Way::method(LEAVE)))
 }
 
 // Why a line is refused that breaks a rule at a place. One whose own place is at fault is no object of any form.

@@ -141,7 +141,8 @@ fn push_head(line: &mut Writer, id: &Option<Text>) -> Result<(), AllocError>
     line.key("result")
 }
 
-fn push_id(line: &mut Writer, id: &Option<Text>) -> Result<(), AllocError>
+/// The id of a request, where it has one.
+pub fn push_id(line: &mut Writer, id: &Option<Text>) -> Result<(), AllocError>
     ensures tokens { OnOk result (line.new.tokens ≡ line.old.tokens ++ member_tokens (with_id id.now no_members)) }
     ensures before { line.new.before ≡ line.old.before }
 {

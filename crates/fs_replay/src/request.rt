@@ -1,7 +1,7 @@
 //! What the lines of a script ask for.
 use fs_path::Text;
 use fs_rpc::SessionRequest;
-use fs_status::Reason;
+use fs_status::{Id, Reason};
 use fs_time::Micros;
 
 /// A line of a script, as it was read.
@@ -21,4 +21,10 @@ pub enum Line {
     Compact(Micros),
     /// The session of this name ends.
     Leave(Text),
+    /// From now on the script settles by hand, or no more.
+    Manual(bool),
+    /// The pending commit of this number is settled.
+    Settle(Id),
+    /// Each request that waits is tried again.
+    Retry,
 }

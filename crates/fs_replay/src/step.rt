@@ -2,17 +2,21 @@
 ghost use Rattle.std.specs.Prelude.{◌≡◌, ◌++◌, OnOk};
 ghost use Rattle.fs_machine.specs.Compact.{compacted};
 ghost use Rattle.fs_machine.specs.Tick.{later};
+ghost use Rattle.fs_status.specs.declared.reason.LineFault.TheVariants.{DoesNotApply};
+ghost use Rattle.fs_status.specs.declared.reason.Reason.TheVariants as reasons;
 ghost use Rattle.fs_replay.specs.Directory.{number_of};
-ghost use Rattle.fs_replay.specs.Step.{after_line, clocked, closed, leaves, line_output, line_played, IsIdle, Plays};
+ghost use Rattle.fs_replay.specs.Played.{Plays};
+ghost use Rattle.fs_replay.specs.Step.{after_line, clocked, error_line, leaves, line_output, line_played, settles_by_hand, tries_by_hand};
+ghost use Rattle.fs_replay.specs.Settling.{closed};
 
 use crate::ask::ask_in_session;
-use crate::close::close;
+use crate::close::{close, settle_one, try_all};
 use crate::line::read_line;
 use crate::reply::{say_error, say_refused};
 use crate::request::Line;
 use crate::state::State;
 use fs_rpc::{SessionRequest, error_json};
-use fs_status::{Code, LineFault, Reason};
+use fs_status::{Code, Id, LineFault, Reason};
 use fs_time::Micros;
 use std::alloc::{AllocError, Global};
 
@@ -29,8 +33,7 @@ fn clock(
     time: Micros,
     out: &mut Vec<u8>,
 ) -> Result<(), AllocError>
-    ensures plays { OnOk result (Plays (closed (clocked state.old time)) state.new out.old.items out.new.items) }
-    ensures idle { OnOk result (IsIdle state.new) }
+    ensures { OnOk result (Plays (closed (clocked state.old time)) state.new out.old.items out.new.items) }
 {
     let now = later(state.moment, time);
     state.server.tick(alloc, now)?;
@@ -44,9 +47,8 @@ fn compact(
     time: Micros,
     out: &mut Vec<u8>,
 ) -> Result<(), AllocError>
-    ensures plays { OnOk result (Plays (closed (record state.old { server = compacted state.old.server time }))
+    ensures { OnOk result (Plays (closed (record state.old { server = compacted state.old.server time }))
         state.new out.old.items out.new.items) }
-    ensures idle { OnOk result (IsIdle state.new) }
 {
     let _ = state.server.compact(time);
     close(alloc, state, out)
@@ -59,10 +61,8 @@ fn leave(
     name: &str,
     out: &mut Vec<u8>,
 ) -> Result<(), AllocError>
-    requires { IsIdle state.old }
-    ensures plays { OnOk result (Plays (leaves state.old number name.now (number_of name.now state.old.directory))
+    ensures { OnOk result (Plays (leaves state.old number name.now (number_of name.now state.old.directory))
         state.new out.old.items out.new.items) }
-    ensures idle { OnOk result (IsIdle state.new) }
 {
     match state.directory.number_of(name) {
         Some(session) => {
@@ -70,10 +70,53 @@ fn leave(
             state.directory.remove(name);
             close(alloc, state, out)
         }
-        None => {
-            let reason = Reason::Line(LineFault::DoesNotApply);
-            say_refused(alloc, reason, number, out)
-        }
+        None => say_does_not_apply(alloc, number, out),
+    }
+}
+
+// A line is of a form, and does not apply as things stand.
+fn say_does_not_apply(alloc: Global, number: u64, out: &mut Vec<u8>) -> Result<(), AllocError>
+    ensures { OnOk result (out.new.items ≡ out.old.items ++ error_line (reasons.Line DoesNotApply) number) }
+{
+    say_refused(alloc, Reason::Line(LineFault::DoesNotApply), number, out)
+}
+
+// From now on the script settles by hand, or no more.
+fn settle_by_hand(
+    alloc: Global,
+    state: &mut State,
+    manual: bool,
+    out: &mut Vec<u8>,
+) -> Result<(), AllocError>
+    ensures { OnOk result (Plays (closed (record state.old { manual = manual })) state.new out.old.items out.new.items) }
+{
+    state.manual = manual;
+    close(alloc, state, out)
+}
+
+fn settle_named(
+    alloc: Global,
+    state: &mut State,
+    number: u64,
+    commit: Id,
+    out: &mut Vec<u8>,
+) -> Result<(), AllocError>
+    ensures { OnOk result (Plays (settles_by_hand state.old number commit) state.new out.old.items out.new.items) }
+{
+    if state.manual && state.server.is_pending(commit) {
+        settle_one(alloc, state, commit, out)
+    } else {
+        say_does_not_apply(alloc, number, out)
+    }
+}
+
+fn retry(alloc: Global, state: &mut State, number: u64, out: &mut Vec<u8>) -> Result<(), AllocError>
+    ensures { OnOk result (Plays (tries_by_hand state.old number) state.new out.old.items out.new.items) }
+{
+    if state.manual {
+        try_all(alloc, state, out)
+    } else {
+        say_does_not_apply(alloc, number, out)
     }
 }
 
@@ -84,9 +127,7 @@ fn request(
     asked: SessionRequest,
     out: &mut Vec<u8>,
 ) -> Result<(), AllocError>
-    requires { IsIdle state.old }
-    ensures plays { OnOk result (Plays (line_played state.old number (Line.Asked asked)) state.new out.old.items out.new.items) }
-    ensures idle { OnOk result (IsIdle state.new) }
+    ensures { OnOk result (Plays (line_played state.old number (Line.Asked asked)) state.new out.old.items out.new.items) }
 {
     ask_in_session(alloc, state, asked, out)?;
     close(alloc, state, out)
@@ -100,9 +141,7 @@ fn carry_out_read(
     line: Line,
     out: &mut Vec<u8>,
 ) -> Result<(), AllocError>
-    requires { IsIdle state.old }
-    ensures plays { OnOk result (Plays (line_played state.old number line) state.new out.old.items out.new.items) }
-    ensures idle { OnOk result (IsIdle state.new) }
+    ensures { OnOk result (Plays (line_played state.old number line) state.new out.old.items out.new.items) }
 {
     match line {
         Line::Empty => Ok(()),
@@ -115,11 +154,13 @@ fn carry_out_read(
         Line::Clock(time) => clock(alloc, state, time, out),
         Line::Compact(time) => compact(alloc, state, time, out),
         Line::Leave(name) => leave(alloc, state, number, name.as_str(), out),
+        Line::Manual(manual) => settle_by_hand(alloc, state, manual, out),
+        Line::Settle(commit) => settle_named(alloc, state, number, commit, out),
+        Line::Retry => retry(alloc, state, number, out),
     }
 }
 
 /// Carries out a line, and adds what it writes to the output.
-#[tactic(auto, unfolding(crate::specs::Step::after_line, crate::specs::Step::line_output))]
 pub fn carry_out(
     alloc: Global,
     state: &mut State,
@@ -127,10 +168,8 @@ pub fn carry_out(
     line: &[u8],
     out: &mut Vec<u8>,
 ) -> Result<(), AllocError>
-    requires { IsIdle state.old }
     ensures output { OnOk result (out.new.items ≡ out.old.items ++ line_output state.old number line.now) }
     ensures state { OnOk result (state.new ≡ after_line state.old number line.now) }
-    ensures idle { OnOk result (IsIdle state.new) }
 {
     let read = read_line(alloc, state.server.root(), line)?;
     carry_out_read(alloc, state, number, read, out)

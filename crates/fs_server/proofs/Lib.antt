@@ -1,3 +1,5 @@
+mod Numbers
 mod Places
+mod Retrying
 mod Settling
 mod Refusing

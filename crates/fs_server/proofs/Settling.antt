@@ -1,46 +1,59 @@
--- The commit that is pending is alone. What its writes come to, and what settling it does.
-use Rattle.std.proofs.Common.{◌≡◌, ℕ, ℤ, true, List, [], ◌∷◌, Option, Some, None, Ok, refl, sym, ap, ◌∙◌, subst}
-use Rattle.std.specs.Prelude.{IsSome, is_none}
+-- What settling a commit does: it is accepted or dropped, and then what can be is released.
+use Rattle.std.proofs.Common.{◌≡◌, ℕ, ℤ, Bool, true, false, List, [], ◌∷◌, ◌++◌, Option, Some, None, Result, Ok, Err, refl, sym, ap, ◌∙◌, subst, cond, arith, suc, take, get_or, length, ◌-◌, ◌<◌}
+use Rattle.std.specs.Prelude.{IsSome, int_lt, map}
+use Rattle.std.proofs.Math.Seq.{take-length, take-suc}
 use Rattle.fs_rpc.specs.MessageJson.{refused}
-use Rattle.fs_rpc.specs.declared.message.Message.{Message}
-use Rattle.fs_rpc.specs.declared.message.Message.TheVariants as message
 use Rattle.fs_status.specs.declared.refusal.Refusal.{Refusal}
 use Rattle.fs_write.specs.Batch.{Docs}
-use Rattle.fs_write.specs.declared.change.Change.{Change}
 use Rattle.fs_write.specs.declared.write_result.WriteResult.{WriteResult}
 use Rattle.fs_machine.specs.declared.answer.Outcome.{Outcome}
 use Rattle.fs_machine.specs.declared.answer.Outcome.TheVariants as outcome
 use Rattle.fs_machine.specs.declared.answer.Settled.{Settled}
 use Rattle.fs_machine.specs.declared.answer.Settled.TheVariants.{Released, Waiting, Dropped, Memory}
+use Rattle.fs_machine.specs.declared.reply.Reply.{Reply}
+use Rattle.fs_machine.specs.declared.session.Session.{Session}
 use Rattle.fs_machine.specs.declared.unreleased.Unreleased.{Unreleased}
-use Rattle.fs_machine.specs.Alone.{IsAlone, with_batch, without_batch}
-use Rattle.fs_machine.proofs.Alone.{alone_is_found, answer_accepted, answer_rejected, settled_accepted, settled_rejected}
 use Rattle.fs_machine.specs.Event.{Event}
 use Rattle.fs_machine.specs.Facts.{Facts}
 use Rattle.fs_machine.specs.Grows.{Grows}
 use Rattle.fs_machine.specs.Laws.{AlwaysGrows}
-use Rattle.fs_machine.specs.Past.{Past, is_pending}
+use Rattle.fs_machine.specs.Past.{Past}
+use Rattle.fs_machine.specs.Release.{all_delivered, past_released, released, replies_out}
 use Rattle.fs_machine.specs.Sessions.{delivered}
-use Rattle.fs_machine.specs.declared.session.Session.{Session}
-use Rattle.fs_machine.specs.Settle.{ComesTo, IsOutcomeOf, IsOutcomeOfPending, outcome_of, pending_of, Settles}
+use Rattle.fs_machine.specs.Settle.{ComesTo, IsOutcomeOfPending, accepted_in, decided, decided_if, decided_with, dropped_from, outcome_of, pending_of, settled, settled_answer, settled_answer_if, settled_as, HasTime, Settles}
 use Rattle.fs_machine.specs.State.{Machine}
-use Rattle.fs_machine.specs.UnreleasedRise.{UnreleasedRise}
-use Rattle.fs_machine.specs.Release.{free_to, kept_back, past_released}
-use Rattle.fs_server.specs.Kept.{AtMostOne}
-use Rattle.fs_server.specs.Place.{taken_back}
+use Rattle.fs_machine.proofs.Pending.{number_found}
+use Rattle.fs_server.specs.Place.{all_taken_back, taken_back}
+use Rattle.fs_server.specs.Settling.{Decides, is_refused, settled_so}
 use Rattle.fs_server.proofs.Places.{delivered_and_taken_back}
 
--- ---- it is alone
+-- ---- replies
 
--- a release leaves it where it is, and lets nothing out
-kept_back_one : (to : ℤ) (us : List Unreleased) → AtMostOne us → kept_back to us ≡ us
-kept_back_one to [] one = refl
-kept_back_one to (u ∷ us) one =
-    let still : is_pending u ≡ true = ap is_none one.0 in
-    rw (one.1, still) refl
+pub delivered_last : (rs : List Reply) (r : Reply) (ss : List Session) → all_delivered (rs ++ r ∷ []) ss ≡ delivered r.session r.message (all_delivered rs ss)
+delivered_last [] r ss = refl
+delivered_last (x ∷ rs) r ss = delivered_last rs r (delivered x.session x.message ss)
 
-pub one_released : (p : Past) → AtMostOne p.unreleased → AtMostOne (past_released p).unreleased
-one_released p one = subst AtMostOne (sym (kept_back_one (free_to p.last p.unreleased) p.unreleased one)) one
+pub taken_back_last : (ns : List ℕ) (n : ℕ) (ss : List Session) → all_taken_back (ns ++ n ∷ []) ss ≡ all_taken_back ns (taken_back n ss)
+taken_back_last [] n ss = refl
+taken_back_last (x ∷ ns) n ss = ap (taken_back x) (taken_back_last ns n ss)
+
+same_some : (x y : ℕ) → Some x ≡ Some y → x ≡ y
+same_some x y e = cc
+
+-- a list is what is left of it and its last
+pub popped : (xs : List ℕ) (len x : ℕ) → length xs ≡ len → 0 < len → Some x ≡ Some (get_or xs (len - 1) 0) → take (len - 1) xs ++ x ∷ [] ≡ xs
+popped xs len x is some last =
+    let within : len - 1 < length xs = omega (arith, is, some) in
+    let whole : suc (len - 1) ≡ length xs = omega (arith, is, some) in
+    ap (λ y. take (len - 1) xs ++ y ∷ []) (same_some x (get_or xs (len - 1) 0) last)
+    ∙ sym (take-suc xs (len - 1) 0 within)
+    ∙ ap (λ n. take n xs) whole
+    ∙ take-length xs
+
+-- replies that are taken back are as if they hadn't been delivered
+pub all_back : (rs : List Reply) (ss : List Session) → all_taken_back (map (λ r. r.session) rs) (all_delivered rs ss) ≡ ss
+all_back [] ss = refl
+all_back (r ∷ rs) ss = ap (taken_back r.session) (all_back rs (delivered r.session r.message ss)) ∙ delivered_and_taken_back r.session r.message ss
 
 -- ---- what its writes come to
 
@@ -51,41 +64,77 @@ found_pending p (Some u) o comes = refl
 pub comes_pending : (p : Past) (id : ℕ) (o : Outcome) → ComesTo p id o → IsSome (pending_of p id)
 comes_pending p id o comes = found_pending p (pending_of p id) o comes
 
-pub comes_of : (p : Past) (id : ℕ) (a : IsAlone p id) (o : Outcome) → ComesTo p id o → IsOutcomeOf p a.commit o
-comes_of p id a o comes = subst (λ found. IsOutcomeOfPending p found o) (alone_is_found p id a) comes
+-- ---- it is accepted or dropped
 
--- ---- the server with it accepted or dropped, and its reply delivered
+decides_found : (m : Machine) (id : ℕ) (o : Outcome) (q : Past) (ts : List Session) (found : Option Unreleased) → pending_of m.past id ≡ found
+    → IsOutcomeOfPending m.past found o → Decides m.past m.sessions id o q ts → record m { past = q; sessions = ts } ≡ decided_if m found
+decides_found m id o q ts None is comes decides = absurd comes
+decides_found m id (outcome.Effects changes results) q ts (Some u) is comes decides =
+    let made : outcome_of m.past u ≡ Ok (comes.0.after, results) = comes.0.done in
+    let number : u.batch.id ≡ id = number_found m.past.unreleased id u is in
+    let past : q ≡ record m.past { unreleased = accepted_in u.batch.id results m.past.unreleased } = decides.0 ∙ ap (λ (n : ℕ). record m.past { unreleased = accepted_in n results m.past.unreleased }) (sym number) in
+    (λ i. record m { past = past i; sessions = decides.1 i }) ∙ ap (decided_with m u) (sym made)
+decides_found m id (outcome.Refused refusal) q ts (Some u) is comes decides =
+    let number : u.batch.id ≡ id = number_found m.past.unreleased id u is in
+    let past : q ≡ record m.past { unreleased = dropped_from u.batch.id m.past.unreleased } = decides.0 ∙ ap (λ (n : ℕ). record m.past { unreleased = dropped_from n m.past.unreleased }) (sym number) in
+    let told : ts ≡ delivered u.session (refused u.request refusal) m.sessions = decides.1 u is in
+    (λ i. record m { past = past i; sessions = told i }) ∙ ap (decided_with m u) (sym comes)
 
-module _ (m : Machine) (past : Past) (ss : List Session) (session : ℕ) (sent : Message) (list : ss ≡ delivered session sent m.sessions) where
-  pub state_delivered : (then : Past) (number : ℕ) (reply : Message) → past ≡ then → session ≡ number → sent ≡ reply → record m { past = past; sessions = ss } ≡ record m { past = then; sessions = delivered number reply m.sessions }
-  state_delivered then number reply goes at is =
-      let all : ss ≡ delivered number reply m.sessions = list ∙ (λ i. delivered (at i) (is i) m.sessions) in
-      λ i. record m { past = goes i; sessions = all i }
+pub decides : (m : Machine) (id : ℕ) (o : Outcome) (q : Past) (ts : List Session) → ComesTo m.past id o → Decides m.past m.sessions id o q ts → record m { past = q; sessions = ts } ≡ decided m id
+decides m id o q ts comes done = decides_found m id o q ts (pending_of m.past id) refl comes done
 
-  -- the reply isn't delivered after all
-  pub state_as_before : (back : List Session) → past ≡ m.past → back ≡ taken_back session ss → record m { past = past; sessions = back } ≡ m
-  state_as_before back same without =
-      let all : back ≡ m.sessions = without ∙ ap (taken_back session) list ∙ delivered_and_taken_back session sent m.sessions in
-      λ i. record m { past = same i; sessions = all i }
+-- ---- what is told of it
 
--- ---- settling it
+answers_found : (m : Machine) (id : ℕ) (o : Outcome) (found : Option Unreleased) (u : Unreleased) → found ≡ Some u → IsOutcomeOfPending m.past found o
+    → settled_so (is_refused o) u.batch.time (settled m id).past.released ≡ settled_answer_if m id found
+answers_found m id (outcome.Effects changes results) found u is comes =
+    let here : IsOutcomeOfPending m.past (Some u) (outcome.Effects changes results) = subst (λ f. IsOutcomeOfPending m.past f (outcome.Effects changes results)) is comes in
+    let made : outcome_of m.past u ≡ Ok (here.0.after, results) = here.0.done in
+    ap (settled_as (settled m id).past u) (sym made) ∙ ap (settled_answer_if m id) (sym is)
+answers_found m id (outcome.Refused refusal) found u is comes =
+    let here : IsOutcomeOfPending m.past (Some u) (outcome.Refused refusal) = subst (λ f. IsOutcomeOfPending m.past f (outcome.Refused refusal)) is comes in
+    ap (settled_as (settled m id).past u) (sym here) ∙ ap (settled_answer_if m id) (sym is)
 
-module _ (m n : Machine) (id : ℕ) (a : IsAlone m.past id) where
-  pub settles_accepted : (changes : List Change) (results : List WriteResult) (t : ℤ) → UnreleasedRise m.past → ComesTo m.past id (outcome.Effects changes results)
-      → n ≡ record m { past = with_batch m.past a.commit; sessions = delivered a.commit.session (message.Commit a.commit.request a.commit.batch.time results) m.sessions }
-      → t ≡ a.commit.batch.time → Settles m n id (Released t)
-  settles_accepted changes results t above comes is time =
-      let h = comes_of m.past id a (outcome.Effects changes results) comes in
-      let done : Docs × List WriteResult = (h.0.after, results) in
-      let made : outcome_of m.past a.commit ≡ Ok done = h.0.done in
-      (is ∙ sym (settled_accepted m id a done above made), ap Released time ∙ sym (answer_accepted m id a done above made))
+pub answers : (m : Machine) (id : ℕ) (o : Outcome) (u : Unreleased) → pending_of m.past id ≡ Some u → ComesTo m.past id o
+    → settled_so (is_refused o) u.batch.time (settled m id).past.released ≡ settled_answer m id
+answers m id o u is comes = answers_found m id o (pending_of m.past id) u is comes
 
-  pub settles_rejected : (refusal : Refusal) → ComesTo m.past id (outcome.Refused refusal)
-      → n ≡ record m { past = without_batch m.past; sessions = delivered a.commit.session (refused a.commit.request refusal) m.sessions }
-      → Settles m n id Dropped
-  settles_rejected refusal comes is =
-      let made = comes_of m.past id a (outcome.Refused refusal) comes in
-      (is ∙ sym (settled_rejected m id a refusal made), sym (answer_rejected m id a refusal made))
+never_memory : (late : Bool) (o : Option ℤ) (time : ℤ) → Memory o ≡ cond late (Waiting time) (Released time) → ⊥
+never_memory true o time e = cc
+never_memory false o time e = cc
+
+-- what is told where all went well
+told_settles : (m n : Machine) (id : ℕ) (r : Settled) → n ≡ settled m id → r ≡ settled_answer m id → (t : ℤ) (released : ℤ) (dropped : Bool) → r ≡ settled_so dropped t released → Settles m n id r
+told_settles m n id (Released t) is told time released dropped so = (is, told)
+told_settles m n id (Waiting t) is told time released dropped so = (is, told)
+told_settles m n id Dropped is told time released dropped so = (is, told)
+told_settles m n id (Memory t) is told time released true so = absurd (cc)
+told_settles m n id (Memory t) is told time released false so = absurd (never_memory (int_lt released time) t time so)
+
+pub settles : (m n : Machine) (id : ℕ) (o : Outcome) (u : Unreleased) (r : Settled) → pending_of m.past id ≡ Some u → ComesTo m.past id o → n ≡ settled m id
+    → r ≡ settled_so (is_refused o) u.batch.time n.past.released → Settles m n id r
+settles m n id o u r is comes so told =
+    let as_told : r ≡ settled_so (is_refused o) u.batch.time (settled m id).past.released = told ∙ ap (λ (k : Machine). settled_so (is_refused o) u.batch.time k.past.released) so in
+    told_settles m n id r so (as_told ∙ answers m id o u is comes) u.batch.time (settled m id).past.released (is_refused o) as_told
+
+-- ---- the server afterwards
+
+module _ (m : Machine) (id : ℕ) (o : Outcome) (q p : Past) (ts ss : List Session) (comes : ComesTo m.past id o) (done : Decides m.past m.sessions id o q ts) where
+  -- where what can be was released
+  pub is_settled : p ≡ past_released q → ss ≡ all_delivered (replies_out q) ts → record m { past = p; sessions = ss } ≡ settled m id
+  is_settled goes told = (λ i. record m { past = goes i; sessions = told i }) ∙ ap released (decides m id o q ts comes done)
+
+  -- and where it is owed
+  pub is_decided : p ≡ q → ss ≡ ts → record m { past = p; sessions = ss } ≡ decided m id
+  is_decided same none = (λ i. record m { past = same i; sessions = none i }) ∙ decides m id o q ts comes done
+
+pub has_time : (found : Option Unreleased) (u : Unreleased) (t : ℤ) → found ≡ Some u → t ≡ u.batch.time → HasTime found t
+has_time found u t is at = subst (λ f. HasTime f t) (sym is) (sym at)
+
+pub settles_owed : (m n : Machine) (id : ℕ) (r : Settled) (t : ℤ) → r ≡ Memory (Some t) → n ≡ decided m id → HasTime (pending_of m.past id) t → Settles m n id r
+settles_owed m n id r t is so time = subst (Settles m n id) (sym is) (so, time)
+
+-- ---- the history grows
 
 pub settles_grows : (m n : Machine) (id : ℕ) (r : Settled) → Facts m → AlwaysGrows → Settles m n id r → Grows m.past n.past
 settles_grows m n id (Released t) facts law h = subst (λ (k : Machine). Grows m.past k.past) (sym h.0) (law m (Event.deciding id ∷ Event.releasing ∷ []) facts)

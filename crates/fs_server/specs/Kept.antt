@@ -1,5 +1,5 @@
 -- Only the model of a server cites this: what it is made of. What was committed keeps its own promises.
-use Rattle.std.specs.Prelude.{◌≡◌, ⊤, List, [], ◌∷◌, None}
+use Rattle.std.specs.Prelude.{List}
 use Rattle.fs_machine.specs.IdsAreDrawn.{IdsAreDrawn}
 use Rattle.fs_machine.specs.Limits.{AreAllowed}
 use Rattle.fs_machine.specs.Past.{Past}
@@ -8,15 +8,8 @@ use Rattle.fs_machine.specs.declared.limits.Limits.{Limits}
 use Rattle.fs_machine.specs.declared.numbers.Numbers.{Numbers}
 use Rattle.fs_machine.specs.declared.parked_request.ParkedRequest.{ParkedRequest}
 use Rattle.fs_machine.specs.declared.session.Session.{Session}
-use Rattle.fs_machine.specs.declared.unreleased.Unreleased.{Unreleased}
-
--- until there are transactions, none isn't released, or one, which is pending
-abbrev pub AtMostOne : List Unreleased → Type 0
-AtMostOne [] = ⊤
-AtMostOne (u ∷ us) = (u.results ≡ None) × (us ≡ [])
 
 pub record IsKept (limits : Limits) (past : Past) (sessions : List Session) (parked : List ParkedRequest) (numbers : Numbers) : Type 0 where
   pub allowed : AreAllowed limits
-  pub alone : AtMostOne past.unreleased
   pub drawn : IdsAreDrawn past parked numbers.ids
   pub numbered : SessionsNumbered sessions numbers.sessions

@@ -1,2 +1,4 @@
 pub mod Place
+pub mod Settling
+pub mod Waits
 pub mod Kept

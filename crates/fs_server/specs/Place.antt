@@ -14,3 +14,8 @@ without_last ms = take (length ms - 1) ms
 
 abbrev pub taken_back : ℕ → List Session → List Session
 taken_back number ss = with_outbox number without_last ss
+
+-- the last messages of these sessions, where that of the last was delivered last
+abbrev pub all_taken_back : List ℕ → List Session → List Session
+all_taken_back [] ss = ss
+all_taken_back (n ∷ ns) ss = taken_back n (all_taken_back ns ss)

@@ -4,13 +4,14 @@
 
 mod commit;
 mod open;
-mod parked;
 mod read;
 mod request;
+mod retry;
 mod server;
 mod sessions;
 mod settle;
+mod waiting;
 
-pub use fs_machine::{Answer, Config, Limits, Messages, Outcome, Settled};
-pub use fs_past::Chain;
+pub use fs_machine::{Answer, Config, Limits, Messages, Mode, Outcome, Parked, Settled};
+pub use fs_past::Version;
 pub use server::Server;

@@ -10,7 +10,7 @@ use fs_time::Micros;
 use std::alloc::{AllocError, Global};
 
 impl Server {
-    ghost use Rattle.std.specs.Prelude.{◌≡◌, ◌≢◌, [], IfOk, OnOk, OnErr};
+    ghost use Rattle.std.specs.Prelude.{◌≡◌, ◌≢◌, IfOk, OnOk, OnErr};
     ghost use Rattle.fs_status.specs.Refusal.{refusal_of};
     ghost use Rattle.fs_status.specs.declared.reason.Reason.TheVariants.{Memory};
     ghost use Rattle.fs_machine.specs.Read.{batch_get_answer, get_answer, read_time, run_answer, unless_refused};
@@ -19,12 +19,12 @@ impl Server {
     ghost use Rattle.fs_machine.specs.declared.answer.Answer.TheVariants.{Refused};
 
     /// A request comes on a session: what it is answered at once. A commit that passes no limit is prepared, and its reply comes
-    /// to the outbox of the session once it is settled. Reads are answered as of the time that they ask for, or of what is
-    /// released. Of several refusals the first of these is told: a rule of queries that is broken; limits, in the order in which `Limits` has them; a read
-    /// time that is too old or too new; that no document is there. Where memory runs out, all is as before. (v1 reference,
-    /// "Commit", "GetDocument", "BatchGetDocuments", "RunQuery".)
+    /// to the outbox of the session once it is settled and released. One that writes a name which a commit writes that isn't released
+    /// yet waits (`Held`), until it is tried again. Reads are answered as of the time that they ask for, or of what is released. Of
+    /// several refusals the first of these is told: a rule of queries that is broken; limits, in the order in which `Limits` has them; a
+    /// read time that is too old or too new; that as many requests wait as may; that no document is there. Where memory runs out, all is
+    /// as before. (v1 reference, "Commit", "GetDocument", "BatchGetDocuments", "RunQuery".)
     pub fn request(&mut self, alloc: Global, session: u32, envelope: &Envelope) -> Answer
-        requires { self.old.past.unreleased ≡ [] }
         ensures told { result ≢ Refused (refusal_of Memory) → result ≡ answered self.old session envelope.now }
         ensures state { result ≢ Refused (refusal_of Memory) → self.new ≡ asked self.old session envelope.now }
         ensures memory { result ≡ Refused (refusal_of Memory) → self.new ≡ self.old }
@@ -43,7 +43,6 @@ impl Server {
         session: u32,
         envelope: &Envelope,
     ) -> Result<Answer, AllocError>
-        requires { self.old.past.unreleased ≡ [] }
         ensures told { IfOk result (λ a. a ≡ answered self.old session envelope.now) }
         ensures state { OnOk result (self.new ≡ asked self.old session envelope.now) }
         ensures err { OnErr result (self.new ≡ self.old) }

@@ -1,10 +1,11 @@
 //! The server.
 ghost use Rattle.std.specs.Prelude.{◌≡◌};
 
-use crate::parked::Parked;
 use crate::sessions::Sessions;
+use crate::settle::release;
+use crate::waiting::Waiting;
 use fs_machine::{Config, Limits, Messages, Numbers, machines_are_lawful};
-use fs_past::{Chain, Past};
+use fs_past::{Past, Version};
 use fs_path::{DocName, Root};
 use fs_status::Id;
 use fs_time::Micros;
@@ -12,13 +13,17 @@ use std::alloc::{AllocError, Global};
 use std::marker::Model;
 
 /// A Cloud Firestore server. A commit is first prepared, which gives it its time, then what its writes come to is told, and
-/// with that it is settled. Until there are transactions, one is settled before the next request comes.
+/// with that it is settled. Any number may be pending, and they may be settled in any order; one is seen, and answered, once those before
+/// it are settled too.
 ///
-///     open                      session 0
-///     request: commit of c/a    commit 1 is pending at t1, and nobody sees it
-///     outcome and settle of 1   c/a can be read at t1, and session 0 has the reply to take
-///     request: getDocument      c/a, as of t1
-///     tick to t9, compact to t5 times from t5 to t9 can be read, and show the same c/a
+///     open                        session 0
+///     request: commit of c/a      commit 1 is pending at t1, and nobody sees it
+///     request: commit of c/b      commit 2 is pending at t2
+///     request: commit of c/a      it waits for commit 1, which writes c/a too
+///     outcome and settle of 2     accepted; what is seen ends before t1
+///     outcome and settle of 1     c/a and c/b can be read at t2, and session 0 has both replies to take, that of t1 first
+///     retry of the first          commit 3 is pending at t3
+///     tick to t9, compact to t5   once 3 is settled, times from t5 to t9 can be read
 /// (docs/DECISIONS.md, "A server's state is cut into groups".)
 #[derive(Drop)]
 pub struct Server {
@@ -26,8 +31,8 @@ pub struct Server {
     pub(crate) limits: Limits,
     pub(crate) past: Past,
     pub(crate) sessions: Sessions,
-    // those that wait, in the order of their arrival: none, until there are several commits under way
-    pub(crate) parked: Parked,
+    // those that wait, in the order of their arrival
+    pub(crate) waiting: Waiting,
     pub(crate) numbers: Numbers,
 }
 
@@ -45,18 +50,18 @@ impl Model for Server {
       limits = s.limits;
       past = s.past;
       sessions = s.sessions;
-      parked = s.parked;
+      parked = s.waiting;
       numbers = s.numbers;
     } };
 
-    ghost invariant = { λ s. IsKept s.limits s.past s.sessions s.parked s.numbers };
+    ghost invariant = { λ s. IsKept s.limits s.past s.sessions s.waiting s.numbers };
 }
 
 impl Server {
-    ghost use Rattle.std.specs.Prelude.{◌≡◌, ◌↔◌, [], IsNone, IfOk, IfSome, OnOk, OnErr};
+    ghost use Rattle.std.specs.Prelude.{◌≡◌, ◌↔◌, [], IsNone, IfOk, IfSome, OnOk, OnErr, is_some};
     ghost use Rattle.fs_history.specs.Versions.{chain as chain_from};
-    ghost use Rattle.fs_machine.specs.Alone.{IsAlone};
     ghost use Rattle.fs_machine.specs.Compact.{compacted};
+    ghost use Rattle.fs_machine.specs.Config.{IsAllowed};
     ghost use Rattle.fs_machine.specs.Facts.{Facts};
     ghost use Rattle.fs_machine.specs.Grows.{Grows};
     ghost use Rattle.fs_machine.specs.Laws.{AlwaysGrows};
@@ -66,10 +71,12 @@ impl Server {
     ghost use Rattle.fs_machine.specs.State.{started};
     ghost use Rattle.fs_machine.specs.Tick.{advanced, ticked};
     ghost use Rattle.fs_machine.specs.Pending.{next_pending as next_in};
+    ghost use Rattle.fs_machine.specs.Settle.{pending_of};
 
     /// A server without documents and sessions, at a moment. The allocator serves what comes.
     pub fn new(alloc: Global, config: Config, limits: Limits, start: Micros) -> Server
-        requires { AreAllowed limits }
+        requires config { IsAllowed config }
+        requires limits { AreAllowed limits }
         ensures { result ≡ started config limits start }
     {
         Server {
@@ -77,7 +84,7 @@ impl Server {
             limits,
             past: Past::new(alloc, start),
             sessions: Sessions::new(alloc),
-            parked: Parked::new(alloc),
+            waiting: Waiting::new(alloc),
             numbers: Numbers {
                 ids: 0,
                 sessions: 0,
@@ -100,20 +107,24 @@ impl Server {
         self.past.released()
     }
 
-    /// The commit that is to be settled next: the earliest of those that are pending. Until there are transactions, it is alone,
-    /// and where there is none the next request may come.
+    /// The pending commit of the least time.
     pub fn next_pending(&self) -> Option<Id>
         ensures value { result ≡ next_in self.now.past }
-        ensures none { IsNone result → self.now.past.unreleased ≡ [] }
-        ensures alone { IfSome result (λ id. IsAlone self.now.past id) }
         ensures facts { Facts self.now }
     {
         self.stand();
         self.past.next_pending()
     }
 
+    /// Whether the commit of a number is pending.
+    pub fn is_pending(&self, commit: Id) -> bool
+        ensures { result ≡ is_some (pending_of self.now.past commit) }
+    {
+        self.past.is_pending(commit)
+    }
+
     /// A document's versions from the earliest time that can be read on, by rising time, and `None` where there are none.
-    pub fn chain(&self, name: &DocName) -> Option<&Chain>
+    pub fn chain(&self, name: &DocName) -> Option<&[Version]>
         ensures some { IfSome result (λ c. c.now ≡ chain_from self.now.past.history self.now.past.floor name.now) }
         ensures none { IsNone result ↔ (chain_from self.now.past.history self.now.past.floor name.now ≡ []) }
     {
@@ -128,7 +139,7 @@ impl Server {
     {
         self.stand();
         self.sessions.remove(session);
-        self.parked.withdraw(session);
+        self.waiting.withdraw(session);
     }
 
     /// The clock goes on to a moment, and what can be is released: the time up to which can be read now. Where memory runs out,
@@ -141,7 +152,7 @@ impl Server {
     {
         self.stand();
         self.past.advance(now);
-        self.past.release(alloc)?;
+        release(alloc, &mut self.past, &mut self.sessions)?;
         Ok(self.past.released())
     }
 

@@ -2,7 +2,7 @@
 ghost use Rattle.std.specs.Prelude.{◌≡◌, ◌<◌, IfSome, length};
 ghost use Rattle.fs_server.specs.Place.{place_in};
 
-use fs_machine::{Messages, Session};
+use fs_machine::{Messages, Reply, Session};
 use fs_rpc::Message;
 use std::alloc::{AllocError, Global};
 use std::marker::Model;
@@ -32,9 +32,10 @@ impl Model for Sessions {
 }
 
 impl Sessions {
-    ghost use Rattle.std.specs.Prelude.{◌≡◌, ◌∷◌, ◌++◌, [], OnOk, OnErr, length};
+    ghost use Rattle.std.specs.Prelude.{◌≡◌, ◌∷◌, ◌++◌, [], IfOk, OnOk, OnErr, length, map};
+    ghost use Rattle.fs_machine.specs.Release.{all_delivered};
     ghost use Rattle.fs_machine.specs.Sessions.{outbox_in, delivered, emptied, without};
-    ghost use Rattle.fs_server.specs.Place.{taken_back};
+    ghost use Rattle.fs_server.specs.Place.{all_taken_back, taken_back};
 
     /// None is open. The allocator serves those that open.
     pub fn new(alloc: Global) -> Sessions
@@ -95,6 +96,51 @@ impl Sessions {
         match place_in(&self.list, number) {
             Some(place) => self.list[place].outbox.push(message),
             None => Ok(()),
+        }
+    }
+
+    /// Replies for sessions, for those that are open: to whom they went, in order. Where memory runs out, none is delivered.
+    pub fn deliver_all(
+        &mut self,
+        alloc: Global,
+        replies: Vec<Reply>,
+    ) -> Result<Vec<u32>, AllocError>
+        ensures ok { OnOk result (self.new ≡ all_delivered replies.items self.old) }
+        ensures to { IfOk result (λ to. to.items ≡ map (λ r. r.session) replies.items) }
+        ensures err { OnErr result (self.new ≡ self.old) }
+    {
+        let mut to = Vec::with_capacity(alloc, replies.len())?;
+        for reply in replies {
+            let session = reply.session;
+            if let Err(error) = self.deliver_one(reply, &mut to) {
+                self.take_all_back(to);
+                return Err(error);
+            }
+        }
+        Ok(to)
+    }
+
+    // One of them, to a session that is noted.
+    fn deliver_one(&mut self, reply: Reply, to: &mut Vec<u32>) -> Result<(), AllocError>
+        ensures ok { OnOk result (self.new ≡ delivered reply.session reply.message self.old) }
+        ensures noted { OnOk result (to.new.items ≡ to.old.items ++ reply.session ∷ []) }
+        ensures err { OnErr result (self.new ≡ self.old) }
+        ensures stay { OnErr result (to.new.items ≡ to.old.items) }
+    {
+        to.push(reply.session)?;
+        if let Err(error) = self.deliver(reply.session, reply.message) {
+            let _ = to.pop();
+            return Err(error);
+        }
+        Ok(())
+    }
+
+    /// Takes back the last messages of these sessions, the last that was delivered first. It takes no memory.
+    pub fn take_all_back(&mut self, mut to: Vec<u32>)
+        ensures { self.new ≡ all_taken_back to.items self.old }
+    {
+        while let Some(session) = to.pop() {
+            self.take_back(session);
         }
     }
 

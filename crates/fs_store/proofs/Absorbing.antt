@@ -1,22 +1,25 @@
--- Commits that go into the versions one after another, and are taken back.
-use Rattle.std.proofs.Common.{◌≡◌, ℕ, zero, suc, ◌+◌, ◌<◌, ◌≤◌, ℤ, ◌≤ℤ◌, ◌<ℤ◌, List, [], ◌∷◌, length, take, drop, get_or, refl, sym, ap, ◌∙◌, subst, arith}
-use Rattle.std.proofs.lemmas.Int.{ints}
-use Rattle.std.proofs.lemmas.List.{drop_all, take_all}
+-- Commits that go into the versions one after another.
+use Rattle.std.proofs.Common.{◌≡◌, ℕ, ◌+◌, ◌≤◌, ℤ, ◌≤ℤ◌, ◌<ℤ◌, List, [], ◌∷◌, get_or, Option, Some, None, refl, sym, ap, ◌∙◌, subst, arith}
+use Rattle.std.specs.Prelude.{is_some, cond}
+use Rattle.std.specs.FinMap.{find}
 use Rattle.std.specs.Int.Signed.{≤ℤ_refl}
+use Rattle.std.proofs.lemmas.Int.{ints}
+use Rattle.fs_path.specs.NameOrder.{name_cmp}
 use Rattle.fs_time.proofs.Tests.{through}
-use Rattle.fs_write.specs.Batch.{AreChanges}
+use Rattle.fs_write.specs.Batch.{AreChanges, changes_by_name}
+use Rattle.fs_write.specs.declared.change.Change.{Change}
 use Rattle.fs_write.specs.declared.timed_change.TimedChange.{TimedChange}
 use Rattle.fs_history.specs.History.{EndsBy, whole}
 use Rattle.fs_history.specs.declared.batch.Batch.{Batch}
-use Rattle.fs_versions.specs.Chains.{Chains, HasNoEmptyChain, EndsByLast, IsBefore, installed}
-use Rattle.fs_versions.proofs.Extending.{installed_some, installed_ends}
+use Rattle.fs_versions.specs.Chains.{Chains, installed}
+use Rattle.fs_versions.specs.Room.{HasRoom, Room, TakesRoom, room_after, room_of}
 use Rattle.fs_versions.specs.Shows.{EndsAt, Shows as VersionsShow}
+use Rattle.fs_versions.proofs.TreeLaws.{found_itself}
 use Rattle.fs_store.specs.Brings.{Brings}
 use Rattle.fs_store.specs.Stored.{all_installed}
 use Rattle.fs_store.specs.Fits.{AreNext, TimesRise}
-use Rattle.fs_store.specs.Held.{CanInstall, WereBefore}
-use Rattle.fs_store.proofs.Fitting.{rest_is}
-use Rattle.fs_store.proofs.Installing.{all_installed-more}
+use Rattle.fs_store.specs.Held.{CanInstall}
+use Rattle.fs_store.specs.Room.{HasRoomFor, times_changed}
 
 -- ---- times
 
@@ -53,61 +56,41 @@ can_install v from to (c ∷ cs) floor last rise next = (
   can_install (installed v c.changes c.time) c.time to cs (low v.floor c.time (below v.floor from c.time floor rise.0)) (≤ℤ_refl c.time) rise.1 next.1,
 )
 
-pub can_take : (v : Chains) (cs : List TimedChange) (i : ℕ) → CanInstall v cs → CanInstall v (take i cs)
-can_take v [] zero can = tt
-can_take v [] (suc i) can = tt
-can_take v (c ∷ cs) zero can = tt
-can_take v (c ∷ cs) (suc i) can = (can.0, can.1, can.2, can_take (installed v c.changes c.time) cs i can.3)
+-- ---- the commits that are still to go in
 
-pub can_drop : (v : Chains) (cs : List TimedChange) (i : ℕ) → CanInstall v cs → CanInstall (all_installed v (take i cs)) (drop i cs)
-can_drop v [] zero can = tt
-can_drop v [] (suc i) can = tt
-can_drop v (c ∷ cs) zero can = can
-can_drop v (c ∷ cs) (suc i) can = can_drop (installed v c.changes c.time) cs i can.3
+pub record AreLeft (old now : Chains) (free : Room) (all rest : List TimedChange) : Type 0 where
+  pub can : CanInstall now rest
+  pub room : HasRoomFor free rest
+  pub value : all_installed now rest ≡ all_installed old all
+  -- the history that is shown, and what the others bring it
+  pub shows : (h k : List Batch) → VersionsShow h old → Brings h all k → (g : List Batch) × VersionsShow g now × Brings g rest k
 
-pub some_all : (v : Chains) (cs : List TimedChange) → CanInstall v cs → HasNoEmptyChain v → HasNoEmptyChain (all_installed v cs)
-some_all v [] can some = some
-some_all v (c ∷ cs) can some = some_all (installed v c.changes c.time) cs can.3 (installed_some c.time v c.changes some)
+-- ---- there is room for the first, and for the others behind it
 
-pub ends_all : (v : Chains) (cs : List TimedChange) → CanInstall v cs → EndsByLast v → EndsByLast (all_installed v cs)
-ends_all v [] can ends = ends
-ends_all v (c ∷ cs) can ends = ends_all (installed v c.changes c.time) cs can.3 (installed_ends c.time v c.changes ends (low v.last c.time can.1))
+is_changed : (o : Option Change) (c : Change) (n : ℕ) → o ≡ Some c → 1 ≤ cond (is_some o) 1 0 + n
+is_changed None c n is = absurd (cc)
+is_changed (Some d) c n is = omega arith
 
-module _ (all : List TimedChange) (i : ℕ) (c : TimedChange) (within : i < length all) (is : c ≡ get_or all i c) where
-  -- what can be said of the commit at a place
-  pub can_here : (v : Chains) → CanInstall v all → CanInstall (all_installed v (take i all)) (c ∷ drop (i + 1) all)
-  can_here v can = subst (CanInstall (all_installed v (take i all))) (rest_is all i c within is) (can_drop v all i can)
+left_of_room : (o : Option Change) (n r : ℕ) → cond (is_some o) 1 0 + n ≤ r → n ≤ room_after o r
+left_of_room None n r has = omega arith
+left_of_room (Some c) n r has = omega arith
 
-  pub last_there : (v : Chains) → (all_installed v (take (i + 1) all)).last ≡ c.time
-  last_there v = ap (λ w. w.last) (all_installed-more v all i c within is)
+module _ (old now : Chains) (free : Room) (all : List TimedChange) (c : TimedChange) (rest : List TimedChange) (left : AreLeft old now free all (c ∷ rest)) where
+  pub room_first : HasRoom free 1 c.changes
+  room_first k d within =
+      let found = found_itself c.changes k d left.can.2 within in
+      let has = left.room (get_or c.changes k d).name in
+      let one = is_changed _ _ (times_changed (get_or c.changes k d).name rest) found in
+      omega arith
 
-  -- ---- it is taken back
-
-  pub was_before : (v now initial : Chains) (first last : ℤ) → WereBefore v initial all first → now ≡ all_installed v (take (i + 1) all)
-      → last ≡ (all_installed v (take i all)).last → IsBefore (all_installed v (take i all)) now c.changes last
-  was_before v now initial first last before here was =
-      let w = all_installed v (take i all) in
-      let now_is : now ≡ installed w c.changes c.time = here ∙ all_installed-more v all i c within is in
-      record {
-        last = sym was;
-        some = some_all v (take i all) (can_take v all i before.can) before.some;
-        ends = ends_all v (take i all) (can_take v all i before.can) before.ends;
-        installed = now_is ∙ ap (installed w c.changes) (sym (ap (λ u. u.last) now_is));
-      }
-
-  -- ---- a history with it
-
-  pub brings_more : (g k : List Batch) (old new : Chains) → VersionsShow g old → Brings g (drop i all) k
-      → ((b : Batch) → VersionsShow g old → b.time ≡ c.time → AreChanges (whole g) (whole (b ∷ g)) c.changes → VersionsShow (b ∷ g) new)
-      → (f : List Batch) × VersionsShow f new × Brings f (drop (i + 1) all) k
-  brings_more g k old new shows brings installs =
-      let first = subst (λ cs. Brings g cs k) (rest_is all i c within is) brings in
-      let b = first.0 in
-      (b ∷ g, installs b shows first.1.time first.1.changes, first.2)
-
-pub brings_end : (g k : List Batch) (v : Chains) (all : List TimedChange) (i : ℕ) → length all ≤ i → VersionsShow g v → Brings g (drop i all) k → VersionsShow k v
-brings_end g k v all i past shows brings =
-    subst (λ f. VersionsShow f v) (sym (subst (λ cs. Brings g cs k) (drop_all i all past) brings)) shows
-
-pub all_in : (v : Chains) (all : List TimedChange) (i : ℕ) → length all ≤ i → all_installed v (take i all) ≡ all_installed v all
-all_in v all i past = ap (all_installed v) (take_all i all past)
+  pub left_next : (new : Chains) (then : Room) → new ≡ installed now c.changes c.time → TakesRoom free then c.changes
+      → ((g : List Batch) (b : Batch) → VersionsShow g now → b.time ≡ c.time → AreChanges (whole g) (whole (b ∷ g)) c.changes → VersionsShow (b ∷ g) new) → AreLeft old new then all rest
+  left_next new then is takes shows = record {
+    can = subst (λ v. CanInstall v rest) (sym is) left.can.3;
+    room = λ q. subst (λ n. times_changed q rest ≤ n) (sym (takes q)) (left_of_room (find name_cmp q (changes_by_name c.changes)) (times_changed q rest) (room_of free q) (left.room q));
+    value = ap (λ v. all_installed v rest) is ∙ left.value;
+    shows = λ h k shown brings.
+        let so = left.shows h k shown brings in
+        let b = so.2.0 in
+        (b ∷ so.0, shows so.0 b so.1 so.2.1.time so.2.1.changes, so.2.2);
+  }

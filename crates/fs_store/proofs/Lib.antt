@@ -5,3 +5,4 @@ pub mod Holding
 pub mod Installing
 pub mod Listing
 pub mod Named
+pub mod Rooms

@@ -1,13 +1,12 @@
 -- Only the invariant of a store and private clauses cite this.
-use Rattle.std.specs.Prelude.{◌≡◌, ℤ, ◌<ℤ◌, ◌≤ℤ◌, ⊤, IsTrue, List, [], ◌∷◌}
+use Rattle.std.specs.Prelude.{ℤ, ◌<ℤ◌, ◌≤ℤ◌, ⊤, IsTrue, List, [], ◌∷◌}
 use Rattle.std.specs.FinMap.{is_sorted}
 use Rattle.std.specs.List.{All}
 use Rattle.fs_path.specs.NameOrder.{name_cmp}
 use Rattle.fs_path.specs.declared.name.DocName.{DocName}
 use Rattle.fs_write.specs.Batch.{Bears, changes_by_name}
 use Rattle.fs_write.specs.declared.timed_change.TimedChange.{TimedChange}
-use Rattle.fs_versions.specs.Chains.{Chains, chain_of, HasNoEmptyChain, EndsByLast, installed}
-use Rattle.fs_store.specs.Stored.{all_installed}
+use Rattle.fs_versions.specs.Chains.{Chains, chain_of, installed}
 
 -- each document bears the name of its chain
 abbrev pub AreNamed : Chains → Type 0
@@ -27,11 +26,3 @@ abbrev pub CanInstall : Chains → List TimedChange → Type 0
 CanInstall v [] = ⊤
 CanInstall v (c ∷ cs) =
     (v.floor <ℤ c.time) × (v.last <ℤ c.time) × IsTrue (is_sorted name_cmp (changes_by_name c.changes)) × CanInstall (installed v c.changes c.time) cs
-
--- versions, that ended by a time, were as these are before commits were installed
-pub record WereBefore (old now : Chains) (cs : List TimedChange) (time : ℤ) : Type 0 where
-  pub last : old.last ≡ time
-  pub some : HasNoEmptyChain old
-  pub ends : EndsByLast old
-  pub can : CanInstall old cs
-  pub installed : now ≡ all_installed old cs

@@ -1,4 +1,5 @@
 pub mod Stored
+pub mod Room
 pub mod Events
 pub mod Fits
 pub mod Brings

@@ -1,5 +1,5 @@
--- What contracts see of a store: the versions of its documents, and the time up to which releases are in it. The documents
--- of each time from the floor to there can be read.
+-- What is stored: the versions of documents, and the time up to which releases are in it. The documents of each time from the
+-- floor to there can be read.
 --
 --     started at 4                                                no chains, floor 4, absorbed 4
 --     a release from 4 to 8, with c/a to {n: 1} at 5 and          c/a: {n: 1} at 5, none at 7

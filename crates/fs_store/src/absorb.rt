@@ -1,59 +1,40 @@
-//! How the commits of a release come into the versions: all of them, or none.
-ghost use Rattle.std.specs.Prelude.{◌≡◌, ◌≤◌, List, OnOk, OnErr, length, take};
+//! How room is made for the commits of a release, and how they come into the versions.
+ghost use Rattle.std.specs.Prelude.{◌≡◌, List, OnOk};
 ghost use Rattle.fs_history.specs.declared.batch.Batch.{Batch};
-ghost use Rattle.fs_versions.specs.Chains.{Chains};
 ghost use Rattle.fs_versions.specs.Shows.{Shows};
 ghost use Rattle.fs_store.specs.Brings.{Brings};
+ghost use Rattle.fs_store.specs.Held.{CanInstall};
+ghost use Rattle.fs_store.specs.Room.{HasRoomFor};
 ghost use Rattle.fs_store.specs.Stored.{all_installed};
-ghost use Rattle.fs_store.specs.Held.{CanInstall, WereBefore};
 
-use fs_time::Micros;
 use fs_versions::Versions;
-use fs_write::TimedChange;
+use fs_write::{TimedChange, TimedChanges};
 use std::alloc::{AllocError, Global};
 
-// When the versions ended before the commit at a place was installed, or before all where it is none.
-fn last_before(commits: &[TimedChange], place: usize, last: Micros) -> Micros
-    requires { place ≤ length commits.now }
-    ensures { (v : Chains) → v.last ≡ last → result ≡ (all_installed v (take place commits.now)).last }
-{
-    if place == 0 {
-        return last;
-    }
-    commits[place - 1].time
-}
-
-// Takes back what these commits put in, the last first. The versions ended by this time before.
-fn take_back(versions: &mut Versions, commits: &[TimedChange], last: Micros)
-    requires { (v : Chains) × WereBefore v versions.old commits.now last }
-    ensures { (v : Chains) → WereBefore v versions.old commits.now last → versions.new ≡ v }
-{
-    let count = commits.len();
-    for i in 0..count {
-        let place = count - 1 - i;
-        let before = last_before(commits, place, last);
-        versions.take_back(&commits[place].changes, before);
-    }
-}
-
-/// Installs commits one after another. Where memory runs out, those that are in are taken back.
-pub(crate) fn install_all(
+/// Makes room at each name that commits change, for as many versions as there are commits.
+pub(crate) fn make_room(
     alloc: Global,
     versions: &mut Versions,
     commits: &[TimedChange],
 ) -> Result<(), AllocError>
-    requires { CanInstall versions.old commits.now }
-    ensures ok { OnOk result (versions.new ≡ all_installed versions.old commits.now) }
-    ensures shows { OnOk result ((h : List Batch) (k : List Batch) → Shows h versions.old → Brings h commits.now k
-        → Shows k versions.new) }
-    ensures err { OnErr result (versions.new ≡ versions.old) }
+    ensures same { versions.new.chains ≡ versions.old.chains }
+    ensures ok { OnOk result (HasRoomFor versions.new.room commits.now) }
 {
-    let last = versions.last();
-    for (i, commit) in commits.iter().enumerate() {
-        if let Err(error) = versions.install(alloc, &commit.changes, commit.time) {
-            take_back(versions, &commits[..i], last);
-            return Err(error);
-        }
+    for commit in commits {
+        versions.make_room(alloc, &commit.changes, commits.len())?;
     }
     Ok(())
+}
+
+/// Installs commits one after another, where there is room for them.
+pub(crate) fn install_all(versions: &mut Versions, commits: TimedChanges)
+    requires can { CanInstall versions.old.chains commits }
+    requires room { HasRoomFor versions.old.room commits }
+    ensures value { versions.new.chains ≡ all_installed versions.old.chains commits }
+    ensures shows { (h : List Batch) (k : List Batch) → Shows h versions.old.chains → Brings h commits k
+        → Shows k versions.new.chains }
+{
+    for commit in commits.into_vec() {
+        versions.install(commit.changes, commit.time);
+    }
 }

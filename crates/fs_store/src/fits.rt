@@ -50,7 +50,7 @@ fn newest<'a>(
     name: &DocName,
 ) -> Option<&'a Document>
     requires { NamesRise commits.now }
-    ensures { option_copied result ≡ last_document (chain_of (all_installed versions.now commits.now) name.now) }
+    ensures { option_copied result ≡ last_document (chain_of (all_installed versions.now.chains commits.now) name.now) }
 {
     let count = commits.len();
     for i in 0..count {
@@ -65,7 +65,7 @@ fn newest<'a>(
 // Whether a change is the next of its name after these commits.
 fn is_next(versions: &Versions, commits: &[TimedChange], change: &Change) -> bool
     requires { NamesRise commits.now }
-    ensures { IsTrue result ↔ IsNext (all_installed versions.now commits.now) change.now }
+    ensures { IsTrue result ↔ IsNext (all_installed versions.now.chains commits.now) change.now }
 {
     bears(&change.before, &change.name)
         && bears(&change.after, &change.name)
@@ -75,7 +75,7 @@ fn is_next(versions: &Versions, commits: &[TimedChange], change: &Change) -> boo
 // Whether all of these changes are.
 fn all_are_next(versions: &Versions, commits: &[TimedChange], changes: &[Change]) -> bool
     requires { NamesRise commits.now }
-    ensures { IsTrue result ↔ All (IsNext (all_installed versions.now commits.now)) changes.now }
+    ensures { IsTrue result ↔ All (IsNext (all_installed versions.now.chains commits.now)) changes.now }
 {
     for change in changes {
         if !is_next(versions, commits, change) {
@@ -101,7 +101,7 @@ fn names_rise(changes: &[Change]) -> bool
 // Whether a commit's changes are the next after these commits.
 fn is_next_commit(versions: &Versions, commits: &[TimedChange], commit: &TimedChange) -> bool
     requires { NamesRise commits.now }
-    ensures { IsTrue result ↔ AreAllNext (all_installed versions.now commits.now) commit.now.changes }
+    ensures { IsTrue result ↔ AreAllNext (all_installed versions.now.chains commits.now) commit.now.changes }
 {
     let changes = commit.changes.as_slice();
     names_rise(changes) && all_are_next(versions, commits, changes)
@@ -109,7 +109,7 @@ fn is_next_commit(versions: &Versions, commits: &[TimedChange], commit: &TimedCh
 
 /// Whether the changes of commits are the next of the versions, each on what those before it leave.
 pub(crate) fn are_next(versions: &Versions, commits: &[TimedChange]) -> bool
-    ensures { IsTrue result ↔ AreNext versions.now commits.now }
+    ensures { IsTrue result ↔ AreNext versions.now.chains commits.now }
 {
     for (i, commit) in commits.iter().enumerate() {
         if !is_next_commit(versions, &commits[..i], commit) {

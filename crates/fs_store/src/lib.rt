@@ -7,6 +7,6 @@ mod release;
 mod same;
 mod store;
 
-pub use fs_versions::Chain;
+pub use fs_versions::Version;
 pub use release::Release;
 pub use store::Store;

@@ -1,5 +1,5 @@
 //! The store.
-use crate::absorb::install_all;
+use crate::absorb::{install_all, make_room};
 use crate::fits::{are_next, times_rise};
 use crate::release::Release;
 use fs_edge::Steps;
@@ -7,7 +7,8 @@ use fs_path::DocName;
 use fs_query::{Query, answer_among};
 use fs_time::Micros;
 use fs_value::{Document, Documents};
-use fs_versions::{Chain, Versions};
+use fs_versions::{Version, Versions};
+use fs_write::Changes;
 use std::alloc::{AllocError, Global};
 use std::marker::Model;
 use std::sync::ledger::Ledger;
@@ -20,7 +21,8 @@ use std::sync::ledger::Ledger;
 ///     absorb 8 to 9: nothing                          4 to 9 are read
 ///     compact(7)                                      7 to 9 are read
 ///
-/// Contracts see it as `Stored`. Stores of the same releases and compactions are the same.
+/// Before a release is absorbed, room is made for its changes, which is all that takes memory. Contracts see what is stored,
+/// as `Stored`, with the room beside it. What stores of the same releases and compactions have stored is the same.
 #[derive(Drop)]
 pub struct Store {
     versions: Versions,
@@ -29,21 +31,21 @@ pub struct Store {
 }
 
 impl Model for Store {
-    ghost use Rattle.fs_store.specs.Stored.{Stored, stored_code};
+    ghost use Rattle.fs_store.specs.Room.{Housed, housed_code};
 
-    ghost Value = { Stored };
+    ghost Value = { Housed };
 
-    ghost coded = { stored_code };
+    ghost coded = { housed_code };
 
     ghost use Rattle.fs_store.specs.Held.{IsHeld};
 
-    ghost view = { λ s. record { chains = s.versions; absorbed = s.absorbed } };
+    ghost view = { λ s. record { stored = record { chains = s.versions.chains; absorbed = s.absorbed }; room = s.versions.room } };
 
-    ghost invariant = { λ s. IsHeld s.versions s.absorbed };
+    ghost invariant = { λ s. IsHeld s.versions.chains s.absorbed };
 }
 
 impl Store {
-    ghost use Rattle.std.specs.Prelude.{◌≡◌, ◌↔◌, ◌≤ℤ◌, List, [], IsTrue, IsNone, IfOk, IfSome, OnOk, OnErr};
+    ghost use Rattle.std.specs.Prelude.{◌≡◌, ◌↔◌, ◌≤ℤ◌, List, [], IsTrue, IsNone, IfOk, IfSome, OnOk};
     ghost use Rattle.std.specs.FinMap.{get, values};
     ghost use Rattle.std.specs.Option.{option_copied};
     ghost use Rattle.fs_history.specs.History.{at};
@@ -52,16 +54,18 @@ impl Store {
     ghost use Rattle.fs_versions.specs.Chain.{shown_at};
     ghost use Rattle.fs_versions.specs.Chains.{chain_of};
     ghost use Rattle.fs_versions.specs.Listed.{documents_at};
+    ghost use Rattle.fs_versions.specs.Room.{HasRoom, KeepsRoom};
     ghost use Rattle.fs_store.specs.Brings.{Brings};
     ghost use Rattle.fs_store.specs.Events.{store_of};
     ghost use Rattle.fs_store.specs.Fits.{Fits};
+    ghost use Rattle.fs_store.specs.Room.{HasRoomFor};
     ghost use Rattle.fs_store.specs.Shows.{Shows};
     ghost use Rattle.fs_store.specs.Stored.{absorbed, compacted};
 
     /// A store without documents, which is read from a floor on. The allocator serves what it absorbs.
     pub fn new(alloc: Global, floor: Micros) -> Store
-        ensures value { result ≡ store_of floor [] }
-        ensures shows { Shows [] result }
+        ensures value { result.stored ≡ store_of floor [] }
+        ensures shows { Shows [] result.stored }
     {
         Store {
             versions: Versions::new(alloc, floor),
@@ -71,8 +75,8 @@ impl Store {
 
     /// The time from which on documents can be read.
     pub fn floor(&self) -> Micros
-        ensures value { result ≡ self.now.chains.floor }
-        ensures within { self.now.chains.floor ≤ℤ self.now.absorbed }
+        ensures value { result ≡ self.now.stored.chains.floor }
+        ensures within { self.now.stored.chains.floor ≤ℤ self.now.stored.absorbed }
     {
         // Whose field is looked at, what always holds of it is known.
         let _ = &self.absorbed;
@@ -81,18 +85,18 @@ impl Store {
 
     /// The time up to which documents can be read: the end of the last release, or the first floor.
     pub fn absorbed(&self) -> Micros
-        ensures value { result ≡ self.now.absorbed }
-        ensures within { self.now.chains.floor ≤ℤ self.now.absorbed }
+        ensures value { result ≡ self.now.stored.absorbed }
+        ensures within { self.now.stored.chains.floor ≤ℤ self.now.stored.absorbed }
     {
         self.absorbed
     }
 
     /// The document of a name at a time that can be read.
     pub fn get(&self, name: &DocName, time: Micros) -> Option<&Document>
-        requires from { self.now.chains.floor ≤ℤ time }
-        requires to { time ≤ℤ self.now.absorbed }
-        ensures value { option_copied result ≡ shown_at time (chain_of self.now.chains name.now) }
-        ensures shows { (h : List Batch) → Shows h self.now → option_copied result ≡ get (at h time) name.now }
+        requires from { self.now.stored.chains.floor ≤ℤ time }
+        requires to { time ≤ℤ self.now.stored.absorbed }
+        ensures value { option_copied result ≡ shown_at time (chain_of self.now.stored.chains name.now) }
+        ensures shows { (h : List Batch) → Shows h self.now.stored → option_copied result ≡ get (at h time) name.now }
     {
         self.versions.at(name, time)
     }
@@ -107,20 +111,20 @@ impl Store {
         time: Micros,
         steps: &mut Steps<L>,
     ) -> Result<Documents, AllocError>
-        requires from { self.now.chains.floor ≤ℤ time }
-        requires to { time ≤ℤ self.now.absorbed }
-        ensures answer { IfOk result (λ ds. IsAnswer q.now (documents_at self.now.chains time) ds) }
-        ensures shows { IfOk result (λ ds. (h : List Batch) → Shows h self.now → IsAnswer q.now (values (at h time)) ds) }
+        requires from { self.now.stored.chains.floor ≤ℤ time }
+        requires to { time ≤ℤ self.now.stored.absorbed }
+        ensures answer { IfOk result (λ ds. IsAnswer q.now (documents_at self.now.stored.chains time) ds) }
+        ensures shows { IfOk result (λ ds. (h : List Batch) → Shows h self.now.stored → IsAnswer q.now (values (at h time)) ds) }
         ensures steps { steps.new ≡ steps.old }
     {
         let documents = self.versions.documents_in(alloc, &q.scope, time)?;
         answer_among(alloc, q, documents.as_slice())
     }
 
-    /// The chain of a name, and `None` where it is empty.
-    pub fn chain(&self, name: &DocName) -> Option<&Chain>
-        ensures some { IfSome result (λ c. c.now ≡ chain_of self.now.chains name.now) }
-        ensures none { IsNone result ↔ (chain_of self.now.chains name.now ≡ []) }
+    /// The chain of a name: its versions, by rising time, and `None` where there are none.
+    pub fn chain(&self, name: &DocName) -> Option<&[Version]>
+        ensures some { IfSome result (λ c. c.now ≡ chain_of self.now.stored.chains name.now) }
+        ensures none { IsNone result ↔ (chain_of self.now.stored.chains name.now ≡ []) }
     {
         self.versions.chain(name)
     }
@@ -129,7 +133,7 @@ impl Store {
     /// on from the newest document of its name. It takes no memory.
     /// (docs/DECISIONS.md, "A store tests a release without memory".)
     pub fn fits(&self, release: &Release) -> bool
-        ensures { IsTrue result ↔ Fits self.now release.now }
+        ensures { IsTrue result ↔ Fits self.now.stored release.now }
     {
         let commits = release.changes.as_slice();
         release.from == self.absorbed
@@ -137,21 +141,38 @@ impl Store {
             && are_next(&self.versions, commits)
     }
 
-    /// Takes in a release that fits. The documents share their fields with those of the changes. Where memory runs out,
-    /// nothing is changed.
+    /// Makes room for a release, at each name that it changes for as many versions as it has commits. Where memory runs out, nothing
+    /// is changed that is stored.
+    /// (docs/DECISIONS.md, "Room is made before anything is put in".)
+    pub fn make_room(&mut self, alloc: Global, release: &Release) -> Result<(), AllocError>
+        ensures same { self.new.stored ≡ self.old.stored }
+        ensures ok { OnOk result (HasRoomFor self.new.room release.now.changes) }
+    {
+        make_room(alloc, &mut self.versions, release.changes.as_slice())
+    }
+
+    /// Makes room for one version more at each name that changes name, for who has the commits of a release one by one and knows
+    /// that no two change the same name. Where memory runs out, nothing is changed that is stored.
+    pub fn make_room_for(&mut self, alloc: Global, changes: &Changes) -> Result<(), AllocError>
+        ensures same { self.new.stored ≡ self.old.stored }
+        ensures kept { KeepsRoom self.old.room self.new.room }
+        ensures ok { OnOk result (HasRoom self.new.room 1 changes.now) }
+    {
+        self.versions.make_room(alloc, changes, 1)
+    }
+
+    /// Takes in a release that fits, where there is room for it. It takes no memory.
     ///
     /// A store that shows a history shows it with the commits of the release afterwards.
-    /// (docs/DECISIONS.md, "A release is absorbed commit by commit".)
-    pub fn absorb(&mut self, alloc: Global, release: &Release) -> Result<(), AllocError>
-        requires { Fits self.old release.now }
-        ensures ok { OnOk result (self.new ≡ absorbed self.old release.now) }
-        ensures shows { OnOk result ((h : List Batch) (k : List Batch) → Shows h self.old → Brings h release.now.changes k
-            → Shows k self.new) }
-        ensures err { OnErr result (self.new ≡ self.old) }
+    pub fn absorb(&mut self, release: Release)
+        requires fits { Fits self.old.stored release }
+        requires room { HasRoomFor self.old.room release.changes }
+        ensures value { self.new.stored ≡ absorbed self.old.stored release }
+        ensures shows { (h : List Batch) (k : List Batch) → Shows h self.old.stored → Brings h release.changes k
+            → Shows k self.new.stored }
     {
-        install_all(alloc, &mut self.versions, release.changes.as_slice())?;
+        install_all(&mut self.versions, release.changes);
         self.absorbed = release.to;
-        Ok(())
     }
 
     /// Raises the floor, up to the end of the last release at most, and drops what no time from there on shows. It takes no
@@ -159,10 +180,10 @@ impl Store {
     ///
     /// A store that shows a history shows the same afterwards.
     pub fn compact(&mut self, floor: Micros)
-        requires from { self.old.chains.floor ≤ℤ floor }
-        requires to { floor ≤ℤ self.old.absorbed }
-        ensures value { self.new ≡ compacted self.old floor }
-        ensures shows { (h : List Batch) → Shows h self.old → Shows h self.new }
+        requires from { self.old.stored.chains.floor ≤ℤ floor }
+        requires to { floor ≤ℤ self.old.stored.absorbed }
+        ensures value { self.new.stored ≡ compacted self.old.stored floor }
+        ensures shows { (h : List Batch) → Shows h self.old.stored → Shows h self.new.stored }
     {
         self.versions.compact(floor);
     }

@@ -3,7 +3,6 @@ pub mod ChainLaws
 pub mod Compacting
 pub mod Cutting
 pub mod Extending
-pub mod Installed
 pub mod Installing
 pub mod Listing
 pub mod Times

@@ -1,10 +1,10 @@
 -- Chains whose times rise.
-use Rattle.std.proofs.Common.{◌≡◌, ℕ, ◌+◌, ◌<◌, ◌≤◌, ℤ, ◌≤ℤ◌, ◌<ℤ◌, Bool, true, false, eqb, List, length, take, drop, get_or, refl, sym, ap, ◌∙◌, subst, arith}
+use Rattle.std.proofs.Common.{◌≡◌, ℕ, ◌+◌, ◌<◌, ◌≤◌, ℤ, ◌<ℤ◌, Bool, true, false, eqb, List, length, drop, get_or, refl, sym, ap, ◌∙◌, subst, arith}
 use Rattle.std.specs.Prelude.{int_le}
 use Rattle.std.specs.List.Sorted.{IsPartitionedBy, IsPartitionPoint}
 use Rattle.std.proofs.lemmas.Int.{ints}
 use Rattle.std.proofs.lemmas.Bool.Decides.{nat_tests}
-use Rattle.std.proofs.lemmas.List.{get_or-take, get_or-drop, length-take, length-drop}
+use Rattle.std.proofs.lemmas.List.{get_or-drop, length-drop}
 use Rattle.fs_history.specs.declared.version.Version.{Version}
 use Rattle.fs_versions.specs.Rising.{TimesRise}
 use Rattle.fs_versions.specs.Sound.{IsSplit}
@@ -22,12 +22,6 @@ pub partitioned : (chain : List Version) (t : ℤ) → TimesRise chain → IsPar
 partitioned chain t rise i j d low within passes = same_or_before chain t i j d (λ below. rise i j d below within) low passes
 
 -- ---- parts of a chain
-
-pub rise_take : (n : ℕ) (chain : List Version) → TimesRise chain → n ≤ length chain → TimesRise (take n chain)
-rise_take n chain rise few i j d below within =
-    let short : j < n = omega (arith, length-take n chain, within) in
-    subst (λ (v : Version). v.time <ℤ (get_or (take n chain) j d).time) (sym (get_or-take n chain i d (omega arith)))
-    (subst (λ (w : Version). (get_or chain i d).time <ℤ w.time) (sym (get_or-take n chain j d short)) (rise i j d below (omega arith)))
 
 pub rise_drop : (n : ℕ) (chain : List Version) → TimesRise chain → TimesRise (drop n chain)
 rise_drop n chain rise i j d below within =

@@ -1,156 +1,171 @@
--- Changes that go into the chains one after another, and are taken back.
-use Rattle.std.proofs.Common.{◌≡◌, ℕ, suc, zero, ◌-◌, ◌<◌, ℤ, Bool, true, false, cond, List, [], ◌∷◌, ◌++◌, Option, Some, None, length, take, drop, get_or, refl, sym, ap, ◌∙◌, subst, arith, length-append, drop-cons}
-use Rattle.std.specs.Prelude.{IsTrue, unwrap_or}
+-- Changes that go into the chains one after another.
+use Rattle.std.proofs.Common.{◌≡◌, ℕ, ◌-◌, ◌<◌, ◌≤◌, ℤ, Bool, true, false, cond, List, [], ◌∷◌, ◌++◌, length, get_or, Option, Some, None, refl, sym, ap, ◌∙◌, subst, arith}
+use Rattle.std.specs.Prelude.{IsTrue}
 use Rattle.std.specs.BTreeMap.{is_at}
 use Rattle.std.specs.Cmp.{first_so, second_so}
 use Rattle.std.specs.FinMap.{find, is_sorted}
-use Rattle.std.specs.FinMap.Entries.{below_all, find-append}
-use Rattle.std.specs.Ordering.{eq_by_cmp, is_eq, is_lt, ordering_reverse}
-use Rattle.std.specs.declared.cmp.Ordering.TheVariants.{Less, Greater}
-use Rattle.std.proofs.lemmas.Cmp.{eq_by_cmp_equiv}
-use Rattle.std.proofs.lemmas.List.{take-append-drop}
-use Rattle.std.proofs.lemmas.Bool.{and_from}
+use Rattle.std.specs.FinMap.Entries.{below_all}
+use Rattle.std.specs.List.{All}
+use Rattle.std.specs.Ordering.{eq_by_cmp}
+use Rattle.std.specs.declared.cmp.Ordering.TheVariants.{Equal}
+use Rattle.std.proofs.lemmas.Cmp.{eq_by_cmp_equiv, tied_itself}
+use Rattle.std.proofs.lemmas.List.{get_or-map, get_or_default}
+use Rattle.std.proofs.lemmas.List.Elements.{All-head, All-tail}
 use Rattle.fs_path.specs.NameOrder.{name_cmp, name_cmp_total, name_is, name_itself}
 use Rattle.fs_path.specs.declared.name.DocName.{DocName}
-use Rattle.fs_path.proofs.Orders.{less_is}
+use Rattle.fs_value.proofs.Search.{find-tied}
 use Rattle.fs_write.specs.Batch.{changes_by_name}
 use Rattle.fs_write.specs.declared.change.Change.{Change}
-use Rattle.fs_history.specs.declared.version.Version.{Version}
 use Rattle.fs_history.proofs.Names.{none_below}
-use Rattle.fs_versions.specs.Sound.{Tree, found, chain_in, held, changed, without_last, HasNoEmpty, HasChanged, Puts}
+use Rattle.fs_versions.specs.Chain.{extended}
+use Rattle.fs_versions.specs.Chained.{Chained}
+use Rattle.fs_versions.specs.Rising.{AreBefore}
+use Rattle.fs_versions.specs.Room.{room_after}
+use Rattle.fs_versions.specs.Sound.{Tree, found, chained, chained_in, chain_in, room_in, EndsBefore, NoLess, Puts, SameChains}
+
+abbrev pub Rise : List Change → Type 0
+Rise cs = IsTrue (is_sorted name_cmp (changes_by_name cs))
+
+-- the change of a name among some
+abbrev pub change_at : DocName → List Change → Option Change
+change_at q cs = find name_cmp q (changes_by_name cs)
 
 -- ---- names
 
 turned : (name q : DocName) → eq_by_cmp name_cmp q name ≡ is_at (name_cmp name) q
 turned name q = (eq_by_cmp_equiv name_cmp_total).symm q name
 
--- ---- changes whose names rise
+-- the first of changes whose names rise is that of its name, and none behind it is
+first_at : (c : Change) (cs : List Change) → change_at c.name (c ∷ cs) ≡ Some c
+first_at c cs = ap (λ b. cond b (Some c) (change_at c.name cs)) (name_itself c.name)
 
-abbrev pub Rise : List Change → Type 0
-Rise cs = IsTrue (is_sorted name_cmp (changes_by_name cs))
+none_behind : (c : Change) (cs : List Change) → Rise (c ∷ cs) → change_at c.name cs ≡ None
+none_behind c cs rise = none_below c.name (changes_by_name cs) (first_so _ (is_sorted name_cmp (changes_by_name cs)) rise)
 
-below_middle : (k : DocName) (done : List Change) (c : Change) (rest : List Change) → IsTrue (below_all name_cmp k (changes_by_name (done ++ c ∷ rest))) → name_cmp k c.name ≡ Less
-below_middle k [] c rest below = less_is _ (first_so _ (below_all name_cmp k (changes_by_name rest)) below)
-below_middle k (x ∷ done) c rest below = below_middle k done c rest (second_so (is_lt (name_cmp k x.name)) _ below)
+-- a change is what its name finds
+pub found_itself : (cs : List Change) (k : ℕ) (d : Change) → Rise cs → k < length cs → change_at (get_or cs k d).name cs ≡ Some (get_or cs k d)
+found_itself cs k d rise within =
+    let c = get_or cs k d in
+    find-tied name_cmp (λ x. (x.name, x)) name_cmp_total c.name cs k (d.name, d) rise within
+    (λ e. subst (λ x. name_cmp x.name c.name ≡ Equal) (get_or_default cs k d e within) (tied_itself name_cmp_total c.name))
+    ∙ ap (λ (e : DocName × Change). Some e.1) (get_or-map (λ x. (x.name, x)) cs k d (d.name, d) within)
 
--- a name isn't among those before it
-unseen : (done : List Change) (c : Change) (rest : List Change) → Rise (done ++ c ∷ rest) → find name_cmp c.name (changes_by_name done) ≡ None
-unseen [] c rest rise = refl
-unseen (x ∷ done) c rest rise =
-    let less = below_middle x.name done c rest (first_so _ (is_sorted name_cmp (changes_by_name (done ++ c ∷ rest))) rise) in
-    let greater : name_cmp c.name x.name ≡ Greater = name_cmp_total.antisymm c.name x.name ∙ ap ordering_reverse less in
-    ap (λ r. cond (is_eq r) (Some x) (find name_cmp c.name (changes_by_name done))) greater
-    ∙ unseen done c rest (second_so (below_all name_cmp x.name (changes_by_name (done ++ c ∷ rest))) _ rise)
+-- what holds of the names of all holds of each that has a change
+of_next : (P : DocName → Type 0) (c : Change) (cs : List Change) (q : DocName) (d : Change) (b : Bool) → eq_by_cmp name_cmp q c.name ≡ b → P c.name → (change_at q cs ≡ Some d → P q) → cond b (Some c) (change_at q cs) ≡ Some d → P q
+of_next P c cs q d true ties here more is = subst P (sym (name_is q c.name ties)) here
+of_next P c cs q d false ties here more is = more is
 
-below_take : (k : DocName) (n : ℕ) (cs : List Change) → IsTrue (below_all name_cmp k (changes_by_name cs)) → IsTrue (below_all name_cmp k (changes_by_name (take n cs)))
-below_take k zero cs below = refl
-below_take k (suc n) [] below = refl
-below_take k (suc n) (c ∷ cs) below =
-    and_from (is_lt (name_cmp k c.name)) _ (first_so _ (below_all name_cmp k (changes_by_name cs)) below)
-    (below_take k n cs (second_so (is_lt (name_cmp k c.name)) _ below))
-
-pub rise_take : (n : ℕ) (cs : List Change) → Rise cs → Rise (take n cs)
-rise_take zero cs rise = refl
-rise_take (suc n) [] rise = refl
-rise_take (suc n) (c ∷ cs) rise =
-    and_from (below_all name_cmp c.name (changes_by_name (take n cs))) _
-    (below_take c.name n cs (first_so _ (is_sorted name_cmp (changes_by_name cs)) rise))
-    (rise_take n cs (second_so (below_all name_cmp c.name (changes_by_name cs)) _ rise))
-
-pub rise_drop : (n : ℕ) (cs : List Change) → Rise cs → Rise (drop n cs)
-rise_drop zero cs rise = rise
-rise_drop (suc n) [] rise = rise
-rise_drop (suc n) (c ∷ cs) rise = rise_drop n cs (second_so (below_all name_cmp c.name (changes_by_name cs)) _ rise)
-
-at_place : (cs : List Change) (i : ℕ) (c : Change) → i < length cs → c ≡ get_or cs i c → cs ≡ take i cs ++ c ∷ drop (suc i) cs
-at_place cs i c within is =
-    sym (take-append-drop i cs) ∙ ap (λ ds. take i cs ++ ds) (drop-cons cs i c within) ∙ ap (λ x. take i cs ++ x ∷ drop (suc i) cs) (sym is)
-
-pub unseen_at : (cs : List Change) (i : ℕ) (c : Change) → i < length cs → c ≡ get_or cs i c → Rise cs → find name_cmp c.name (changes_by_name (take i cs)) ≡ None
-unseen_at cs i c within is rise = unseen (take i cs) c (drop (suc i) cs) (subst Rise (at_place cs i c within is) rise)
-
--- ---- one more change
-
-listed_more : (done : List Change) (c : Change) → changes_by_name (done ++ c ∷ []) ≡ changes_by_name done ++ (c.name, c) ∷ []
-listed_more [] c = refl
-listed_more (x ∷ done) c = ap (λ es. (x.name, x) ∷ es) (listed_more done c)
-
-found_more : (done : List Change) (c : Change) (q : DocName) → find name_cmp c.name (changes_by_name done) ≡ None
-    → find name_cmp q (changes_by_name (done ++ c ∷ [])) ≡ cond (is_at (name_cmp c.name) q) (Some c) (find name_cmp q (changes_by_name done))
-found_more done c q none =
-    ap (find name_cmp q) (listed_more done c)
-    ∙ find-append name_cmp name_cmp_total (changes_by_name done) c.name c q none
-    ∙ ap (λ b. cond b (Some c) (find name_cmp q (changes_by_name done))) (turned c.name q)
-
--- a name that isn't changed yet has the chain of before
-pub unchanged_yet : (old now : Tree) (done : List Change) (time : ℤ) (q : DocName) → HasChanged old now done time → find name_cmp q (changes_by_name done) ≡ None → found q now ≡ found q old
-unchanged_yet old now done time q has none = has q ∙ ap (λ o. changed time o (found q old)) none
-
-module _ (old now new : Tree) (done : List Change) (c : Change) (time : ℤ) (has : HasChanged old now done time) (none : find name_cmp c.name (changes_by_name done) ≡ None)
-    (put : Puts now new c.name (Some (chain_in c.name now ++ record { time = time; after = c.after } ∷ []))) where
-  put_here : (q : DocName) → c.name ≡ q → Some (chain_in c.name now ++ record { time = time; after = c.after } ∷ []) ≡ changed time (Some c) (found q old)
-  put_here q same =
-      ap (λ o. Some (unwrap_or o [] ++ record { time = time; after = c.after } ∷ [])) (unchanged_yet old now done time c.name has none ∙ ap (λ n. found n old) same)
-
-  put_at : (q : DocName) (b : Bool) → is_at (name_cmp c.name) q ≡ b
-      → cond b (Some (chain_in c.name now ++ record { time = time; after = c.after } ∷ [])) (found q now) ≡ changed time (cond b (Some c) (find name_cmp q (changes_by_name done))) (found q old)
-  put_at q true ties = put_here q (name_is c.name q ties)
-  put_at q false ties = has q
-
-  pub changed_more : HasChanged old new (done ++ c ∷ []) time
-  changed_more q =
-      put q ∙ put_at q (is_at (name_cmp c.name) q) refl ∙ ap (λ o. changed time o (found q old)) (sym (found_more done c q none))
-
--- ---- one is taken back
-
-without_pushed : (vs : List Version) (v : Version) → without_last (vs ++ v ∷ []) ≡ vs
-without_pushed vs v =
-    let short : length (vs ++ v ∷ []) - 1 ≡ length vs = omega (arith, length-append vs (v ∷ [])) in
-    ap (λ n. take n (vs ++ v ∷ [])) short ∙ take_front vs
-  where
-    take_front : (us : List Version) → take (length us) (us ++ v ∷ []) ≡ us
-    take_front [] = refl
-    take_front (u ∷ us) = ap (λ ws. u ∷ ws) (take_front us)
-
-held_some : (vs : List Version) → 0 < length vs → held vs ≡ Some vs
-held_some [] some = absurd (omega arith)
-held_some (v ∷ vs) some = refl
-
-held_there : (there : Option (List Version)) → ((chain : List Version) → there ≡ Some chain → 0 < length chain) → held (unwrap_or there []) ≡ there
-held_there None some = refl
-held_there (Some chain) some = held_some chain (some chain refl)
-
-module _ (before now new : Tree) (c : Change) (rest : List Change) (time : ℤ) (full : HasNoEmpty before) (rise : Rise (c ∷ rest)) (has : HasChanged before now (c ∷ rest) time)
-    (back : Puts now new c.name (held (without_last (chain_in c.name now)))) where
-  here : chain_in c.name now ≡ chain_in c.name before ++ record { time = time; after = c.after } ∷ []
-  here = ap (λ o. unwrap_or o []) (has c.name ∙ ap (λ b. changed time (cond b (Some c) (find name_cmp c.name (changes_by_name rest))) (found c.name before)) (name_itself c.name))
-
-  gone : find name_cmp c.name (changes_by_name rest) ≡ None
-  gone = none_below c.name (changes_by_name rest) (first_so _ (is_sorted name_cmp (changes_by_name rest)) rise)
-
-  back_here : held (without_last (chain_in c.name now)) ≡ changed time (find name_cmp c.name (changes_by_name rest)) (found c.name before)
-  back_here =
-      ap (λ vs. held (without_last vs)) here
-      ∙ ap held (without_pushed (chain_in c.name before) (record { time = time; after = c.after }))
-      ∙ held_there (found c.name before) (full c.name)
-      ∙ sym (ap (λ o. changed time o (found c.name before)) gone)
-
-  back_at : (q : DocName) (b : Bool) → is_at (name_cmp c.name) q ≡ b
-      → cond b (held (without_last (chain_in c.name now))) (found q now) ≡ changed time (find name_cmp q (changes_by_name rest)) (found q before)
-  back_at q true ties = back_here ∙ ap (λ n. changed time (find name_cmp n (changes_by_name rest)) (found n before)) (name_is c.name q ties)
-  back_at q false ties =
-      has q ∙ ap (λ b. changed time (cond b (Some c) (find name_cmp q (changes_by_name rest))) (found q before)) (turned c.name q ∙ ties)
-
-  pub changed_less : HasChanged before new rest time
-  changed_less q = back q ∙ back_at q (is_at (name_cmp c.name) q) refl
+pub of_names : (P : DocName → Type 0) (cs : List Change) → All (λ c. P c.name) cs → (q : DocName) (d : Change) → change_at q cs ≡ Some d → P q
+of_names P [] all q d is = absurd (cc)
+of_names P (c ∷ cs) all q d is =
+    of_next P c cs q d (eq_by_cmp name_cmp q c.name) refl (All-head (λ c. P c.name) c cs all) (of_names P cs (All-tail (λ c. P c.name) c cs all) q d) is
 
 -- ---- one place of a tree
 
--- what stands at a name is put there again
-pub kept_at : (tree : Tree) (name q : DocName) (value : Option (List Version)) (b : Bool) → is_at (name_cmp name) q ≡ b → found name tree ≡ value → cond b value (found q tree) ≡ found q tree
-kept_at tree name q value true ties is = sym is ∙ ap (λ n. found n tree) (name_is name q ties)
-kept_at tree name q value false ties is = refl
+put_there : (b : Bool) (value : Chained) (o : Option Chained) → chained (cond b (Some value) o) ≡ cond b value (chained o)
+put_there true value o = refl
+put_there false value o = refl
 
-pub held_full : (vs : List Version) → ¬ (vs ≡ []) → held vs ≡ Some vs
-held_full [] full = absurd (full refl)
-held_full (v ∷ vs) full = refl
+pub put_at : (old new : Tree) (name : DocName) (value : Chained) → Puts old new name value → (q : DocName) → chained_in q new ≡ cond (is_at (name_cmp name) q) value (chained_in q old)
+put_at old new name value put q = ap chained (put q) ∙ put_there (is_at (name_cmp name) q) value (found q old)
+
+-- a chain with the same versions, and room that isn't less
+module _ (old new : Tree) (name : DocName) (value : Chained) (put : Puts old new name value) where
+  same_next : value.versions ≡ chain_in name old → (q : DocName) (b : Bool) → is_at (name_cmp name) q ≡ b → (cond b value (chained_in q old)).versions ≡ chain_in q old
+  same_next same q true ties = same ∙ ap (λ n. chain_in n old) (name_is name q ties)
+  same_next same q false ties = refl
+
+  pub same_chains : value.versions ≡ chain_in name old → SameChains old new
+  same_chains same q = ap (λ (c : Chained). c.versions) (put_at old new name value put q) ∙ same_next same q (is_at (name_cmp name) q) refl
+
+  less_next : room_in name old ≤ value.room → (q : DocName) (b : Bool) → is_at (name_cmp name) q ≡ b → room_in q old ≤ (cond b value (chained_in q old)).room
+  less_next more q true ties = subst (λ n. room_in n old ≤ value.room) (name_is name q ties) more
+  less_next more q false ties = omega arith
+
+  pub no_less : room_in name old ≤ value.room → NoLess old new
+  no_less more q = subst (λ (c : Chained). room_in q old ≤ c.room) (sym (put_at old new name value put q)) (less_next more q (is_at (name_cmp name) q) refl)
+
+-- ---- what is still to go in
+
+-- a tree into which the first changes went, at a time, and some are left
+pub record IsLeft (old now : Tree) (all rest : List Change) (time : ℤ) : Type 0 where
+  pub chains : (q : DocName) → extended time (change_at q rest) (chain_in q now) ≡ extended time (change_at q all) (chain_in q old)
+  pub rooms : (q : DocName) → room_after (change_at q rest) (room_in q now) ≡ room_after (change_at q all) (room_in q old)
+  pub rise : Rise rest
+  pub room : (q : DocName) (d : Change) → change_at q rest ≡ Some d → 1 ≤ room_in q now
+  pub earlier : (q : DocName) → AreBefore (chain_in q old) time
+  pub same : (q : DocName) (d : Change) → change_at q rest ≡ Some d → chain_in q now ≡ chain_in q old
+
+pub left_first : (old : Tree) (all : List Change) (time : ℤ) → Rise all → All (λ c. 1 ≤ room_in c.name old) all → EndsBefore old time → IsLeft old old all all time
+left_first old all time rise room earlier = record {
+  chains = λ q. refl;
+  rooms = λ q. refl;
+  rise = rise;
+  room = of_names (λ q. 1 ≤ room_in q old) all room;
+  earlier = earlier;
+  same = λ q d is. refl;
+}
+
+-- the version that a change leaves, with the room that it takes
+abbrev pub put_for : Tree → Change → ℤ → Chained
+put_for now c time = record { versions = chain_in c.name now ++ record { time = time; after = c.after } ∷ []; room = room_in c.name now - 1 }
+
+module _ (old now new : Tree) (all : List Change) (c : Change) (rest : List Change) (time : ℤ) (left : IsLeft old now all (c ∷ rest) time) (put : Puts now new c.name (put_for now c time)) where
+  at_next : (q : DocName) → chained_in q new ≡ cond (is_at (name_cmp c.name) q) (put_for now c time) (chained_in q now)
+  at_next q = put_at now new c.name (put_for now c time) put q
+
+  other_at : (q : DocName) (d : Change) (b : Bool) → is_at (name_cmp c.name) q ≡ b → change_at q rest ≡ Some d → b ≡ false
+  other_at q d true ties is =
+      let none = ap (λ n. change_at n rest) (sym (name_is c.name q ties)) ∙ none_behind c rest left.rise in
+      absurd (cc)
+  other_at q d false ties is = refl
+
+  -- and what is at the others stays
+  stays : (q : DocName) (d : Change) → change_at q rest ≡ Some d → (chained_in q new ≡ chained_in q now) × (change_at q (c ∷ rest) ≡ Some d)
+  stays q d is =
+      let other = other_at q d (is_at (name_cmp c.name) q) refl is in (
+        at_next q ∙ ap (λ b. cond b (put_for now c time) (chained_in q now)) other,
+        ap (λ b. cond b (Some c) (change_at q rest)) (turned c.name q ∙ other) ∙ is,
+      )
+
+  chains_at : (q : DocName) (b : Bool) → is_at (name_cmp c.name) q ≡ b
+      → extended time (change_at q rest) (cond b (put_for now c time) (chained_in q now)).versions ≡ extended time (cond b (Some c) (change_at q rest)) (chain_in q now)
+  chains_at q true ties =
+      let same = name_is c.name q ties in
+      ap (λ n. extended time (change_at n rest) (put_for now c time).versions) (sym same)
+      ∙ ap (λ o. extended time o (put_for now c time).versions) (none_behind c rest left.rise)
+      ∙ ap (λ n. extended time (Some c) (chain_in n now)) same
+  chains_at q false ties = refl
+
+  rooms_at : (q : DocName) (b : Bool) → is_at (name_cmp c.name) q ≡ b
+      → room_after (change_at q rest) (cond b (put_for now c time) (chained_in q now)).room ≡ room_after (cond b (Some c) (change_at q rest)) (room_in q now)
+  rooms_at q true ties =
+      let same = name_is c.name q ties in
+      ap (λ n. room_after (change_at n rest) (put_for now c time).room) (sym same)
+      ∙ ap (λ o. room_after o (put_for now c time).room) (none_behind c rest left.rise)
+      ∙ ap (λ n. room_after (Some c) (room_in n now)) same
+  rooms_at q false ties = refl
+
+  pub left_next : IsLeft old new all rest time
+  left_next = record {
+    chains = λ q.
+        ap (λ (x : Chained). extended time (change_at q rest) x.versions) (at_next q)
+        ∙ chains_at q (is_at (name_cmp c.name) q) refl
+        ∙ ap (λ b. extended time (cond b (Some c) (change_at q rest)) (chain_in q now)) (sym (turned c.name q))
+        ∙ left.chains q;
+    rooms = λ q.
+        ap (λ (x : Chained). room_after (change_at q rest) x.room) (at_next q)
+        ∙ rooms_at q (is_at (name_cmp c.name) q) refl
+        ∙ ap (λ b. room_after (cond b (Some c) (change_at q rest)) (room_in q now)) (sym (turned c.name q))
+        ∙ left.rooms q;
+    rise = second_so (below_all name_cmp c.name (changes_by_name rest)) _ left.rise;
+    room = λ q d is. let s = stays q d is in subst (λ (x : Chained). 1 ≤ x.room) (sym s.0) (left.room q d s.1);
+    earlier = left.earlier;
+    same = λ q d is. let s = stays q d is in ap (λ (x : Chained). x.versions) s.0 ∙ left.same q d s.1;
+  }
+
+pub room_first : (old now : Tree) (all : List Change) (c : Change) (rest : List Change) (time : ℤ) → IsLeft old now all (c ∷ rest) time → 1 ≤ room_in c.name now
+room_first old now all c rest time left = left.room c.name c (first_at c rest)
+
+pub before_first : (old now : Tree) (all : List Change) (c : Change) (rest : List Change) (time : ℤ) → IsLeft old now all (c ∷ rest) time → AreBefore (chain_in c.name now) time
+before_first old now all c rest time left = subst (λ vs. AreBefore vs time) (sym (left.same c.name c (first_at c rest))) (left.earlier c.name)

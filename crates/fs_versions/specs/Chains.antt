@@ -1,6 +1,6 @@
 -- What contracts see of the versions of all documents: by name the chains, of which none is empty; the floor; and the last
 -- time at which a batch was installed, or the first floor where none was.
-use Rattle.std.specs.Prelude.{◌≡◌, ◌≢◌, ℤ, ◌≤ℤ◌, List, [], ◌∷◌, Some, unwrap_or, refl}
+use Rattle.std.specs.Prelude.{◌≡◌, ◌≢◌, ℤ, ◌≤ℤ◌, List, [], ◌∷◌, map, Some, unwrap_or, refl}
 use Rattle.std.specs.Coded.{Coded, code_by, coded×, coded_ℤ, coded_list}
 use Rattle.std.specs.FinMap.{FinMap, code, entries, find, from_entries, get, insert}
 use Rattle.std.specs.List.{All}
@@ -49,13 +49,6 @@ with_changes chains (c ∷ cs) time = with_changes (insert chains c.name (extend
 abbrev pub installed : Chains → List Change → ℤ → Chains
 installed v changes time = record { by_name = with_changes v.by_name changes time; floor = v.floor; last = time }
 
--- versions, that ended by a time, were as these are before changes at the last time were installed
-pub record IsBefore (old now : Chains) (changes : List Change) (time : ℤ) : Type 0 where
-  pub last : old.last ≡ time
-  pub some : HasNoEmptyChain old
-  pub ends : EndsByLast old
-  pub installed : now ≡ installed old changes now.last
-
 -- ---- from a floor on
 
 -- an entry, if its chain is not empty
@@ -63,13 +56,14 @@ abbrev pub with_chain : DocName → List Version → List (DocName × List Versi
 with_chain name [] es = es
 with_chain name (v ∷ vs) es = (name, v ∷ vs) ∷ es
 
--- each name's chain from a floor on, and no name whose chain is empty then
-abbrev pub all_cut : ℤ → List (DocName × List Version) → List (DocName × List Version)
-all_cut floor [] = []
-all_cut floor (e ∷ es) = with_chain e.0 (cut floor e.1) (all_cut floor es)
+-- those whose chains are not empty
+abbrev pub all_full : List (DocName × List Version) → List (DocName × List Version)
+all_full [] = []
+all_full (e ∷ es) = with_chain e.0 e.1 (all_full es)
 
+-- each name's chain from a floor on, and no name whose chain is empty then
 abbrev pub compacted : Chains → ℤ → Chains
-compacted v floor = record { by_name = from_entries (all_cut floor (entries v.by_name)); floor = floor; last = v.last }
+compacted v floor = record { by_name = from_entries (all_full (map (λ e. (e.0, cut floor e.1)) (entries v.by_name))); floor = floor; last = v.last }
 
 -- ---- the same, name by name
 

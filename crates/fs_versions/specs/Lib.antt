@@ -1,7 +1,9 @@
 pub mod Between
 pub mod Chain
+pub mod Chained
 pub mod Chains
 pub mod Listed
 pub mod Rising
+pub mod Room
 pub mod Shows
 pub mod Sound

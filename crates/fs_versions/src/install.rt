@@ -1,10 +1,11 @@
-//! How the changes of a batch come into the chains: all of them, or none.
-ghost use Rattle.std.specs.Prelude.{◌≡◌, ◌≢◌, ◌∷◌, ◌++◌, [], IsTrue, IfOk, OnOk, OnErr, Some, take};
-ghost use Rattle.std.specs.FinMap.{find, is_sorted};
+//! How room is made for the changes of a batch, and how they come into the chains.
+ghost use Rattle.std.specs.Prelude.{◌≡◌, ◌-◌, ◌<◌, ◌≤◌, ◌∷◌, ◌++◌, [], IsTrue, OnOk};
+ghost use Rattle.std.specs.FinMap.{is_sorted};
+ghost use Rattle.std.specs.List.{All};
 ghost use Rattle.fs_path.specs.NameOrder.{name_cmp};
 ghost use Rattle.fs_write.specs.Batch.{changes_by_name};
 ghost use Rattle.fs_versions.specs.Rising.{AreBefore};
-ghost use Rattle.fs_versions.specs.Sound.{Tree, chain_in, found, held, without_last, HasNoEmpty, HasChanged, EndsBefore, Puts, SameTree};
+ghost use Rattle.fs_versions.specs.Sound.{chain_in, room_in, EndsBefore, HasChanged, HasTaken, NoLess, Puts, SameChains};
 
 use crate::chain::Chain;
 use fs_history::Version;
@@ -14,105 +15,65 @@ use fs_write::Change;
 use std::alloc::{AllocError, Global};
 use std::collections::BTreeMap;
 
-// What a change at a time leaves.
-fn version_of(alloc: Global, change: &Change, time: Micros) -> Result<Version, AllocError>
-    ensures { IfOk result (λ v. v ≡ record { time = time; after = change.now.after }) }
-{
-    let after = match &change.after {
-        Some(document) => Some(document.copy(alloc)?),
-        None => None,
-    };
-    Ok(Version { time, after })
-}
-
-// Puts a version behind the chain of its name.
-fn put(
+// A chain stands at a name, with room for so many versions more.
+fn reserve(
     alloc: Global,
     chains: &mut BTreeMap<DocName, Chain>,
     name: &DocName,
-    version: Version,
+    more: usize,
 ) -> Result<(), AllocError>
-    requires earlier { AreBefore (chain_in name.now chains.old.entries) version.time }
-    requires some { found name.now chains.old.entries ≢ Some [] }
-    ensures ok { OnOk result (Puts chains.old.entries chains.new.entries name.now
-        (Some (chain_in name.now chains.old.entries ++ version ∷ []))) }
-    ensures err { OnErr result (SameTree chains.old.entries chains.new.entries) }
+    ensures same { SameChains chains.old.entries chains.new.entries }
+    ensures kept { NoLess chains.old.entries chains.new.entries }
+    ensures ok { OnOk result (more ≤ room_in name.now chains.new.entries) }
 {
     let chain = chains
         .entry(name.copy(alloc)?)?
         .or_insert(Chain::new(alloc));
-    if let Err(error) = chain.push(version) {
-        if chain.is_empty() {
-            chains.remove(name);
-        }
-        return Err(error);
-    }
-    Ok(())
+    chain.reserve(more)
 }
 
-// Puts in the version that a change at a time leaves.
-fn put_change(
-    alloc: Global,
-    chains: &mut BTreeMap<DocName, Chain>,
-    change: &Change,
-    time: Micros,
-) -> Result<(), AllocError>
-    requires earlier { AreBefore (chain_in change.now.name chains.old.entries) time }
-    requires some { found change.now.name chains.old.entries ≢ Some [] }
-    ensures ok { OnOk result (Puts chains.old.entries chains.new.entries change.now.name
-        (Some (chain_in change.now.name chains.old.entries ++ record { time = time; after = change.now.after } ∷ []))) }
-    ensures err { OnErr result (SameTree chains.old.entries chains.new.entries) }
-{
-    let version = version_of(alloc, change, time)?;
-    put(alloc, chains, &change.name, version)
-}
-
-// Takes the last version out of a chain, and the name with it where that leaves the chain empty.
-fn take_back(chains: &mut BTreeMap<DocName, Chain>, name: &DocName)
-    ensures { Puts chains.old.entries chains.new.entries name.now
-        (held (without_last (chain_in name.now chains.old.entries))) }
-{
-    let is_empty = match chains.get_mut(name) {
-        Some(chain) => {
-            chain.pop();
-            chain.is_empty()
-        }
-        None => false,
-    };
-    if is_empty {
-        chains.remove(name);
-    }
-}
-
-// Takes back what these changes put in.
-pub(crate) fn take_all_back(chains: &mut BTreeMap<DocName, Chain>, changes: &[Change], time: Micros)
-    requires rising { IsTrue (is_sorted name_cmp (changes_by_name changes.now)) }
-    ensures { (before : Tree) → HasNoEmpty before → HasChanged before chains.old.entries changes.now time
-        → SameTree before chains.new.entries }
-{
-    for change in changes {
-        take_back(chains, &change.name);
-    }
-}
-
-// Puts in the version of each change at a time, whose names rise. Where memory runs out, those that are in are taken back.
-pub(crate) fn install(
+/// Each name that changes name has room for so many versions more.
+pub(crate) fn make_room(
     alloc: Global,
     chains: &mut BTreeMap<DocName, Chain>,
     changes: &[Change],
-    time: Micros,
+    more: usize,
 ) -> Result<(), AllocError>
-    requires rising { IsTrue (is_sorted name_cmp (changes_by_name changes.now)) }
-    requires some { HasNoEmpty chains.old.entries }
-    requires earlier { EndsBefore chains.old.entries time }
-    ensures ok { OnOk result (HasChanged chains.old.entries chains.new.entries changes.now time) }
-    ensures err { OnErr result (SameTree chains.old.entries chains.new.entries) }
+    ensures same { SameChains chains.old.entries chains.new.entries }
+    ensures kept { NoLess chains.old.entries chains.new.entries }
+    ensures ok { OnOk result (All (λ c. more ≤ room_in c.name chains.new.entries) changes.now) }
 {
-    for (i, change) in changes.iter().enumerate() {
-        if let Err(error) = put_change(alloc, chains, change, time) {
-            take_all_back(chains, &changes[..i], time);
-            return Err(error);
-        }
+    for change in changes {
+        reserve(alloc, chains, &change.name, more)?;
     }
     Ok(())
+}
+
+// Puts the version that a change leaves behind the chain of its name.
+fn put(chains: &mut BTreeMap<DocName, Chain>, change: Change, time: Micros)
+    requires earlier { AreBefore (chain_in change.name chains.old.entries) time }
+    requires room { 0 < room_in change.name chains.old.entries }
+    ensures { Puts chains.old.entries chains.new.entries change.name (record {
+      versions = chain_in change.name chains.old.entries ++ record { time = time; after = change.after } ∷ [];
+      room = room_in change.name chains.old.entries - 1;
+    }) }
+{
+    let chain = chains.get_mut(&change.name).unwrap();
+    chain.push(Version {
+        time,
+        after: change.after,
+    });
+}
+
+/// Puts in the version that each change leaves at a time, where there is room for it.
+pub(crate) fn install(chains: &mut BTreeMap<DocName, Chain>, changes: Vec<Change>, time: Micros)
+    requires rising { IsTrue (is_sorted name_cmp (changes_by_name changes.items)) }
+    requires room { All (λ c. 1 ≤ room_in c.name chains.old.entries) changes.items }
+    requires earlier { EndsBefore chains.old.entries time }
+    ensures chains { HasChanged chains.old.entries chains.new.entries changes.items time }
+    ensures room { HasTaken chains.old.entries chains.new.entries changes.items }
+{
+    for change in changes {
+        put(chains, change, time);
+    }
 }

@@ -6,6 +6,5 @@ mod install;
 mod listed;
 mod versions;
 
-pub use chain::Chain;
 pub use fs_history::Version;
 pub use versions::Versions;

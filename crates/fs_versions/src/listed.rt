@@ -1,13 +1,13 @@
 //! The documents of a scope, in the order of their names.
 ghost use Rattle.std.specs.Prelude.{◌≡◌, ◌++◌, ◌∷◌, [], IsTrue, IfOk, IfSome, false, map};
 ghost use Rattle.std.specs.BTreeMap.{keys};
-ghost use Rattle.std.specs.FinMap.{entries, from_entries};
+ghost use Rattle.std.specs.FinMap.{entries};
 ghost use Rattle.std.specs.List.{All, AllByRecursion, filter};
-ghost use Rattle.fs_path.specs.NameOrder.{name_cmp};
 ghost use Rattle.fs_path.specs.Scope.{covers};
 ghost use Rattle.fs_path.specs.Segment.{has_slash};
 ghost use Rattle.fs_versions.specs.Between.{beside, IsBeside, AreBounds, LieBetween};
 ghost use Rattle.fs_versions.specs.Listed.{all_shown};
+ghost use Rattle.fs_versions.specs.Sound.{chains_of, lists_of};
 
 use crate::chain::Chain;
 use fs_path::{DocName, Ids, Root, Scope, Text, covers};
@@ -24,7 +24,7 @@ fn shown_in<'a>(
     scope: &Scope,
     time: Micros,
 ) -> Result<Vec<&'a Document>, AllocError>
-    ensures { IfOk result (λ v. map (λ d. d.now) v.items ≡ all_shown time (filter (λ e. covers scope.now e.0) walk.entry)) }
+    ensures { IfOk result (λ v. map (λ d. d.now) v.items ≡ all_shown time (lists_of (filter (λ e. covers scope.now e.0) walk.entry))) }
 {
     let mut documents = Vec::new(alloc);
     for (name, chain) in walk {
@@ -147,7 +147,7 @@ pub(crate) fn documents_in<'a>(
     scope: &Scope,
     time: Micros,
 ) -> Result<Vec<&'a Document>, AllocError>
-    ensures { IfOk result (λ v. map (λ d. d.now) v.items ≡ all_shown time (filter (λ e. covers scope.now e.0) (entries (from_entries {R = name_cmp} chains.now.entries)))) }
+    ensures { IfOk result (λ v. map (λ d. d.now) v.items ≡ all_shown time (filter (λ e. covers scope.now e.0) (entries (chains_of chains.now.entries)))) }
 {
     match range_in(alloc, chains, scope)? {
         Some(range) => shown_in(alloc, chains.range(range), scope, time),

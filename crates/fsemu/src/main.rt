@@ -1,8 +1,14 @@
 //! fsemu: a local Cloud Firestore for tests of transactions, listeners and offline clients.
 #![tactic(auto)]
 
+mod agreed;
+mod given;
+mod options;
 mod program;
+mod reader;
 mod run;
+mod values;
+mod words;
 
 use std::process::ExitCode;
 

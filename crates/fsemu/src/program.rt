@@ -1,10 +1,12 @@
 //! The process around a run: its words, its standard streams and its exit status.
-ghost use Rattle.std.specs.Prelude.{◌≡◌, ◌≢◌, ◌↔◌, ◌∷◌, [], codes, drop, map, string_bytes, IsSome, IfOk, IfSome, OnErr};
+ghost use Rattle.std.specs.Prelude.{◌≡◌, ◌≢◌, ◌↔◌, codes, drop, map, string_bytes, IsSome, IfOk, IfSome, OnErr};
 ghost use Rattle.std.specs.Result.{result_unwrap_or};
 ghost use Rattle.fs_edge.specs.Status.{exit_code_of};
+ghost use Rattle.fs_machine.specs.Limits.{greatest};
 ghost use Rattle.fs_replay.specs.Moved.{Gained};
 ghost use Rattle.fs_replay.specs.Run.{Ends, ReadFaults, WriteFaults};
 ghost use Rattle.fs_replay.specs.Transcript.{transcript};
+ghost use Rattle.fsemu.specs.Words.{IfAsked, IsCommand};
 
 use crate::run::run;
 use fs_edge::{MemoryClock, MemoryDoors, Moments, RealSink, RealSource, Sink, Source, Status};
@@ -39,14 +41,14 @@ fn started<Rt, S: Source, K: Sink>(
     source: &mut S,
     sink: &mut K,
 ) -> Result<Status, AllocError>
-    ensures usage { IfOk result (λ status. (status ≡ Status.Usage) ↔ ¬ (map string_bytes (drop 1 given.now) ≡ codes "replay" ∷ [])) }
+    ensures usage { IfOk result (λ status. (status ≡ Status.Usage) ↔ ¬ (IsCommand (map string_bytes (drop 1 given.now)))) }
     ensures untouched { result ≡ Ok Status.Usage → (source.new ≡ source.old) × (sink.new ≡ sink.old) }
     ensures err { OnErr result ((source.new ≡ source.old) × (sink.new ≡ sink.old)) }
     ensures no_door_fault { result ≢ Ok Status.DoorFault }
 
     // At status 0 the sink has gained the transcript of all that the source had, and nothing is tried again.
-    ensures transcript { result ≡ Ok Status.Ok → IfSome (S.left source.old) (λ script.
-        Gained (K.given sink.old) (K.given sink.new) (transcript script)) }
+    ensures transcript { result ≡ Ok Status.Ok → IfAsked (map string_bytes (drop 1 given.now)) (λ config. IfSome (S.left source.old) (λ script.
+        Gained (K.given sink.old) (K.given sink.new) (transcript config greatest script))) }
     ensures read_faults { ReadFaults (result_unwrap_or result Status.Memory) (S.faults source.old) (S.faults source.new) }
     ensures ends { Ends (result_unwrap_or result Status.Memory) (S.ends source.old) (S.ends source.new) }
     ensures write_faults { WriteFaults (result_unwrap_or result Status.Memory) (K.faults sink.old) (K.faults sink.new) }

@@ -1,16 +1,21 @@
 //! The top call: a command, by the words of its command line.
-ghost use Rattle.std.specs.Prelude.{◌≡◌, ◌≢◌, ◌↔◌, ◌⊎◌, ◌∷◌, [], length, map, codes, string_bytes, IsTrue, IfSome};
+ghost use Rattle.std.specs.Prelude.{◌≡◌, ◌≢◌, ◌↔◌, ◌⊎◌, [], length, map, string_bytes, IfSome};
+ghost use Rattle.fs_machine.specs.Limits.{greatest};
 ghost use Rattle.fs_replay.specs.Limits.{longest_input};
 ghost use Rattle.fs_replay.specs.Moved.{TakenUpTo, IfTaken, Gained};
 ghost use Rattle.fs_replay.specs.Run.{Ends, ReadFaults, WriteFaults, Wrote};
 ghost use Rattle.fs_replay.specs.Transcript.{transcript};
+ghost use Rattle.fsemu.specs.Words.{IfAsked, IsCommand};
 
+use crate::agreed::is_agreed;
+use crate::words::read_words;
 use fs_edge::{Clock, Doors, Sink, Source, Status};
+use fs_machine::Limits;
 use fs_replay::replay;
 use std::alloc::Global;
 
-/// Runs the program on the words of its command line. `replay` reads a script from the source to its end, carries it
-/// out, and writes the transcript to the sink. All other words are no command: nothing is read or written then.
+/// Runs the program on the words of its command line. `replay` with its options reads a script from the source to its end,
+/// carries it out, and writes the transcript to the sink. All other words are no command: nothing is read or written then.
 /// (docs/DECISIONS.md, "`run` takes the doors and the clock though no command uses them yet".)
 pub fn run<Rt, S: Source, K: Sink, D: Doors, C: Clock>(
     _rt: &Rt,
@@ -21,7 +26,7 @@ pub fn run<Rt, S: Source, K: Sink, D: Doors, C: Clock>(
     doors: &mut D,
     clock: &mut C,
 ) -> Status
-    ensures usage { (result ≡ Status.Usage) ↔ ¬ (map string_bytes words.now ≡ codes "replay" ∷ []) }
+    ensures usage { (result ≡ Status.Usage) ↔ ¬ (IsCommand (map string_bytes words.now)) }
     ensures untouched { result ≡ Status.Usage → (source.new ≡ source.old) × (sink.new ≡ sink.old) }
 
     // No command that is built opens a door or asks the time.
@@ -31,16 +36,17 @@ pub fn run<Rt, S: Source, K: Sink, D: Doors, C: Clock>(
 
     // At status 0 all that the source had was read, and the sink has gained its transcript.
     ensures all_read { result ≡ Status.Ok → IfSome (S.left source.new) (λ rest. rest ≡ []) }
-    ensures transcript { result ≡ Status.Ok → IfSome (S.left source.old) (λ script.
-        Gained (K.given sink.old) (K.given sink.new) (transcript script)) }
+    ensures transcript { result ≡ Status.Ok → IfAsked (map string_bytes words.now) (λ config. IfSome (S.left source.old) (λ script.
+        Gained (K.given sink.old) (K.given sink.new) (transcript config greatest script))) }
 
     // At each status some bytes were taken, and the sink has gained what they give.
     ensures taken { TakenUpTo longest_input (S.left source.old) (S.left source.new) }
-    ensures written { IfTaken (S.left source.old) (S.left source.new) (λ taken.
-        Wrote result taken (K.given sink.old) (K.given sink.new)) }
+    ensures written { IfAsked (map string_bytes words.now) (λ config. IfTaken (S.left source.old) (S.left source.new) (λ taken.
+        Wrote config greatest result taken (K.given sink.old) (K.given sink.new))) }
 
     // Where that is nothing, the sink isn't asked.
-    ensures unasked { IfTaken (S.left source.old) (S.left source.new) (λ taken. transcript taken ≡ [] → sink.new ≡ sink.old) }
+    ensures unasked { IfAsked (map string_bytes words.now) (λ config. IfTaken (S.left source.old) (S.left source.new) (λ taken.
+        transcript config greatest taken ≡ [] → sink.new ≡ sink.old)) }
 
     // A fault has its cause in what was handed in, and nothing is tried again.
     ensures read_faults { ReadFaults result (S.faults source.old) (S.faults source.new) }
@@ -53,19 +59,16 @@ pub fn run<Rt, S: Source, K: Sink, D: Doors, C: Clock>(
     ensures limit_told { IfTaken (S.left source.old) (S.left source.new) (λ taken. length taken ≡ longest_input
         → (result ≡ Status.InputLimit) ⊎ ((result ≡ Status.WriteFault) ⊎ ((result ≡ Status.Memory) ⊎ (result ≡ Status.Usage)))) }
 {
-    if is_replay(words) {
-        replay(alloc, source, sink)
-    } else {
-        Status::Usage
+    let options = match read_words(alloc, words) {
+        Ok(Some(options)) => options,
+        Ok(None) => return Status::Usage,
+        Err(_) => return Status::Memory,
+    };
+    if !is_agreed(alloc, words, &options) {
+        return Status::Memory;
     }
-}
-
-// Whether the words are the command.
-fn is_replay(words: &[String]) -> bool
-    ensures { IsTrue result ↔ (map string_bytes words.now ≡ codes "replay" ∷ []) }
-{
-    match words {
-        [word] => word.as_str() == "replay",
-        _ => false,
+    match options.config(alloc) {
+        Ok(config) => replay(alloc, config, Limits::greatest(), source, sink),
+        Err(_) => Status::Memory,
     }
 }

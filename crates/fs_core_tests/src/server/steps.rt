@@ -1,12 +1,17 @@
 //! Steps on a server, each a call of it, and what they answer.
+ghost use Rattle.std.specs.Prelude.{◌<◌, IsSome, length};
+ghost use Rattle.fs_machine.specs.Settle.{pending_of};
+
 use crate::server::asked::request;
 use crate::server::limits::limits_of;
 use crate::server::told::{
-    push_answer, push_chain, push_messages, push_open, push_outcome, push_settled,
+    push_answer, push_chain, push_count, push_messages, push_open, push_outcome, push_parked,
+    push_settled,
 };
 use crate::short::{cut, micros, moment, name_of, push_moment, root};
 use fs_rpc::Envelope;
-use fs_server::{Config, Server};
+use fs_server::{Config, Mode, Server};
+use fs_status::Id;
 use std::alloc::{AllocError, Global};
 use std::fmt::Write as _;
 use std::process::Abort;
@@ -17,6 +22,8 @@ pub(crate) fn server(rt: &impl Abort, alloc: Global, limits: &str) -> Server {
     assert!(rt; limits.are_allowed());
     let config = Config {
         root: root(rt, alloc),
+        mode: Mode::Pessimistic,
+        shards: 4,
     };
     Server::new(alloc, config, limits, micros(rt, 0))
 }
@@ -30,16 +37,13 @@ fn envelope(rt: &impl Abort, alloc: Global, method: &str, text: &str) -> Envelop
     Envelope { id: None, request }
 }
 
-// A request comes only where no commit is pending.
 fn reply(
-    rt: &impl Abort,
     alloc: Global,
     server: &mut Server,
     number: u32,
     envelope: &Envelope,
     told: &mut String,
 ) -> Result<(), AllocError> {
-    assert!(rt; server.next_pending().is_none());
     let answer = server.request(alloc, number, envelope);
     let done = push_answer(told, alloc, &answer);
     drop(answer);
@@ -58,20 +62,33 @@ fn ask(
     let (number, text) = cut(text, " ");
     let number = session(rt, number);
     let envelope = envelope(rt, alloc, method, text);
-    let done = reply(rt, alloc, server, number, &envelope, told);
+    let done = reply(alloc, server, number, &envelope, told);
     drop(envelope);
     done
 }
 
 // ---- commits that are pending
 
+// The commit of a number, or the next one.
+fn pending(rt: &impl Abort, server: &Server, text: &str) -> Id
+    ensures { IsSome (pending_of server.now.past result) }
+{
+    let commit = match text {
+        "" => server.next_pending().expect(rt, "a pending commit"),
+        _ => Id::new(text.parse::<u64>().expect(rt, "a commit")),
+    };
+    assert!(rt; server.is_pending(commit));
+    commit
+}
+
 fn settle(
     rt: &impl Abort,
     alloc: Global,
     server: &mut Server,
+    text: &str,
     told: &mut String,
 ) -> Result<(), AllocError> {
-    let commit = server.next_pending().expect(rt, "a pending commit");
+    let commit = pending(rt, server, text);
     let outcome = server.outcome(alloc, commit).expect(rt, "memory");
     push_settled(told, server.settle(alloc, commit, outcome))
 }
@@ -80,13 +97,51 @@ fn outcome(
     rt: &impl Abort,
     alloc: Global,
     server: &Server,
+    text: &str,
     told: &mut String,
 ) -> Result<(), AllocError> {
-    let commit = server.next_pending().expect(rt, "a pending commit");
+    let commit = pending(rt, server, text);
     let outcome = server.outcome(alloc, commit).expect(rt, "memory");
     let done = push_outcome(told, alloc, &outcome);
     drop(outcome);
     done
+}
+
+// ---- requests that wait
+
+// A place where one waits.
+fn place(rt: &impl Abort, server: &Server, text: &str) -> u64
+    ensures { result < length server.now.parked }
+{
+    let place = text.parse::<u64>().expect(rt, "a place");
+    assert!(rt; place < server.parked());
+    place
+}
+
+fn retry(
+    rt: &impl Abort,
+    alloc: Global,
+    server: &mut Server,
+    text: &str,
+    told: &mut String,
+) -> Result<(), AllocError> {
+    let place = place(rt, server, text);
+    let answer = server.retry(alloc, place);
+    let done = push_answer(told, alloc, &answer);
+    drop(answer);
+    done
+}
+
+fn waits(
+    rt: &impl Abort,
+    alloc: Global,
+    server: &Server,
+    text: &str,
+    told: &mut String,
+) -> Result<(), AllocError> {
+    let place = place(rt, server, text);
+    let parked = server.parked_at(alloc, place).expect(rt, "memory");
+    push_parked(told, &parked)
 }
 
 fn next(server: &Server, told: &mut String) -> Result<(), AllocError> {
@@ -165,8 +220,11 @@ pub(crate) fn answer(
         "leave" => leave(rt, server, rest, told),
         "take" => take(rt, alloc, server, rest, told),
         "next" => next(server, told),
-        "outcome" => outcome(rt, alloc, server, told),
-        "settle" => settle(rt, alloc, server, told),
+        "outcome" => outcome(rt, alloc, server, rest, told),
+        "settle" => settle(rt, alloc, server, rest, told),
+        "retry" => retry(rt, alloc, server, rest, told),
+        "waits" => waits(rt, alloc, server, rest, told),
+        "parked" => push_count(told, server.parked()),
         "tick" => tick(rt, alloc, server, rest, told),
         "compact" => push_moment(told, server.compact(moment(rt, rest))),
         "released" => push_moment(told, server.released()),

@@ -1,4 +1,5 @@
-//! Cases, worked out by hand. A step is a call of a server, and what it answers stands behind ` = `. Documents have one field
+//! Cases, worked out by hand. A step is a call of a server, and what it answers stands behind ` = `. `settle` and
+//! `outcome` are of the next pending commit where they name none. Documents have one field
 //! `n`: `c/a=1` sets it, `c/a=-` deletes the document, and `?c/a=1` wants it to be there.
 
 /// Each line: the limits that differ from the greatest, and the steps. What it shows stands above it.
@@ -56,6 +57,28 @@ greatest | commit 7 c/a=1 = pending 1 at 1 | settle = released at 1 | take 7 = n
 greatest | open = 0 | commit 0 c/a=1 ?c/b=1 = pending 1 at 1 | next = 1 | outcome = write 1: document missing | settle = dropped | take 0 = write 1: document missing | released = 1 | chain c/a = none | get 0 c/a = none at 1 | commit 0 c/a=1 = pending 2 at 2
 // nobody sees a commit that is pending
 greatest | open = 0 | next = none | commit 0 c/a=1 c/b=- = pending 1 at 1 | next = 1 | released = 0 | outcome = c/a=1 | take 0 = nothing | chain c/a = none | tick 5 = 0 | compact 3 = 0 | settle = released at 1 | next = none | released = 5 | take 0 = at 1: 1 - | chain c/a = 1:1 | get 0 c/a @0 = none at 0 | get 0 c/a @1 = 1 | get 0 c/a = 1 | compact 3 = 3
+// commits are settled in any order, and released in that of their times
+greatest | open = 0 | open = 1 | commit 0 c/a=1 = pending 1 at 1 | commit 1 c/b=1 = pending 2 at 2 | commit 0 c/d=1 = pending 3 at 3 | settle 3 = waiting at 3 | settle 2 = waiting at 2 | next = 1 | released = 0 | take 0 = nothing | get 0 c/d = none at 0 | settle 1 = released at 1 | released = 3 | take 0 = at 1: 1, at 3: 3 | take 1 = at 2: 2 | get 0 c/d = 1 | get 0 c/d @2 = none at 2
+// one that is dropped lets those behind it out
+greatest | open = 0 | commit 0 ?c/a=1 = pending 1 at 1 | commit 0 c/b=1 = pending 2 at 2 | settle 2 = waiting at 2 | settle 1 = dropped | released = 2 | take 0 = write 0: document missing, at 2: 2
+// what one comes to is told while others are settled
+greatest | open = 0 | commit 0 c/a=1 = pending 1 at 1 | commit 0 c/b=1 = pending 2 at 2 | outcome 2 = c/b=1 | settle 1 = released at 1 | outcome 2 = c/b=1 | tick 9 = 1 | settle 2 = released at 2 | released = 9
+// a commit waits for the one of the least number that writes a name of its own
+greatest | open = 0 | commit 0 c/a=1 = pending 1 at 1 | commit 0 c/b=1 = pending 2 at 2 | commit 0 c/b=2 c/a=2 = held behind 1 | commit 0 c/d=1 = pending 4 at 3 | parked = 1 | waits 0 = 0 held behind 1 | settle 2 = waiting at 2 | waits 0 = 0 held behind 1 | settle 1 = released at 1 | waits 0 = 0 held behind none | retry 0 = pending 3 at 4 | parked = 0 | settle 3 = waiting at 4 | settle 4 = released at 3 | get 0 c/a = 2
+// it waits on as it is tried again, and a name that only one read names holds nobody
+greatest | open = 0 | commit 0 c/a=1 = pending 1 at 1 | commit 0 c/a=2 = held behind 1 | commit 0 c/a=3 = held behind 1 | get 0 c/a = none at 0 | retry 1 = held behind 1 | settle 1 = released at 1 | retry 1 = pending 3 at 2 | waits 0 = 0 held behind 3 | retry 0 = held behind 3
+// as many requests wait as the limit, and one more is refused, which has drawn its number
+parked 1 | open = 0 | commit 0 c/a=1 = pending 1 at 1 | commit 0 c/a=2 = held behind 1 | commit 0 c/a=3 = limit parked 1 | parked = 1 | commit 0 c/b=1 = pending 4 at 2
+// a limit comes before what holds it
+parked 0, ids 1 | open = 0 | commit 0 c/a=1 = pending 1 at 1 | commit 0 c/a=2 = limit ids 1
+// one that waited is refused where there are too many batches by now
+batches 2 | open = 0 | commit 0 c/a=1 = pending 1 at 1 | commit 0 c/a=2 = held behind 1 | commit 0 c/b=1 = pending 3 at 2 | retry 0 = limit batches 2 | parked = 0
+// and where they are too large
+journal 252 | open = 0 | commit 0 c/a=1 = pending 1 at 1 | commit 0 c/a=2 = held behind 1 | commit 0 c/b=1 = pending 3 at 2 | settle 1 = released at 1 | retry 0 = limit journal 252 | parked = 0
+// and where its time would be too late; its outbox, its writes and its number are tested no more
+time 2, outbox 1, ids 3 | open = 0 | commit 0 c/a=1 = pending 1 at 1 | commit 0 c/a=2 = held behind 1 | commit 0 c/b=1 = pending 3 at 2 | settle 1 = released at 1 | retry 0 = limit time 2 | parked = 0
+// requests of a session that leaves wait no more
+greatest | open = 0 | open = 1 | commit 0 c/a=1 = pending 1 at 1 | commit 1 c/a=2 = held behind 1 | commit 0 c/a=3 = held behind 1 | leave 1 = gone | parked = 1 | waits 0 = 0 held behind 1
 // an update without a change
 greatest | open = 0 | commit 0 c/a=1 = pending 1 at 1 | settle = released at 1 | commit 0 c/a=1 = pending 2 at 2 | outcome = nothing | settle = released at 2 | take 0 = at 1: 1, at 2: 1 | chain c/a = 1:1
 // the clock goes on, and not back

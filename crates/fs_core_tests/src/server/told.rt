@@ -1,7 +1,7 @@
 //! What calls of a server answer, as steps write it. Each adds to a text, what stands in a row with a space before it.
 use crate::short::{InRow, push_in_row, push_n, push_row};
 use fs_rpc::{BatchAnswer, Message};
-use fs_server::{Answer, Chain, Messages, Outcome, Settled};
+use fs_server::{Answer, Messages, Outcome, Parked, Settled, Version};
 use fs_status::{Id, Reason, Refusal, message};
 use fs_time::Micros;
 use fs_value::Documents;
@@ -113,6 +113,20 @@ pub(crate) fn push_open(
     }
 }
 
+/// A request that waits: its session, and what holds it.
+pub(crate) fn push_parked(text: &mut String, parked: &Parked) -> Result<(), AllocError> {
+    let session = parked.session;
+    write!(text, "{session} ")?;
+    match parked.held {
+        Some(commit) => push_held(text, commit),
+        None => text.push_str("held behind none"),
+    }
+}
+
+pub(crate) fn push_count(text: &mut String, count: u64) -> Result<(), AllocError> {
+    write!(text, "{count}")
+}
+
 fn push_held(text: &mut String, commit: Id) -> Result<(), AllocError> {
     let commit = commit.get();
     write!(text, "held behind {commit}")
@@ -156,22 +170,24 @@ pub(crate) fn push_outcome(
     }
 }
 
+fn push_at(text: &mut String, what: &str, time: Micros) -> Result<(), AllocError> {
+    let time = time.get();
+    write!(text, "{what} at {time}")
+}
+
 pub(crate) fn push_settled(text: &mut String, settled: Settled) -> Result<(), AllocError> {
     match settled {
-        Settled::Released(time) => {
-            let time = time.get();
-            write!(text, "released at {time}")
-        }
-        Settled::Waiting(_) => text.push_str("waiting"),
+        Settled::Released(time) => push_at(text, "released", time),
+        Settled::Waiting(time) => push_at(text, "waiting", time),
         Settled::Dropped => text.push_str("dropped"),
         Settled::Memory(_) => Err(AllocError),
     }
 }
 
 /// The versions of a chain, as ` 2:1 5:-`, or `none`.
-pub(crate) fn push_chain(text: &mut String, chain: Option<&Chain>) -> Result<(), AllocError> {
+pub(crate) fn push_chain(text: &mut String, chain: Option<&[Version]>) -> Result<(), AllocError> {
     match chain {
-        Some(chain) => push_row(text, chain.as_slice()),
+        Some(chain) => push_row(text, chain),
         None => text.push_str("none"),
     }
 }

@@ -65,21 +65,18 @@ impl Database {
     pub(crate) fn take_in(&mut self, rt: &impl Abort, alloc: Global, line: &str) -> bool {
         let release = self.release(rt, alloc, line);
         let release = release.copy(alloc).expect(rt, "memory");
-        is_taken_in(rt, alloc, &mut self.store, &release)
+        is_taken_in(rt, alloc, &mut self.store, release)
     }
 }
 
-// Where memory is wanting, nothing has changed, and the second time it goes well.
-fn is_taken_in(rt: &impl Abort, alloc: Global, store: &mut Store, release: &Release) -> bool {
-    if !store.fits(release) {
+// Where memory is wanting the first time, nothing has changed.
+fn is_taken_in(rt: &impl Abort, alloc: Global, store: &mut Store, release: Release) -> bool {
+    let before = store.absorbed();
+    let _ = store.make_room(alloc, &release);
+    if store.absorbed() != before || !store.fits(&release) {
         return false;
     }
-    let before = store.absorbed();
-    if store.absorb(alloc, release).is_err() {
-        if store.absorbed() != before || !store.fits(release) {
-            return false;
-        }
-        store.absorb(alloc, release).expect(rt, "memory");
-    }
+    store.make_room(alloc, &release).expect(rt, "memory");
+    store.absorb(release);
     true
 }

@@ -20,8 +20,8 @@ use std::sync::ledger::{Blank, Ledger};
 // ---- what is shown
 
 fn push_at(rt: &impl Abort, alloc: Global, text: &mut String, store: &Store, path: &str, at: Micros)
-    requires from { store.now.chains.floor ≤ℤ at }
-    requires to { at ≤ℤ store.now.absorbed }
+    requires from { store.now.stored.chains.floor ≤ℤ at }
+    requires to { at ≤ℤ store.now.stored.absorbed }
 {
     let name = name_of(rt, alloc, path);
     push_in_row(text, store.get(&name, at)).expect(rt, "memory");
@@ -29,8 +29,8 @@ fn push_at(rt: &impl Abort, alloc: Global, text: &mut String, store: &Store, pat
 
 // Whether `n` of each document is as in a row.
 fn has_row(rt: &impl Abort, alloc: Global, store: &Store, at: Micros, row: &str) -> bool
-    requires from { store.now.chains.floor ≤ℤ at }
-    requires to { at ≤ℤ store.now.absorbed }
+    requires from { store.now.stored.chains.floor ≤ℤ at }
+    requires to { at ≤ℤ store.now.stored.absorbed }
 {
     let mut text = String::new(alloc);
     push_at(rt, alloc, &mut text, store, PATHS[0], at);
@@ -49,8 +49,8 @@ fn answer<L: Ledger>(
     requires name { blank.name ≡ L.name }
     requires parts { blank.parts ≡ L.parts }
     requires some { 0 < blank.parts }
-    requires from { store.now.chains.floor ≤ℤ at }
-    requires to { at ≤ℤ store.now.absorbed }
+    requires from { store.now.stored.chains.floor ≤ℤ at }
+    requires to { at ≤ℤ store.now.stored.absorbed }
 {
     let mut steps: Steps<L> = Steps::new(blank);
     let found = store.run(alloc, &asked, at, &mut steps);
@@ -59,8 +59,8 @@ fn answer<L: Ledger>(
 }
 
 fn found(alloc: Global, store: &Store, asked: Query, at: Micros) -> Result<Documents, AllocError>
-    requires from { store.now.chains.floor ≤ℤ at }
-    requires to { at ≤ℤ store.now.absorbed }
+    requires from { store.now.stored.chains.floor ≤ℤ at }
+    requires to { at ≤ℤ store.now.stored.absorbed }
 {
     answer::<Brand>(alloc, store, asked, at, Blank::new(1))
 }
@@ -74,8 +74,8 @@ fn has_scope(
     line: &str,
     row: &str,
 ) -> bool
-    requires from { store.now.chains.floor ≤ℤ at }
-    requires to { at ≤ℤ store.now.absorbed }
+    requires from { store.now.stored.chains.floor ≤ℤ at }
+    requires to { at ≤ℤ store.now.stored.absorbed }
 {
     let (scope, places) = cut(line, " |");
     let documents = found(alloc, store, query(rt, alloc, scope), at).expect(rt, "memory");
@@ -83,8 +83,8 @@ fn has_scope(
 }
 
 fn has_scopes(rt: &impl Abort, alloc: Global, store: &Store, at: Micros, row: &str) -> bool
-    requires from { store.now.chains.floor ≤ℤ at }
-    requires to { at ≤ℤ store.now.absorbed }
+    requires from { store.now.stored.chains.floor ≤ℤ at }
+    requires to { at ≤ℤ store.now.stored.absorbed }
 {
     for line in SCOPES.lines() {
         if !has_scope(rt, alloc, store, at, line, row) {

@@ -40,53 +40,39 @@ impl Says for Database {
         let (time, texts) = cut(line, " | ");
         let time = moment(rt, time);
         let changes = commit(rt, alloc, &mut self.now, texts, time);
-        is_taken_back(rt, alloc, &mut self.versions, &changes, time)
-            && is_installed(rt, alloc, &mut self.versions, &changes, time)
+        shows_the_same(rt, alloc, &mut self.versions, &changes)
+            && is_installed(rt, alloc, &mut self.versions, changes, time)
     }
 }
 
 // ---- a batch is installed
 
-// The first time it is taken back, or memory is wanting, and nothing has changed.
-fn is_taken_back(
+// Room for it, or for a part where memory is wanting, changes nothing.
+fn shows_the_same(
     rt: &impl Abort,
     alloc: Global,
     versions: &mut Versions,
     changes: &Changes,
-    time: Micros,
-) -> bool
-    requires { IsTrue (is_sorted name_cmp (changes_by_name changes.now)) }
-{
+) -> bool {
     let before = chains(rt, alloc, versions);
-    install_and_take_back(alloc, versions, changes, time);
+    let _ = versions.make_room(alloc, changes, 1);
     has_chains(rt, alloc, versions, before.as_str())
-}
-
-fn install_and_take_back(alloc: Global, versions: &mut Versions, changes: &Changes, time: Micros)
-    requires { IsTrue (is_sorted name_cmp (changes_by_name changes.now)) }
-{
-    let last = versions.last();
-    if time <= versions.floor() || time <= last {
-        return;
-    }
-    if versions.install(alloc, changes, time).is_ok() {
-        versions.take_back(changes, last);
-    }
 }
 
 fn is_installed(
     rt: &impl Abort,
     alloc: Global,
     versions: &mut Versions,
-    changes: &Changes,
+    changes: Changes,
     time: Micros,
 ) -> bool
-    requires { IsTrue (is_sorted name_cmp (changes_by_name changes.now)) }
+    requires { IsTrue (is_sorted name_cmp (changes_by_name changes)) }
 {
+    versions.make_room(alloc, &changes, 1).expect(rt, "memory");
     if time <= versions.floor() || time <= versions.last() {
         return false;
     }
-    versions.install(alloc, changes, time).expect(rt, "memory");
+    versions.install(changes, time);
     true
 }
 
@@ -97,8 +83,7 @@ fn push_chain(rt: &impl Abort, alloc: Global, text: &mut String, versions: &Vers
     let name = name_of(rt, alloc, path);
     text.push_str(" |").expect(rt, "memory");
     if let Some(chain) = versions.chain(&name) {
-        let chain = chain.copy(alloc).expect(rt, "memory");
-        push_row(text, chain.as_slice()).expect(rt, "memory");
+        push_row(text, chain).expect(rt, "memory");
     }
 }
 

@@ -23,7 +23,7 @@ fn push_at(
     path: &str,
     at: Micros,
 )
-    requires { versions.now.floor ≤ℤ at }
+    requires { versions.now.chains.floor ≤ℤ at }
 {
     let name = name_of(rt, alloc, path);
     push_in_row(text, versions.at(&name, at)).expect(rt, "memory");
@@ -31,7 +31,7 @@ fn push_at(
 
 // Whether `n` of each document is as in a row.
 fn has_row(rt: &impl Abort, alloc: Global, versions: &Versions, at: Micros, row: &str) -> bool
-    requires { versions.now.floor ≤ℤ at }
+    requires { versions.now.chains.floor ≤ℤ at }
 {
     let mut text = String::new(alloc);
     push_at(rt, alloc, &mut text, versions, PATHS[0], at);
@@ -42,7 +42,7 @@ fn has_row(rt: &impl Abort, alloc: Global, versions: &Versions, at: Micros, row:
 
 // Whether the documents of a row are listed, each once.
 fn has_all(rt: &impl Abort, alloc: Global, versions: &Versions, at: Micros, row: &str) -> bool
-    requires { versions.now.floor ≤ℤ at }
+    requires { versions.now.chains.floor ≤ℤ at }
 {
     let documents = versions.all_at(alloc, at).expect(rt, "memory");
     are_those(rt, alloc, &documents, &PATHS, "0 1 2", row)

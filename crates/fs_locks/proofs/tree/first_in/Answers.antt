@@ -12,7 +12,7 @@ loop-name-init c =
 pub loop-name-preserved-then-covers : goal.loop-name-preserved-then-covers
 loop-name-preserved-then-covers c =
     let all = c.args.tree.now.entries in
-    subst (λ (first : Option ℕ). Walked c.args.scope.now c.args.by all c.next.new.self first) (sym c.least-first.ensures)
+    subst (λ (first : Option ℕ). Walked c.args.scope.now c.args.by all c.next.new.self first) (sym c.lesser-first.ensures)
     (walked_in c.args.scope.now c.args.by all c.next.new.self (c.in-Some.name.now, c.in-Some.holders.now) c.loop-name.first c.first_other.result
     (subst (λ (rest : Tree). Walked c.args.scope.now c.args.by all rest c.loop-name.first) c.in-Some.ensures.steps c.loop-name.invariant)
     (sym c.covers.ensures.value ∙ c.if-covers.true) c.first_other.ensures)

@@ -1,7 +1,11 @@
+use Rattle.fs_machine.proofs.Behind.{held_by_the_least}
 use Rattle.fs_machine.proofs.Grows.{documents_stay}
 use Rattle.fs_machine.proofs.OutcomesStay.{outcomes_stay}
+use Rattle.fs_machine.proofs.Refused.{refused_is_never_seen}
+use Rattle.fs_machine.proofs.Replies.{replies_come_once}
+use Rattle.fs_machine.proofs.Retried.{retried_as_if_it_came}
 use Rattle.fs_machine.proofs.Runs.{begins, all_grow, all_kept}
-use Rattle.fs_machine.proofs.SettledInAnyOrder.{settled_in_any_order}
+use Rattle.fs_machine.proofs.SettledInAnyOrder.{same_replies_in_any_order, settled_in_any_order}
 use Rattle.fs_machine.proofs.laws.machines_are_lawful.Goals as goal
 
 pub returns-clause-kept : goal.returns-clause-kept
@@ -17,4 +21,19 @@ pub returns-clause-outcomes : goal.returns-clause-outcomes
 returns-clause-outcomes c = λ m e id o facts comes some. outcomes_stay m e id o facts comes some
 
 pub returns-clause-any_order : goal.returns-clause-any_order
-returns-clause-any_order c = λ m a b facts other some_a some_b. settled_in_any_order m a b facts other some_a some_b
+returns-clause-any_order c = λ m ids other facts moved. settled_in_any_order m ids other facts moved
+
+pub returns-clause-same_replies : goal.returns-clause-same_replies
+returns-clause-same_replies c = λ m ids other facts moved none. same_replies_in_any_order m ids other facts moved none
+
+pub returns-clause-held : goal.returns-clause-held
+returns-clause-held c = λ p ws. held_by_the_least p ws
+
+pub returns-clause-retried : goal.returns-clause-retried
+returns-clause-retried c = λ m place r is goes. retried_as_if_it_came m place r is goes
+
+pub returns-clause-replies : goal.returns-clause-replies
+returns-clause-replies c = λ m events. replies_come_once m events
+
+pub returns-clause-refused : goal.returns-clause-refused
+returns-clause-refused c = λ m id u refusal events facts is comes. refused_is_never_seen m id u refusal events facts is comes

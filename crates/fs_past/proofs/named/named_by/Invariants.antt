@@ -7,4 +7,4 @@ use Rattle.fs_past.proofs.named.named_by.Given as goal
 
 -- the documents of the names that are written so far
 abbrev pub invariant-loop-write : goal.invariant-loop-write
-invariant-loop-write l = (h : List Batch) → Shows h l.store → HasNamed (at h l.newest) (take l.write-index l.writes) l.there
+invariant-loop-write l = (h : List Batch) → Shows h l.store.stored → HasNamed (at h l.newest) (take l.write-index l.writes) l.there

@@ -3,12 +3,6 @@ use Rattle.fs_replay.proofs.Flow.{gained_as_front, gained_front_more, gained_mor
 use Rattle.fs_replay.proofs.Written.{told_line, told_given}
 use Rattle.fs_replay.proofs.play.play_on.Goals as goal
 
-pub carry_out-requires : goal.carry_out-requires
-carry_out-requires g c = c.lines.invariant.1.idle
-
-pub carry_last-requires-clause-idle : goal.carry_last-requires-clause-idle
-carry_last-requires-clause-idle g c = c.lines.invariant.1.idle
-
 pub returns-in_err-carry_out-clause-err : goal.returns-in_err-carry_out-clause-err
 returns-in_err-carry_out-clause-err g c =
     let inv = c.lines.invariant in
@@ -44,7 +38,6 @@ lines-preserved g c =
         gained = gained_more _ _ _ inv.0 passed.0 inv.1.gained passed.1;
         told = told_given inv.0 passed.0 c.carry_out.new.out.items c.pass_on.new.out.items _ _ told passed.2;
         count = omega (arith, inv.1.count, c.in-Some.ensures.shorter);
-        idle = made.idle;
         faults = c.if-not-pass_on.ensures.no_fault ∙ inv.1.faults;
         unasked = λ none. c.pass_on.ensures.unasked (nothing_between inv.0 c.carry_out.new.out.items _ _ told none) ∙ inv.1.unasked none;
       },

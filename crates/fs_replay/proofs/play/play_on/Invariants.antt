@@ -1,5 +1,4 @@
 use Rattle.std.proofs.Common.{◌≡◌, ℕ, ◌+◌, ◌≤◌, List, [], ◌++◌, length}
-use Rattle.fs_replay.specs.Step.{IsIdle}
 use Rattle.fs_replay.specs.Moved.{Gained}
 use Rattle.fs_replay.specs.Transcript.{played}
 use Rattle.fs_replay.proofs.play.play_on.Given as goal
@@ -11,7 +10,6 @@ invariant-lines g l =
       gained : Gained (g.K.Sink.given l.fn.sink) (g.K.Sink.given l.sink) given;
       told : given ++ (l.out.items ++ played l.whole l.state l.number l.rest) ≡ played l.whole l.initial.state 1 l.script;
       count : l.number + length l.rest ≤ length l.script + 1;
-      idle : IsIdle l.state;
       faults : g.K.Sink.faults l.sink ≡ g.K.Sink.faults l.fn.sink;
       unasked : played l.whole l.initial.state 1 l.script ≡ [] → l.sink ≡ l.fn.sink;
     }

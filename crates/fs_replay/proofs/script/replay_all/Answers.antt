@@ -17,51 +17,51 @@ returns-in_err-play-clause-err g c =
     let a = g.K.Sink.given c.args.sink.now in
     let b = g.K.Sink.given c.play.new.sink in
     let bytes = c.in_ok-input.input.bytes.items in
-    let part = front_of_transcript a b c.is_whole.result c.deref.result.now c.in_err-play.ensures.err in
-    on_err_anyhow _ (if_taken _ _ bytes (λ taken. GainedFront a b (transcript taken)) c.in_ok-input.ensures.taken (subst (λ s. GainedFront a b (transcript s)) c.deref.ensures.value part))
+    let part = front_of_transcript c.args.config c.args.limits a b c.is_whole.result c.deref.result.now c.in_err-play.ensures.err in
+    on_err_anyhow _ (if_taken _ _ bytes (λ taken. GainedFront a b (transcript c.args.config c.args.limits taken)) c.in_ok-input.ensures.taken (subst (λ s. GainedFront a b (transcript c.args.config c.args.limits s)) c.deref.ensures.value part))
 
 pub returns-then-not-branch-clause-written : goal.returns-then-not-branch-clause-written
 returns-then-not-branch-clause-written g c =
     let a = g.K.Sink.given c.args.sink.now in
     let b = g.K.Sink.given c.play.new.sink in
     let bytes = c.in_ok-input.input.bytes.items in
-    let failed = subst (λ done. OnFalse done (GainedFront a b (played c.is_whole.result start 1 c.deref.result.now))) c.if-not-branch.true c.in_ok-play.ensures.failed in
-    let part = front_of_transcript a b c.is_whole.result c.deref.result.now failed in
-    if_taken _ _ bytes (λ taken. GainedFront a b (transcript taken)) c.in_ok-input.ensures.taken (subst (λ s. GainedFront a b (transcript s)) c.deref.ensures.value part)
+    let failed = subst (λ done. OnFalse done (GainedFront a b (played c.is_whole.result (start c.args.config c.args.limits) 1 c.deref.result.now))) c.if-not-branch.true c.in_ok-play.ensures.failed in
+    let part = front_of_transcript c.args.config c.args.limits a b c.is_whole.result c.deref.result.now failed in
+    if_taken _ _ bytes (λ taken. GainedFront a b (transcript c.args.config c.args.limits taken)) c.in_ok-input.ensures.taken (subst (λ s. GainedFront a b (transcript c.args.config c.args.limits s)) c.deref.ensures.value part)
 
 pub returns-in_err-play-clause-unasked : goal.returns-in_err-play-clause-unasked
 returns-in_err-play-clause-unasked g c =
-    if_taken _ _ c.in_ok-input.input.bytes.items (λ taken. transcript taken ≡ [] → c.play.new.sink ≡ c.args.sink.now) c.in_ok-input.ensures.taken
-    (λ none. c.in_err-play.ensures.unasked (played_nothing c.is_whole.result c.deref.result.now (ap transcript c.deref.ensures.value ∙ none)))
+    if_taken _ _ c.in_ok-input.input.bytes.items (λ taken. transcript c.args.config c.args.limits taken ≡ [] → c.play.new.sink ≡ c.args.sink.now) c.in_ok-input.ensures.taken
+    (λ none. c.in_err-play.ensures.unasked (played_nothing c.args.config c.args.limits c.is_whole.result c.deref.result.now (ap (transcript c.args.config c.args.limits) c.deref.ensures.value ∙ none)))
 
 pub returns-then-not-branch-clause-unasked : goal.returns-then-not-branch-clause-unasked
 returns-then-not-branch-clause-unasked g c =
-    if_taken _ _ c.in_ok-input.input.bytes.items (λ taken. transcript taken ≡ [] → c.play.new.sink ≡ c.args.sink.now) c.in_ok-input.ensures.taken
-    (λ none. c.in_ok-play.ensures.unasked (played_nothing c.is_whole.result c.deref.result.now (ap transcript c.deref.ensures.value ∙ none)))
+    if_taken _ _ c.in_ok-input.input.bytes.items (λ taken. transcript c.args.config c.args.limits taken ≡ [] → c.play.new.sink ≡ c.args.sink.now) c.in_ok-input.ensures.taken
+    (λ none. c.in_ok-play.ensures.unasked (played_nothing c.args.config c.args.limits c.is_whole.result c.deref.result.now (ap (transcript c.args.config c.args.limits) c.deref.ensures.value ∙ none)))
 
 pub returns-clause-unasked : goal.returns-clause-unasked
 returns-clause-unasked g c =
-    if_taken _ _ c.in_ok-input.input.bytes.items (λ taken. transcript taken ≡ [] → c.play.new.sink ≡ c.args.sink.now) c.in_ok-input.ensures.taken
-    (λ none. c.in_ok-play.ensures.unasked (played_nothing c.is_whole.result c.deref.result.now (ap transcript c.deref.ensures.value ∙ none)))
+    if_taken _ _ c.in_ok-input.input.bytes.items (λ taken. transcript c.args.config c.args.limits taken ≡ [] → c.play.new.sink ≡ c.args.sink.now) c.in_ok-input.ensures.taken
+    (λ none. c.in_ok-play.ensures.unasked (played_nothing c.args.config c.args.limits c.is_whole.result c.deref.result.now (ap (transcript c.args.config c.args.limits) c.deref.ensures.value ∙ none)))
 
 pub returns-clause-written : goal.returns-clause-written
 returns-clause-written g c =
     let a = g.K.Sink.given c.args.sink.now in
     let b = g.K.Sink.given c.play.new.sink in
     let bytes = c.in_ok-input.input.bytes.items in
-    let gained = subst (λ done. OnTrue done (Gained a b (played c.is_whole.result start 1 c.deref.result.now))) c.if-not-branch.false c.in_ok-play.ensures.played in
-    if_taken _ _ bytes (λ taken. Wrote c.status.result taken a b) c.in_ok-input.ensures.taken
-    (wrote_here c.in_ok-input.input.stop c.is_whole.result c.status.result a b c.deref.result.now bytes c.is_whole.ensures c.status.ensures c.deref.ensures.value gained)
+    let gained = subst (λ done. OnTrue done (Gained a b (played c.is_whole.result (start c.args.config c.args.limits) 1 c.deref.result.now))) c.if-not-branch.false c.in_ok-play.ensures.played in
+    if_taken _ _ bytes (λ taken. Wrote c.args.config c.args.limits c.status.result taken a b) c.in_ok-input.ensures.taken
+    (wrote_here c.args.config c.args.limits c.in_ok-input.input.stop c.is_whole.result c.status.result a b c.deref.result.now bytes c.is_whole.ensures c.status.ensures c.deref.ensures.value gained)
 
 pub returns-clause-transcript : goal.returns-clause-transcript
 returns-clause-transcript g c = λ ok.
     let a = g.K.Sink.given c.args.sink.now in
     let b = g.K.Sink.given c.play.new.sink in
     let bytes = c.in_ok-input.input.bytes.items in
-    let gained = subst (λ done. OnTrue done (Gained a b (played c.is_whole.result start 1 c.deref.result.now))) c.if-not-branch.false c.in_ok-play.ensures.played in
-    let wrote = wrote_here c.in_ok-input.input.stop c.is_whole.result c.status.result a b c.deref.result.now bytes c.is_whole.ensures c.status.ensures c.deref.ensures.value gained in
+    let gained = subst (λ done. OnTrue done (Gained a b (played c.is_whole.result (start c.args.config c.args.limits) 1 c.deref.result.now))) c.if-not-branch.false c.in_ok-play.ensures.played in
+    let wrote = wrote_here c.args.config c.args.limits c.in_ok-input.input.stop c.is_whole.result c.status.result a b c.deref.result.now bytes c.is_whole.ensures c.status.ensures c.deref.ensures.value gained in
     let ended = ended_whole c.in_ok-input.input.stop (sym c.status.ensures ∙ ok) in
-    if_all_taken _ _ bytes (λ script. Gained a b (transcript script)) c.in_ok-input.ensures.taken (c.in_ok-input.ensures.end ended) (subst (λ s. Wrote s bytes a b) ok wrote)
+    if_all_taken _ _ bytes (λ script. Gained a b (transcript c.args.config c.args.limits script)) c.in_ok-input.ensures.taken (c.in_ok-input.ensures.end ended) (subst (λ s. Wrote c.args.config c.args.limits s bytes a b) ok wrote)
 
 pub returns-clause-limit : goal.returns-clause-limit
 returns-clause-limit g c = λ limit.

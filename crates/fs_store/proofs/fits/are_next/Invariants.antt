@@ -7,4 +7,4 @@ use Rattle.fs_store.proofs.fits.are_next.Given as goal
 
 -- the commits that are left decide
 abbrev pub invariant-loop-i : goal.invariant-loop-i
-invariant-loop-i l = (AreNext l.versions l.commits ↔ AreNext (all_installed l.versions (take l.i l.commits)) (drop l.i l.commits)) × NamesRise (take l.i l.commits)
+invariant-loop-i l = (AreNext l.versions.chains l.commits ↔ AreNext (all_installed l.versions.chains (take l.i l.commits)) (drop l.i l.commits)) × NamesRise (take l.i l.commits)

@@ -25,7 +25,7 @@ change_of-requires c =
 
 pub returns-in-Some : goal.returns-in-Some
 returns-in-Some c =
-    let v = c.args.versions.now in
+    let v = c.args.versions.now.chains in
     let commits = c.args.commits.now in
     let name = c.args.name.now in
     let place = length commits - 1 - c.loop-i.i in
@@ -44,7 +44,7 @@ returns-in-Some c =
 
 pub loop-i-preserved : goal.loop-i-preserved
 loop-i-preserved c =
-    let v = c.args.versions.now in
+    let v = c.args.versions.now.chains in
     let commits = c.args.commits.now in
     let name = c.args.name.now in
     let place = length commits - 1 - c.loop-i.i in

@@ -1,46 +1,36 @@
-use Rattle.std.proofs.Common.{◌≡◌, ◌+◌, ◌<◌, [], ◌∷◌, ◌++◌, length, take, sym, ap, ◌∙◌, subst, arith}
-use Rattle.std.specs.Prelude.{unwrap_or}
-use Rattle.std.proofs.lemmas.List.{take_more}
-use Rattle.fs_write.specs.declared.change.Change.{Change}
-use Rattle.fs_versions.specs.Rising.{AreBefore}
-use Rattle.fs_versions.specs.Sound.{HasChanged}
-use Rattle.fs_versions.proofs.TreeLaws.{rise_take, unseen_at, unchanged_yet, changed_more}
+use Rattle.std.proofs.Common.{rules, length, sym, ap, subst, arith}
+use Rattle.std.specs.Vec.Iter.{into_iter_items}
+use Rattle.fs_versions.proofs.TreeLaws.{IsLeft, before_first, left_first, left_next, room_first}
 use Rattle.fs_versions.proofs.install.install.Goals as goal
 
-pub put_change-requires-clause-earlier : goal.put_change-requires-clause-earlier
-put_change-requires-clause-earlier c =
-    let changes = c.args.changes.now in
-    let i = c.loop-i.i in
-    let change = c.index-changes-i.result in
-    let old = c.args.chains.now.entries in
-    let unseen = unseen_at changes i change (omega arith) c.index-changes-i.is c.requires.rising in
-    let same = unchanged_yet old c.loop-i.chains.entries (take i changes) c.args.time change.name c.loop-i.invariant unseen in
-    subst (λ vs. AreBefore vs c.args.time) (sym (ap (λ o. unwrap_or o []) same)) (c.requires.earlier change.name)
+pub loop-change-init : goal.loop-change-init
+loop-change-init c =
+    let tree = c.args.chains.now.entries in
+    let begun = c.into_iter-change-iterator.ensures.into_iter_gives in
+    record {
+      left = subst (λ cs. IsLeft tree tree cs cs c.args.time) (sym begun.0) (left_first tree c.args.changes.items c.args.time c.requires.rising c.requires.room c.requires.earlier);
+      count = search rules;
+    }
 
-pub put_change-requires-clause-some : goal.put_change-requires-clause-some
-put_change-requires-clause-some c = λ none.
-    let changes = c.args.changes.now in
-    let i = c.loop-i.i in
-    let change = c.index-changes-i.result in
-    let old = c.args.chains.now.entries in
-    let unseen = unseen_at changes i change (omega arith) c.index-changes-i.is c.requires.rising in
-    let same = unchanged_yet old c.loop-i.chains.entries (take i changes) c.args.time change.name c.loop-i.invariant unseen in
-    let full = c.requires.some change.name [] (sym same ∙ none) in
-    omega (arith, full)
+pub put-requires-clause-earlier : goal.put-requires-clause-earlier
+put-requires-clause-earlier c =
+    let l = c.loop-change in
+    let left = subst (λ cs. IsLeft c.args.chains.now.entries l.chains.entries (into_iter_items c.into_iter-change-iterator.result) cs c.args.time) c.in-Some.ensures.steps.0 l.invariant.left in
+    before_first _ _ _ _ _ _ left
 
-pub take_all_back-requires : goal.take_all_back-requires
-take_all_back-requires c = record { rising = rise_take c.loop-i.i c.args.changes.now c.requires.rising }
+pub put-requires-clause-room : goal.put-requires-clause-room
+put-requires-clause-room c =
+    let l = c.loop-change in
+    let left = subst (λ cs. IsLeft c.args.chains.now.entries l.chains.entries (into_iter_items c.into_iter-change-iterator.result) cs c.args.time) c.in-Some.ensures.steps.0 l.invariant.left in
+    let some = room_first _ _ _ _ _ _ left in
+    omega arith
 
-pub loop-i-preserved : goal.loop-i-preserved
-loop-i-preserved c =
-    let changes = c.args.changes.now in
-    let i = c.loop-i.i in
-    let change = c.index-changes-i.result in
-    let old = c.args.chains.now.entries in
-    let new = c.put_change.new.chains.entries in
-    let within : i < length changes = omega arith in
-    let unseen = unseen_at changes i change within c.index-changes-i.is c.requires.rising in
-    let more : take (i + 1) changes ≡ take i changes ++ change ∷ [] =
-    take_more changes i change within ∙ ap (λ (x : Change). take i changes ++ x ∷ []) (sym c.index-changes-i.is) in
-    subst (λ cs. HasChanged old new cs c.args.time) (sym more)
-    (changed_more old c.loop-i.chains.entries new (take i changes) change c.args.time c.loop-i.invariant unseen c.in_default.ensures.ok)
+pub loop-change-preserved : goal.loop-change-preserved
+loop-change-preserved c =
+    let l = c.loop-change in
+    let steps = c.in-Some.ensures.steps in
+    let left = subst (λ cs. IsLeft c.args.chains.now.entries l.chains.entries (into_iter_items c.into_iter-change-iterator.result) cs c.args.time) steps.0 l.invariant.left in
+    record {
+      left = left_next _ _ c.put.new.chains.entries _ c.in-Some.change (into_iter_items c.next.new.self) c.args.time left c.put.ensures;
+      count = omega (arith, ap length steps.0, steps.1, l.invariant.count);
+    }

@@ -3,6 +3,6 @@ use Rattle.fs_board.specs.Board.{all_ready}
 use Rattle.fs_board.specs.Held.{posted}
 use Rattle.fs_board.proofs.board.Board.all_ready.Given as goal
 
--- what the commits so far bring, and then what is ready of those that are left, is the whole
+-- what the commits so far have and bring, and then what is ready of those that are left, is the whole
 abbrev pub invariant-loop-entry : goal.invariant-loop-entry
-invariant-loop-entry g l = map (λ b. b.now) l.batches.items ++ all_ready (posted l.entry-iterator) ≡ all_ready (posted l.initial.entry-iterator)
+invariant-loop-entry g l = map (λ r. (r.0.now, r.1.now)) l.ready.items ++ all_ready (posted l.entry-iterator) ≡ all_ready (posted l.initial.entry-iterator)

@@ -9,4 +9,4 @@ use Rattle.fs_past.proofs.past.Past.is_pending.Goals as goal
 pub returns : goal.returns
 returns c =
     let s = c.self.inside in
-    c.is_pending.ensures ∙ is_pending_there (whole s.journal.history) s.board.commits c.args.id c.self.invariant.stand c.last.ensures.rising.ids ∙ ap (λ (p : Past). is_some (pending_of p c.args.id)) c.self.view_is
+    c.is_pending.ensures ∙ is_pending_there (whole s.journal.history) s.board.commits c.args.id c.self.invariant.stand c.ids_differ.ensures ∙ ap (λ (p : Past). is_some (pending_of p c.args.id)) c.self.view_is

@@ -1,47 +1,40 @@
-use Rattle.std.proofs.Common.{rules, ◌≡◌, ◌-◌, ◌^◌, ◌<◌, Some, sym, ap, ◌∙◌, subst}
+use Rattle.std.proofs.Common.{◌+◌, sym, ap, ◌∙◌, subst}
 use Rattle.std.specs.Prelude.{IsSome}
-use Rattle.std.specs.Option.{option_copied}
-use Rattle.fs_board.specs.Board.{asked_in}
+use Rattle.fs_board.specs.Board.{Posted}
+use Rattle.fs_history.specs.Bytes.{batch_size}
 use Rattle.fs_machine.specs.Past.{Past}
 use Rattle.fs_machine.specs.Settle.{dropped_from, pending_of}
-use Rattle.fs_past.specs.Kept.{past_of, IsKept}
-use Rattle.fs_past.proofs.Keeping.{after_reject, kept_dropped, lent_there, pending_on_board, size_within}
+use Rattle.fs_machine.specs.declared.unreleased.Unreleased.{Unreleased}
+use Rattle.fs_past.specs.declared.accepted.Accepted.{Accepted}
+use Rattle.fs_past.specs.Kept.{IsKept, bytes_of, past_of}
+use Rattle.fs_past.proofs.Keeping.{after_reject, bytes_but, kept_dropped, pending_on_board}
 use Rattle.fs_past.proofs.past.Past.reject.Goals as goal
 
-pub drop-requires : goal.drop-requires
-drop-requires c =
+pub drop-gone-requires : goal.drop-gone-requires
+drop-gone-requires c =
     let s = c.self.inside in
-    pending_on_board s.journal s.board s.store s.moment s.waiting c.self.invariant c.last.ensures.rising.ids c.args.id (subst (λ p. IsSome (pending_of p c.args.id)) (sym c.self.view_is) c.requires)
+    pending_on_board s.journal s.board s.locks s.store.stored s.moment s.waiting c.self.invariant c.ids_differ.ensures c.args.id (subst (λ p. IsSome (pending_of p c.args.id)) (sym c.self.view_is) c.requires)
 
-pub unwrap-requires : goal.unwrap-requires
-unwrap-requires c =
+pub bytes_left-self-inside-requires : goal.bytes_left-self-inside-requires
+bytes_left-self-inside-requires c =
     let s = c.self.inside in
-    lent_there s.journal s.board s.store s.moment s.waiting c.self.invariant c.last.ensures.rising.ids c.args.id (subst (λ p. IsSome (pending_of p c.args.id)) (sym c.self.view_is) c.requires)
-    c.asked.result c.asked.ensures
-
-pub overflow_sub-self : goal.overflow_sub-self
-overflow_sub-self c =
-    let s = c.self.inside in
-    let at : asked_in c.args.id s.board.commits ≡ Some c.unwrap.result.now = sym c.asked.ensures ∙ ap option_copied c.unwrap.ensures in
-    let pending = pending_on_board s.journal s.board s.store s.moment s.waiting c.self.invariant c.last.ensures.rising.ids c.args.id (subst (λ p. IsSome (pending_of p c.args.id)) (sym c.self.view_is) c.requires) in
-    let within : s.waiting < 2 ^ 128 = search rules in
-    size_within s.journal s.board s.store s.moment s.waiting c.self.invariant c.args.id c.unwrap.result.now at pending c.bytes_in-size.result c.bytes_in-size.ensures within
+    let pending = pending_on_board s.journal s.board s.locks s.store.stored s.moment s.waiting c.self.invariant c.ids_differ.ensures c.args.id (subst (λ p. IsSome (pending_of p c.args.id)) (sym c.self.view_is) c.requires) in
+    bytes_but s.journal s.board s.locks s.store.stored s.moment s.waiting c.self.invariant c.args.id c.drop-gone.result c.drop-gone.ensures.value pending
+    ∙ ap (λ (b : Posted Unreleased Accepted). batch_size c.drop-gone.result.batch + bytes_of b.commits) (sym c.drop-gone.ensures.rest)
 
 pub invariant_of-self : goal.invariant_of-self
 invariant_of-self c =
     let s = c.self.inside in
-    let at : asked_in c.args.id s.board.commits ≡ Some c.unwrap.result.now = sym c.asked.ensures ∙ ap option_copied c.unwrap.ensures in
-    let pending = pending_on_board s.journal s.board s.store s.moment s.waiting c.self.invariant c.last.ensures.rising.ids c.args.id (subst (λ p. IsSome (pending_of p c.args.id)) (sym c.self.view_is) c.requires) in
-    let within : s.waiting < 2 ^ 128 = search rules in
-    subst (λ b. IsKept s.journal b s.store s.moment (s.waiting - c.bytes_in-size.result)) (sym c.drop.ensures.rest)
-    (kept_dropped s.journal s.board s.store s.moment s.waiting c.self.invariant c.args.id c.unwrap.result.now at pending c.bytes_in-size.result c.bytes_in-size.ensures within)
+    let pending = pending_on_board s.journal s.board s.locks s.store.stored s.moment s.waiting c.self.invariant c.ids_differ.ensures c.args.id (subst (λ p. IsSome (pending_of p c.args.id)) (sym c.self.view_is) c.requires) in
+    let rest = ap (λ (b : Posted Unreleased Accepted). bytes_of b.commits) c.drop-gone.ensures.rest in
+    subst (λ b. IsKept s.journal b c.release_all.new.self s.store.stored s.moment c.bytes_left-self-inside.result) (sym c.drop-gone.ensures.rest)
+    (kept_dropped s.journal s.board s.locks s.store.stored s.moment s.waiting c.self.invariant c.args.id c.drop-gone.result c.drop-gone.ensures.value pending
+    c.release_all.new.self c.release_all.ensures.value c.ids_differ.ensures c.bytes_left-self-inside.result (c.bytes_left-self-inside.ensures ∙ rest))
 
 pub returns : goal.returns
 returns c =
     let s = c.self.inside in
-    let at : asked_in c.args.id s.board.commits ≡ Some c.unwrap.result.now = sym c.asked.ensures ∙ ap option_copied c.unwrap.ensures in
-    let pending = pending_on_board s.journal s.board s.store s.moment s.waiting c.self.invariant c.last.ensures.rising.ids c.args.id (subst (λ p. IsSome (pending_of p c.args.id)) (sym c.self.view_is) c.requires) in
-    let within : s.waiting < 2 ^ 128 = search rules in
-    ap (λ b. past_of s.journal.history b s.store s.moment) c.drop.ensures.rest
-    ∙ after_reject s.journal s.board s.store s.moment s.waiting c.self.invariant c.args.id c.unwrap.result.now at pending c.bytes_in-size.result c.bytes_in-size.ensures within
+    let pending = pending_on_board s.journal s.board s.locks s.store.stored s.moment s.waiting c.self.invariant c.ids_differ.ensures c.args.id (subst (λ p. IsSome (pending_of p c.args.id)) (sym c.self.view_is) c.requires) in
+    ap (λ b. past_of s.journal.history b s.store.stored s.moment) c.drop-gone.ensures.rest
+    ∙ after_reject s.journal s.board s.locks s.store.stored s.moment s.waiting c.self.invariant c.args.id c.drop-gone.result c.drop-gone.ensures.value pending
     ∙ ap (λ (p : Past). record p { unreleased = dropped_from c.args.id p.unreleased }) c.self.view_is

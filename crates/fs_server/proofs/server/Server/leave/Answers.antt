@@ -12,9 +12,8 @@ invariant_of-self c =
     let session = c.args.session in
     record {
       allowed = c.self.invariant.allowed;
-      alone = c.self.invariant.alone;
       drawn =
           subst (λ rs. IdsAreDrawn s.past rs s.numbers.ids) (sym c.withdraw.ensures)
-          (ids_fewer s.past s.parked s.past (of_others session s.parked) s.numbers.ids (fewer_departed s.past s.parked session) c.self.invariant.drawn);
+          (ids_fewer s.past s.waiting s.past (of_others session s.waiting) s.numbers.ids (fewer_departed s.past s.waiting session) c.self.invariant.drawn);
       numbered = subst (λ ss. SessionsNumbered ss s.numbers.sessions) (sym c.remove.ensures) (sessions_departed s.sessions session s.numbers.sessions c.self.invariant.numbered);
     }

@@ -8,7 +8,6 @@ invariant_of-self-2 c =
     let s = c.self.inside in
     record {
       allowed = c.self.invariant.allowed;
-      alone = c.self.invariant.alone;
       drawn = c.self.invariant.drawn;
       numbered =
           subst (λ ss. SessionsNumbered ss (s.numbers.sessions + 1)) (sym c.in_ok-add.ensures.ok)

@@ -1,45 +1,51 @@
-use Rattle.std.proofs.Common.{subst}
-use Rattle.fs_machine.specs.Settle.{ComesTo}
-use Rattle.fs_machine.specs.declared.answer.Settled.TheVariants.{Released, Dropped}
-use Rattle.fs_server.proofs.Settling.{comes_pending, settles_accepted, settles_rejected, settles_grows}
+use Rattle.std.proofs.Common.{◌≡◌, Some, sym, ap, ◌∙◌, subst}
+use Rattle.fs_machine.specs.Event.{Event}
+use Rattle.fs_machine.specs.Facts.{Facts}
+use Rattle.fs_machine.specs.Settle.{ComesTo, Settles}
+use Rattle.fs_machine.specs.State.{Machine}
+use Rattle.fs_machine.proofs.Runs.{keeps}
+use Rattle.fs_server.specs.Settling.{is_refused, settled_so}
+use Rattle.fs_server.proofs.Settling.{has_time, is_decided, is_settled, settles, settles_grows, settles_owed}
 use Rattle.fs_server.proofs.server.Server.settle.Goals as goal
+use Rattle.fs_server.proofs.server.Server.settle.Goals.{in-Ok, in-Err-release}
 
-pub alone-requires : goal.alone-requires
-alone-requires c = comes_pending c.args.self.now.past c.args.commit c.args.outcome c.requires
-
-pub accept-requires-clause-comes : goal.accept-requires-clause-comes
-accept-requires-clause-comes c = subst (ComesTo c.args.self.now.past c.args.commit) c.in-Effects.is c.requires
-
-pub returns-in-Ok-clause-settles : goal.returns-in-Ok-clause-settles
-returns-in-Ok-clause-settles c =
-    let m = c.args.self.now in
+pub invariant_of-self-2 : goal.invariant_of-self-2
+invariant_of-self-2 c =
+    let s = c.self.inside in
     let id = c.args.commit in
-    let a = c.alone.ensures in
-    settles_accepted m c.accept.new.self id a c.in-Effects.changes c.in-Effects.results c.in-Ok.time c.stand.ensures.facts.past.unreleased
-    (subst (ComesTo m.past id) c.in-Effects.is c.requires) (c.in-Ok.ensures.state a) (c.in-Ok.ensures.time a)
+    let m : Machine = record { config = s.config; limits = s.limits; past = s.past; sessions = s.sessions; parked = s.waiting; numbers = s.numbers } in
+    let comes = subst (λ (k : Machine). ComesTo k.past id c.args.outcome) (sym c.self.view_is) c.requires in
+    let facts = subst Facts (sym c.self.view_is) c.stand.ensures.facts in
+    let decided = keeps m (Event.deciding id) facts in
+    elim c.match-release.branch [
+      | in-Ok w ↦
+          let is = is_settled m id c.args.outcome c.decide.new.past c.release.new.past c.decide.new.sessions c.release.new.sessions comes c.in_default.ensures.ok w.in-Ok.ensures.past w.in-Ok.ensures.told in
+          let kept = subst Facts (sym is) (keeps _ Event.releasing decided) in
+          record { allowed = c.self.invariant.allowed; drawn = kept.ids; numbered = kept.sessions }
+      | in-Err-release w ↦
+          let is = is_decided m id c.args.outcome c.decide.new.past c.release.new.past c.decide.new.sessions c.release.new.sessions comes c.in_default.ensures.ok w.in-Err-release.ensures.err w.in-Err-release.ensures.err_told in
+          let kept = subst Facts (sym is) decided in
+          record { allowed = c.self.invariant.allowed; drawn = kept.ids; numbered = kept.sessions }
+    ]
 
-pub returns-in-Ok-clause-grows : goal.returns-in-Ok-clause-grows
-returns-in-Ok-clause-grows c =
-    let m = c.args.self.now in
+pub returns-clause-settles : goal.returns-clause-settles
+returns-clause-settles c =
+    let s = c.self.inside in
     let id = c.args.commit in
-    let a = c.alone.ensures in
-    settles_grows m c.accept.new.self id (Released c.in-Ok.time) c.stand.ensures.facts c.stand.ensures.grows
-    (settles_accepted m c.accept.new.self id a c.in-Effects.changes c.in-Effects.results c.in-Ok.time c.stand.ensures.facts.past.unreleased
-    (subst (ComesTo m.past id) c.in-Effects.is c.requires) (c.in-Ok.ensures.state a) (c.in-Ok.ensures.time a))
+    let m : Machine = record { config = s.config; limits = s.limits; past = s.past; sessions = s.sessions; parked = s.waiting; numbers = s.numbers } in
+    let n : Machine = record m { past = c.release.new.past; sessions = c.release.new.sessions } in
+    let comes = subst (λ (k : Machine). ComesTo k.past id c.args.outcome) (sym c.self.view_is) c.requires in
+    subst (λ (k : Machine). Settles k n id c.match-release.result) c.self.view_is
+    (elim c.match-release.branch [
+      | in-Ok w ↦
+          let is = is_settled m id c.args.outcome c.decide.new.past c.release.new.past c.decide.new.sessions c.release.new.sessions comes c.in_default.ensures.ok w.in-Ok.ensures.past w.in-Ok.ensures.told in
+          let so : settled_so c.is_refused-dropped.result c.time-time.result w.released.result ≡ settled_so (is_refused c.args.outcome) c.pending.result.now.batch.time n.past.released =
+          λ i. settled_so (c.is_refused-dropped.ensures i) (c.time-time.ensures i) (w.released.ensures.value i) in
+          settles m n id c.args.outcome c.pending.result.now c.match-release.result c.pending.ensures comes is (w.result-is ∙ w.settled_so.ensures ∙ so)
+      | in-Err-release w ↦
+          let is = is_decided m id c.args.outcome c.decide.new.past c.release.new.past c.decide.new.sessions c.release.new.sessions comes c.in_default.ensures.ok w.in-Err-release.ensures.err w.in-Err-release.ensures.err_told in
+          settles_owed m n id c.match-release.result c.time-time.result w.result-is is (has_time _ c.pending.result.now c.time-time.result c.pending.ensures c.time-time.ensures)
+    ])
 
-pub returns-in-Ok-reject-clause-settles : goal.returns-in-Ok-reject-clause-settles
-returns-in-Ok-reject-clause-settles c =
-    let m = c.args.self.now in
-    let id = c.args.commit in
-    let a = c.alone.ensures in
-    settles_rejected m c.reject.new.self id a c.in-Refused.refusal (subst (ComesTo m.past id) c.in-Refused.is c.requires)
-    (c.in-Ok-reject.ensures.state a)
-
-pub returns-in-Ok-reject-clause-grows : goal.returns-in-Ok-reject-clause-grows
-returns-in-Ok-reject-clause-grows c =
-    let m = c.args.self.now in
-    let id = c.args.commit in
-    let a = c.alone.ensures in
-    settles_grows m c.reject.new.self id Dropped c.stand.ensures.facts c.stand.ensures.grows
-    (settles_rejected m c.reject.new.self id a c.in-Refused.refusal (subst (ComesTo m.past id) c.in-Refused.is c.requires)
-    (c.in-Ok-reject.ensures.state a))
+pub returns-clause-grows : goal.returns-clause-grows
+returns-clause-grows c = settles_grows c.args.self.now _ c.args.commit c.match-release.result c.stand.ensures.facts c.stand.ensures.grows (returns-clause-settles c)

@@ -8,7 +8,6 @@ invariant_of-self c =
     let s = c.self.inside in
     record {
       allowed = c.self.invariant.allowed;
-      alone = c.self.invariant.alone;
       drawn = c.self.invariant.drawn;
       numbered = subst (λ ss. SessionsNumbered ss s.numbers.sessions) (sym c.take.ensures.list) (sessions_changed s.sessions c.args.session s.numbers.sessions (λ ms. []) c.self.invariant.numbered);
     }

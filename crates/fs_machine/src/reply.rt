@@ -1,0 +1,9 @@
+//! Replies.
+use fs_rpc::Message;
+
+/// What a session is told of its commit.
+#[derive(Drop, Debug)]
+pub struct Reply {
+    pub session: u32,
+    pub message: Message,
+}

@@ -1,0 +1,12 @@
+use Rattle.std.proofs.Common.{map, ap, ◌∙◌}
+use Rattle.std.proofs.lemmas.Result.{IfOk-weaker}
+use Rattle.fs_machine.specs.Release.{let_out, reply_of}
+use Rattle.fs_past.proofs.Keeping.{out_of_board}
+use Rattle.fs_past.proofs.past.Past.replies.Goals as goal
+
+pub returns : goal.returns
+returns c =
+    let s = c.self.inside in
+    IfOk-weaker c.replies_ready.result _ _
+    (λ rs so. so ∙ ap (map reply_of) (out_of_board s.journal s.board s.locks s.store.stored s.moment s.waiting c.self.invariant ∙ ap let_out c.self.view_is))
+    c.replies_ready.ensures

@@ -1,9 +1,0 @@
-use Rattle.std.specs.Prelude.{codes}
-use Rattle.serde_json.specs.View.{view as json}
-use Rattle.fs_replay.specs.Line.{time_line_at}
-use Rattle.fs_replay.specs.declared.request.Line.TheVariants as line
-use Rattle.fs_replay.proofs.Reading.{read_refused}
-use Rattle.fs_replay.proofs.line.clock_in.Goals as goal
-
-pub returns-in-Err : goal.returns-in-Err
-returns-in-Err c = read_refused (λ x. x) line.Clock c.in-Err.bad (time_line_at (codes "clock") (json c.args.v.now)) c.refused.result c.in-Err.ensures c.refused.ensures

@@ -1,0 +1,110 @@
+-- What goes on by itself after each line, unless the script settles by hand: turns are made until one does nothing. In a turn the
+-- earliest pending commit is settled, and then each request that waits is tried once, in the order of arrival.
+--
+--     1 writes c/a and 2 writes c/b, both pending; two more commits of c/a wait
+--     turn 1    1 is settled: it is released. The first that waits goes on as 3, the second waits for it
+--     turn 2    2 is settled, and the second waits on
+--     turn 3    3 is settled, and the second goes on as 4
+--     turn 4    4 is settled
+--     turn 5    nothing
+use Rattle.std.specs.Prelude.{ℕ, ◌+◌, ◌*◌, Bool, true, false, nat_lt, suc, zero, List, [], length, Option, Some, None, slice_get, if◌then◌else◌}
+use Rattle.std.specs.List.{count_by}
+use Rattle.std.specs.Option.{option_map_or}
+use Rattle.fs_machine.specs.Past.{is_pending}
+use Rattle.fs_machine.specs.Pending.{next_pending}
+use Rattle.fs_machine.specs.Retry.{retried, retry_answer, tried_answer}
+use Rattle.fs_machine.specs.Settle.{settled}
+use Rattle.fs_machine.specs.State.{Machine}
+use Rattle.fs_machine.specs.declared.answer.Answer.{Answer}
+use Rattle.fs_machine.specs.declared.answer.Answer.TheVariants.{Reply, Prepared, Held, Refused}
+use Rattle.fs_machine.specs.declared.parked_request.ParkedRequest.{ParkedRequest}
+use Rattle.fs_replay.specs.Directory.{name_of}
+use Rattle.fs_replay.specs.Outboxes.{drained, drain_output, reply_output}
+use Rattle.fs_replay.specs.Played.{Played, nothing, followed_by}
+use Rattle.fs_replay.specs.declared.directory.Named.{Named}
+use Rattle.fs_replay.specs.declared.state.State.{State}
+
+-- the outboxes are emptied
+abbrev pub emptied : State → Played
+emptied s = record { state = record s { server = drained s.directory s.server }; output = drain_output s.directory s.server }
+
+-- ---- commits
+
+-- a commit is settled
+abbrev pub settles : State → ℕ → Played
+settles s id = emptied (record s { server = settled s.server id })
+
+abbrev pub settles_if : State → Option ℕ → Played
+settles_if s None = nothing s
+settles_if s (Some id) = settles s id
+
+-- the earliest that is pending
+abbrev pub settles_next : State → Played
+settles_next s = settles_if s (next_pending s.server.past)
+
+-- ---- requests that wait
+
+-- what a request is told that was tried again: why it is refused. What goes on is answered as its commit is released
+abbrev pub retry_output : List Named → ParkedRequest → Answer → List ℕ
+retry_output ns r answer = option_map_or (λ name. reply_output name r.envelope.id answer) (name_of r.session ns) []
+
+abbrev pub tries_it : State → ℕ → ParkedRequest → Played
+tries_it s place r =
+    followed_by (record { state = record s { server = retried s.server place }; output = retry_output s.directory r (tried_answer s.server r) }) emptied
+
+abbrev pub tries_if : State → ℕ → Option ParkedRequest → Played
+tries_if s place None = nothing s
+tries_if s place (Some r) = tries_it s place r
+
+-- the one at a place is tried again
+abbrev pub tries : State → ℕ → Played
+tries s place = tries_if s place (slice_get s.server.parked place)
+
+abbrev pub waits_on : Option Answer → Bool
+waits_on None = false
+waits_on (Some (Reply message)) = false
+waits_on (Some (Prepared id time)) = false
+waits_on (Some (Held id)) = true
+waits_on (Some (Refused refusal)) = false
+
+-- where the next one stands then: one that waits on stays where it is, and any other is taken out
+abbrev pub place_after : Machine → ℕ → ℕ
+place_after m place = if waits_on (retry_answer m place) then place + 1 else place
+
+-- so many of them, from a place on
+abbrev pub tries_from : ℕ → ℕ → State → Played
+tries_from zero place s = nothing s
+tries_from (suc n) place s = followed_by (tries s place) (tries_from n (place_after s.server place))
+
+-- each once
+abbrev pub tries_all : State → Played
+tries_all s = tries_from (length s.server.parked) 0 s
+
+-- ---- turns
+
+abbrev pub turn : State → Played
+turn s = followed_by (settles_next s) tries_all
+
+-- twice the requests that wait, and the pending commits: what a turn does makes it less
+abbrev pub left_to_do : Machine → ℕ
+left_to_do m = 2 * length m.parked + count_by is_pending m.past.unreleased
+
+abbrev pub did_something : State → State → Bool
+did_something before after = nat_lt (left_to_do after.server) (left_to_do before.server)
+
+-- so many turns at most
+abbrev pub turns : ℕ → State → Played
+turns zero s = nothing s
+turns (suc n) s = followed_by (turn s) (λ t. if did_something s t then turns n t else nothing t)
+
+-- until one does nothing
+abbrev pub settling : State → Played
+settling s = turns (left_to_do s.server) s
+
+-- ---- after each line
+
+abbrev pub unless_by_hand : State → Played
+unless_by_hand s = if s.manual then nothing s else settling s
+
+abbrev pub closed : State → Played
+closed s = followed_by (emptied s) unless_by_hand

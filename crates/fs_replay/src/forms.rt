@@ -1,0 +1,104 @@
+//! Reading the lines of a script that are no requests: the members of each form.
+ghost use Rattle.std.specs.Prelude.{◌≡◌};
+ghost use Rattle.serde_json.specs.View.{view as json};
+ghost use Rattle.fs_path.specs.Way.{place_of};
+ghost use Rattle.fs_json.specs.Answer.{Gives};
+ghost use Rattle.fs_json.specs.Scalars.{truth_at};
+ghost use Rattle.fs_json.specs.Time.{time_at};
+ghost use Rattle.fs_replay.specs.Forms.{id_at, leave_at, sole_as, sole_at, true_at};
+ghost use Rattle.fs_replay.specs.IdText.{id_in_text};
+
+use fs_json::{Bad, only, read_required_text, read_time, read_truth, required};
+use fs_path::{Rule, Text, Way};
+use fs_status::Id;
+use fs_time::Micros;
+use serde_json::Value;
+use std::alloc::Global;
+
+pub const SESSION: &str = "session";
+
+pub const LEAVE: &str = "leave";
+
+// The member of a line that has no other.
+fn sole<'a>(alloc: Global, v: &'a Value, name: &str) -> Result<&'a Value, Bad>
+    ensures { Gives (λ found. json found.now) result (sole_at name.now (json v.now)) }
+{
+    let top = Way::method("");
+    only(alloc, v, &[name], &top)?;
+    required(alloc, v, name, &top)
+}
+
+/// The time of a line that has nothing else.
+pub fn time_in(alloc: Global, v: &Value, name: &str) -> Result<Micros, Bad>
+    ensures { Gives (λ t. t) result (sole_as time_at name.now (json v.now)) }
+{
+    let found = sole(alloc, v, name)?;
+    read_time(alloc, found, &Way::method(name))
+}
+
+/// The truth value of a line that has nothing else.
+pub fn truth_in(alloc: Global, v: &Value, name: &str) -> Result<bool, Bad>
+    ensures { Gives (λ b. b) result (sole_as truth_at name.now (json v.now)) }
+{
+    let found = sole(alloc, v, name)?;
+    read_truth(alloc, found, &Way::method(name))
+}
+
+/// The number of a commit on a line that has nothing else.
+pub fn id_in(alloc: Global, v: &Value, name: &str) -> Result<Id, Bad>
+    ensures { Gives (λ id. id) result (sole_as id_at name.now (json v.now)) }
+{
+    let found = sole(alloc, v, name)?;
+    read_id(alloc, found, &Way::method(name))
+}
+
+/// A line that has `true` under one name, and nothing else.
+pub fn true_in(alloc: Global, v: &Value, name: &str) -> Result<(), Bad>
+    ensures { Gives (λ u. u) result (sole_as true_at name.now (json v.now)) }
+{
+    let found = sole(alloc, v, name)?;
+    read_true(alloc, found, &Way::method(name))
+}
+
+/// The name of a session that leaves. (docs/DECISIONS.md, "A line with `session` and `leave`".)
+pub fn leaving_in(alloc: Global, v: &Value) -> Result<Text, Bad>
+    ensures { Gives (λ t. t) result (leave_at (json v.now)) }
+{
+    let top = Way::method("");
+    only(alloc, v, &[SESSION, LEAVE], &top)?;
+    let name = read_required_text(alloc, v, SESSION, &top)?;
+    let leave = required(alloc, v, LEAVE, &top)?;
+    read_true(alloc, leave, &top.member(LEAVE))?;
+    Ok(name)
+}
+
+fn read_true(alloc: Global, v: &Value, way: &Way<'_>) -> Result<(), Bad>
+    ensures { Gives (λ u. u) result (true_at (json v.now) (place_of way.now)) }
+{
+    match v.as_bool() {
+        Some(true) => Ok(()),
+        _ => Err(Bad::at(alloc, Rule::G, way)),
+    }
+}
+
+fn read_id(alloc: Global, v: &Value, way: &Way<'_>) -> Result<Id, Bad>
+    ensures { Gives (λ id. id) result (id_at (json v.now) (place_of way.now)) }
+{
+    match v.as_str().and_then(id_in_text) {
+        Some(n) => Ok(Id::new(n)),
+        None => Err(Bad::at(alloc, Rule::G, way)),
+    }
+}
+
+// The most digits that the number of a commit may have: those of the largest one.
+const MAX_DIGITS: usize = 20;
+
+// Only digits: `parse` would take a `+` too.
+fn id_in_text(text: &str) -> Option<u64>
+    ensures { result ≡ id_in_text text.now }
+{
+    if text.len() > MAX_DIGITS || text.starts_with('+') {
+        return None;
+    }
+    text.parse::<u64>().ok()
+}

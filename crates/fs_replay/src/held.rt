@@ -1,0 +1,95 @@
+//! What is told at the end of a script of the requests that still wait.
+ghost use Rattle.std.specs.Prelude.{◌≡◌, ◌++◌, ◌<◌, IfOk, OnOk, Some, length, slice_get};
+ghost use Rattle.serde_json.specs.Data.{no_members};
+ghost use Rattle.serde_json.specs.Written.{compact_text};
+ghost use Rattle.fs_valjson.specs.Tokens.{member_tokens, tokens_of};
+ghost use Rattle.fs_machine.specs.declared.parked_request.ParkedRequest.{ParkedRequest};
+ghost use Rattle.fs_replay.specs.Held.{held_json, held_line, held_lines, with_held};
+
+use crate::directory::Directory;
+use crate::message_line::push_id;
+use crate::state::State;
+use fs_server::{Parked, Server};
+use fs_status::Id;
+use fs_valjson::push_text;
+use json::Writer;
+use std::alloc::{AllocError, Global};
+
+/// Most lines are shorter, and need no more room than this.
+const ROOM: usize = 128;
+
+/// Adds a line for each request that waits, in the order of arrival.
+pub fn say_held(alloc: Global, state: &State, out: &mut Vec<u8>) -> Result<(), AllocError>
+    ensures { OnOk result (out.new.items ≡ out.old.items ++ held_lines state.now) }
+{
+    for place in 0..state.server.parked() {
+        say_one(alloc, &state.directory, &state.server, place, out)?;
+    }
+    Ok(())
+}
+
+fn say_one(
+    alloc: Global,
+    directory: &Directory,
+    server: &Server,
+    place: u64,
+    out: &mut Vec<u8>,
+) -> Result<(), AllocError>
+    requires { place < length server.now.parked }
+    ensures { OnOk result ((r : ParkedRequest) → slice_get server.now.parked place ≡ Some r
+        → out.new.items ≡ out.old.items ++ held_line directory.now server.now r) }
+{
+    let parked = server.parked_at(alloc, place)?;
+    match directory.name_of(parked.session) {
+        Some(name) => {
+            let line = held_bytes(alloc, name, &parked)?;
+            out.extend_from_slice(&line)?;
+            Ok(out.push(b'\n')?)
+        }
+        None => Ok(()),
+    }
+}
+
+// `{"held":"1","id":"9","session":"s"}`
+fn held_bytes(alloc: Global, name: &str, parked: &Parked) -> Result<Vec<u8>, AllocError>
+    ensures { IfOk result (λ b. b.items ≡ compact_text (held_json name.now parked.now)) }
+{
+    let mut line = Writer::new(Vec::with_capacity(alloc, ROOM)?);
+    push_held(alloc, &mut line, name, parked)?;
+    Ok(line.into_inner())
+}
+
+fn push_held(
+    alloc: Global,
+    line: &mut Writer,
+    name: &str,
+    parked: &Parked,
+) -> Result<(), AllocError>
+    ensures tokens { OnOk result (line.new.tokens ≡ line.old.tokens ++ tokens_of (held_json name.now parked.now)) }
+    ensures before { line.new.before ≡ line.old.before }
+{
+    line.begin_object()?;
+    push_holder(alloc, line, parked.held)?;
+    push_id(line, &parked.id)?;
+    push_text(line, "session", name)?;
+    line.end_object()
+}
+
+// The number of what holds it, where something does.
+fn push_holder(alloc: Global, line: &mut Writer, held: Option<Id>) -> Result<(), AllocError>
+    ensures tokens { OnOk result (line.new.tokens ≡ line.old.tokens ++ member_tokens (with_held held no_members)) }
+    ensures before { line.new.before ≡ line.old.before }
+{
+    match held {
+        Some(id) => push_number(alloc, line, id),
+        None => Ok(()),
+    }
+}
+
+fn push_number(alloc: Global, line: &mut Writer, id: Id) -> Result<(), AllocError>
+    ensures tokens { OnOk result (line.new.tokens ≡ line.old.tokens ++ member_tokens (with_held (Some id) no_members)) }
+    ensures before { line.new.before ≡ line.old.before }
+{
+    let digits = format!(in alloc; "{}", id.get())?;
+    push_text(line, "held", &digits)
+}

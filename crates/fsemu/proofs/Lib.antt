@@ -1,0 +1,6 @@
+mod Allowed
+mod Cuts
+mod Found
+mod Numbers
+mod Readings
+mod Settings

@@ -1,0 +1,34 @@
+use Rattle.std.proofs.Common.{◌≡◌, ◌∙◌, [], IfSome, sym, ap, subst}
+use Rattle.fs_machine.specs.declared.config.Config.{Config}
+use Rattle.fs_machine.specs.declared.limits.Limits.{Limits}
+use Rattle.fs_machine.specs.Limits.{greatest}
+use Rattle.fs_replay.specs.Moved.{IfTaken, Gained}
+use Rattle.fs_replay.specs.Run.{Wrote}
+use Rattle.fs_replay.specs.Transcript.{transcript}
+use Rattle.fsemu.specs.Words.{config_of}
+use Rattle.fsemu.proofs.run.run.Goals as goal
+
+-- what holds by what was handed on holds by what was asked for
+handed_on : (P : Config → Limits → Type 0) (asked config : Config) (limits : Limits) → asked ≡ config → limits ≡ greatest → P config limits → P asked greatest
+handed_on P asked config limits same all is = subst (λ config. P config greatest) (sym same) (subst (P config) all is)
+
+pub returns-in-Ok-clause-transcript : goal.returns-in-Ok-clause-transcript
+returns-in-Ok-clause-transcript g c = λ ok options is.
+    let only = rw c.in-Ok-Some.field-0-is at c.in-Ok-Some.ensures.only in
+    handed_on (λ config limits. IfSome (g.S.Source.left c.args.source.now) (λ script.
+    Gained (g.K.Sink.given c.args.sink.now) (g.K.Sink.given c.replay.new.sink) (transcript config limits script))) _ _ _
+    (ap config_of (only options is) ∙ sym c.in-Ok.ensures) c.greatest.ensures (c.replay.ensures.transcript ok)
+
+pub returns-in-Ok-clause-written : goal.returns-in-Ok-clause-written
+returns-in-Ok-clause-written g c = λ options is.
+    let only = rw c.in-Ok-Some.field-0-is at c.in-Ok-Some.ensures.only in
+    handed_on (λ config limits. IfTaken (g.S.Source.left c.args.source.now) (g.S.Source.left c.replay.new.source) (λ taken.
+    Wrote config limits c.replay.result taken (g.K.Sink.given c.args.sink.now) (g.K.Sink.given c.replay.new.sink))) _ _ _
+    (ap config_of (only options is) ∙ sym c.in-Ok.ensures) c.greatest.ensures c.replay.ensures.written
+
+pub returns-in-Ok-clause-unasked : goal.returns-in-Ok-clause-unasked
+returns-in-Ok-clause-unasked g c = λ options is.
+    let only = rw c.in-Ok-Some.field-0-is at c.in-Ok-Some.ensures.only in
+    handed_on (λ config limits. IfTaken (g.S.Source.left c.args.source.now) (g.S.Source.left c.replay.new.source) (λ taken.
+    transcript config limits taken ≡ [] → c.replay.new.sink ≡ c.args.sink.now)) _ _ _
+    (ap config_of (only options is) ∙ sym c.in-Ok.ensures) c.greatest.ensures c.replay.ensures.unasked
