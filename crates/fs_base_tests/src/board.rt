@@ -38,9 +38,11 @@ released => 6
 next => 3
 count => 3
 ready => 2 100 11 200 22
+only => none
 take => 5 100 11
 count => 2
 ready => 1 200 22
+only => 200 22
 released => 6
 take => 6 200 22
 count => 1
@@ -173,6 +175,14 @@ fn push_ready(rt: &impl Abort, alloc: Global, told: &mut String, board: &Board<u
     }
 }
 
+// Both numbers of the one that is ready, if it is one alone.
+fn push_only(rt: &impl Abort, told: &mut String, only: Option<(&u64, &u64)>) {
+    match only {
+        Some((asked, batch)) => write!(told, "{asked} {batch}").expect(rt, "memory"),
+        None => push(rt, told, "none"),
+    }
+}
+
 fn prepare(
     rt: &impl Abort,
     board: &mut Board<u64, u64>,
@@ -213,6 +223,7 @@ impl Called for Board<u64, u64> {
             "next" => push_id(rt, told, self.next_pending()),
             "count" => push_count(rt, told, self.is_empty(), self.len()),
             "ready" => push_ready(rt, alloc, told, self),
+            "only" => push_only(rt, told, self.only_ready()),
             "pending" => {
                 let is_pending = self.is_pending(id(rt, rest));
                 push(rt, told, if is_pending { "true" } else { "false" });

@@ -115,3 +115,9 @@ module _ {A B : Type 0} where
   abbrev pub all_ready : List (Commit A B) → List (A × B)
   all_ready [] = []
   all_ready (c ∷ cs) = option_map_or (λ batch. (c.asked, batch) ∷ all_ready cs) c.batch []
+
+  -- that of one, where there is one alone
+  abbrev pub only_ready : List (A × B) → Option (A × B)
+  only_ready [] = None
+  only_ready (r ∷ []) = Some r
+  only_ready (r ∷ s ∷ rs) = None

@@ -45,9 +45,9 @@ impl<A, B> Model for Board<A, B> {
 impl<A: Drop, B: Drop> Board<A, B> {
     ghost use Rattle.std.specs.Prelude.{◌≡◌, ◌↔◌, pos, ◌+ℤ◌, ◌<ℤ◌, ◌≤ℤ◌, List, [], true, false, None, Some, Ok, Err, IfOk, OnOk, OnErr, IfSome, IsNone, IsTrue, is_some, length, map};
     ghost use Rattle.std.specs.List.{All};
-    ghost use Rattle.std.specs.Option.{option_copied};
+    ghost use Rattle.std.specs.Option.{option_copied, option_map};
     ghost use Rattle.fs_time.specs.Moment.{last_moment};
-    ghost use Rattle.fs_board.specs.Board.{Posted, HasNo, asked_in, free_to, is_pending, is_ready, next_pending_in, pending_in, asked_pending, time_in, prepared, accepted_with, without, ticked, ready, rest_of, all_ready};
+    ghost use Rattle.fs_board.specs.Board.{Posted, HasNo, asked_in, free_to, is_pending, is_ready, next_pending_in, pending_in, asked_pending, time_in, prepared, accepted_with, without, ticked, ready, rest_of, all_ready, only_ready};
     ghost use Rattle.fs_board.specs.Rising.{IsRising};
     ghost use Rattle.fs_board.specs.Held.{entry_in, first_pending_in};
 
@@ -159,6 +159,24 @@ impl<A: Drop, B: Drop> Board<A, B> {
             }
         }
         Ok(ready)
+    }
+
+    /// What the accepted commit has and brings before which none is pending, where that is one alone: what `all_ready` would give, without
+    /// a list of it.
+    pub fn only_ready(&self) -> Option<(&A, &B)>
+        ensures { option_map (λ r. (r.0.now, r.1.now)) result ≡ only_ready (all_ready self.now.commits) }
+    {
+        let mut found = None;
+        for (_, entry) in &self.by_time {
+            let Some(batch) = &entry.batch else {
+                return found;
+            };
+            if found.is_some() {
+                return None;
+            }
+            found = Some((&entry.asked, batch));
+        }
+        found
     }
 
     /// A commit is pending from now on, at the microsecond after the last time that was issued, which is the answer.

@@ -1,8 +1,8 @@
 -- What is kept of a past after each of its calls.
 use Rattle.std.proofs.Common.{◌≡◌, ℕ, ◌+◌, ◌≤◌, ℤ, ◌<ℤ◌, true, List, [], ◌∷◌, ◌++◌, length, Option, Some, None, Ok, refl, sym, ap, ◌∙◌, subst, arith}
-use Rattle.std.specs.Prelude.{pos, ◌+ℤ◌, IsSome, IsNone}
+use Rattle.std.specs.Prelude.{pos, ◌+ℤ◌, IsSome, IsNone, IsTrue}
 use Rattle.std.specs.Borrow.{Bor}
-use Rattle.std.specs.List.{AllByRecursion}
+use Rattle.std.specs.List.{AllByRecursion, list_any}
 use Rattle.std.specs.Option.{option_copied}
 use Rattle.std.proofs.lemmas.Int.{ints}
 use Rattle.fs_board.specs.Board.{HasNo, Posted, accepted_with, asked_in, free_to as board_free_to, pending_in as board_pending, prepared as board_prepared, ticked, without}
@@ -12,7 +12,7 @@ use Rattle.fs_history.specs.History.{whole}
 use Rattle.fs_history.specs.Journal.{Recorded}
 use Rattle.fs_history.specs.Laws.{ChangesOfTheLast}
 use Rattle.fs_history.specs.declared.batch.Batch.{Batch}
-use Rattle.fs_locks.specs.Holds.{Hold, IsLeastOther}
+use Rattle.fs_locks.specs.Holds.{IsLeastOther}
 use Rattle.fs_store.proofs.Absorbing.{floor_all}
 use Rattle.fs_store.specs.Brings.{Brings}
 use Rattle.fs_store.specs.Fits.{AreNext, Fits, TimesRise}
@@ -20,6 +20,7 @@ use Rattle.fs_store.specs.Shows.{Shows}
 use Rattle.fs_store.specs.Stored.{Stored, absorbed}
 use Rattle.fs_write.proofs.BatchLaws.{law_named}
 use Rattle.fs_write.specs.Batch.{IsOutcome}
+use Rattle.fs_write.specs.WrittenName.{written_name}
 use Rattle.fs_write.specs.declared.write.Write.{Write}
 use Rattle.fs_write.specs.declared.change.Change.{Change}
 use Rattle.fs_write.specs.declared.timed_change.TimedChange.{TimedChange}
@@ -42,13 +43,14 @@ use Rattle.fs_machine.proofs.ResultsHold.{docs_agree, results_dropped, results_p
 use Rattle.fs_machine.proofs.Runs.{past_kept_advanced, past_kept_at_deciding, past_kept_at_release}
 use Rattle.fs_machine.proofs.UnreleasedRise.{rise_dropped, unreleased_prepared}
 use Rattle.fs_past.specs.declared.accepted.Accepted.{Accepted}
-use Rattle.fs_past.specs.Kept.{AreHeld, AreNumbered, BringsEffects, GoOn, HoldsWritten, IsKept, Stands, all_history, all_unreleased, bytes_of, changes_of, kept_on_board, let_out_of, past_of, unreleased_of}
-use Rattle.fs_past.specs.Next.{next_release}
+use Rattle.fs_past.specs.declared.holds.Holds.{Holds}
+use Rattle.fs_past.specs.Kept.{AreHeld, AreNumbered, BringsEffects, GoOn, HoldLess, IsKept, Stands, all_history, all_unreleased, bytes_of, changes_of, kept_on_board, let_out_of, past_of, unreleased_of, writes_name}
+use Rattle.fs_store.specs.Next.{next_release}
 use Rattle.fs_past.proofs.Fitting.{go_in, stand_left, times_rise}
-use Rattle.fs_past.proofs.Holding.{HeldBut, HeldMore, are_numbered, held_accepted, held_back, held_dropped, held_more}
+use Rattle.fs_past.proofs.Holding.{are_numbered, held_accepted, held_dropped, held_late}
 use Rattle.fs_past.proofs.OnBoard.{Posted1, accepted_there, all_dropped, all_more, asked_there, bytes_accepted, bytes_and_more, bytes_dropped, dropped_there, fewer_dropped, free_there, fresh_there, length_accepted, length_more, pending_there, stand_accepted, unreleased_more, with_none}
 use Rattle.fs_past.proofs.Releasing.{go_on, lets_out, moves}
-use Rattle.fs_past.proofs.Waiting.{behind_held}
+use Rattle.fs_past.proofs.Waiting.{behind_written}
 
 none_is : {A : Type 0} (o : Option A) → IsNone o → o ≡ None
 none_is None none = refl
@@ -62,7 +64,7 @@ lent_some : {A : Type 0} (o : Option (Bor A)) → IsSome (option_copied o) → I
 lent_some None some = absurd (cc)
 lent_some (Some x) some = refl
 
-module _ (j : Recorded) (b : Posted Unreleased Accepted) (l : List Hold) (s : Stored) (moment : ℤ) (bytes : ℕ) (kept : IsKept j b l s moment bytes) where
+module _ (j : Recorded) (b : Posted Unreleased Accepted) (l : Holds) (s : Stored) (moment : ℤ) (bytes : ℕ) (kept : IsKept j b l s moment bytes) where
   abbrev held : Past
   held = past_of j.history b s moment
 
@@ -98,8 +100,9 @@ module _ (j : Recorded) (b : Posted Unreleased Accepted) (l : List Hold) (s : St
           results = results_prepared held u (none_is u.results none) kept.facts.results;
         }
 
-    pub kept_prepared : behind p u.batch.writes ≡ None → length b.commits + 1 ≤ k.room → (m : List Hold) → HeldMore l m u.batch.id u.batch.writes → (then : ℕ) → then ≡ bytes + batch_size u.batch → IsKept k (board_prepared b u.batch.id u) m s moment then
-    kept_prepared free room m holds then is =
+    pub kept_prepared : behind p u.batch.writes ≡ None → HasNo u.batch.id b.commits → length b.commits + 1 ≤ k.room → (m : Holds) → m.late ≡ None → AreHeld m b.commits → (then : ℕ) → then ≡ bytes + batch_size u.batch
+        → IsKept k (board_prepared b u.batch.id u) (record m { late = Some u.batch.id }) s moment then
+    kept_prepared free fresh room m late holds then is =
         let shape = length_more more u more_is b.commits in
         record {
           facts = subst (λ h. PastFacts (past_of h (board_prepared b u.batch.id u) s moment)) (sym same) (subst PastFacts (sym prepared_held) (facts_prepared free));
@@ -107,7 +110,7 @@ module _ (j : Recorded) (b : Posted Unreleased Accepted) (l : List Hold) (s : St
           stand = subst (λ h. AllByRecursion (Stands (whole h)) (b.commits ++ more ∷ [])) (sym same)
               (all_more (Stands (whole j.history)) b.commits more kept.stand (record { time = time_is; id = refl; pending = none_is u.results none; effects = tt }));
           room = omega arith;
-          locks = held_more l m b.commits more holds kept.locks;
+          locks = held_late m b.commits more late fresh holds;
           waiting = is ∙ ap (λ n. n + batch_size u.batch) kept.waiting ∙ sym (bytes_and_more more u more_is b.commits);
         }
 
@@ -115,14 +118,14 @@ module _ (j : Recorded) (b : Posted Unreleased Accepted) (l : List Hold) (s : St
   pub fresh_on_board : (p : Past) → held ≡ p → (id : ℕ) → times_in id (batches p.unreleased) ≡ 0 → HasNo id b.commits
   fresh_on_board p view id none = fresh_there (whole j.history) b.commits id kept.stand (ap (λ (q : Past). times_in id (batches q.unreleased)) view ∙ none)
 
-  -- it comes to nothing, though there is room and its names were held
-  pub kept_back : (k : Recorded) → k.history ≡ j.history → j.room ≤ k.room → (id : ℕ) → HasNo id b.commits → (ws : List Write) (m n : List Hold) → HeldMore l m id ws → HeldBut m n id → IsKept k b n s moment bytes
-  kept_back k same room id none ws m n more but = record {
+  -- there is room for it, and all others hold their names
+  pub kept_held : (k : Recorded) → k.history ≡ j.history → j.room ≤ k.room → (m : Holds) → AreHeld m b.commits → IsKept k b m s moment bytes
+  kept_held k same room m holds = record {
     facts = subst (λ h. PastFacts (past_of h b s moment)) (sym same) kept.facts;
     shows = subst (λ h. Shows h s) (sym same) kept.shows;
     stand = subst (λ h. AllByRecursion (Stands (whole h)) b.commits) (sym same) kept.stand;
     room = let r = kept.room in omega arith;
-    locks = held_back l m n b.commits id ws none more but kept.locks;
+    locks = holds;
     waiting = kept.waiting;
   }
 
@@ -211,7 +214,7 @@ module _ (j : Recorded) (b : Posted Unreleased Accepted) (l : List Hold) (s : St
         results = results_dropped held.unreleased id (whole j.history) kept.facts.results;
       }
 
-      pub kept_dropped : (m : List Hold) → HeldBut l m id → Differ b.commits → (left : ℕ) → left ≡ bytes_of (without id b.commits) → IsKept j dropped m s moment left
+      pub kept_dropped : (m : Holds) → HoldLess l m id → Differ b.commits → (left : ℕ) → left ≡ bytes_of (without id b.commits) → IsKept j dropped m s moment left
       kept_dropped m holds differ left is = record {
         facts = subst PastFacts (sym after_reject) facts_dropped;
         shows = kept.shows;
@@ -223,9 +226,9 @@ module _ (j : Recorded) (b : Posted Unreleased Accepted) (l : List Hold) (s : St
 
   -- ---- whom a commit waits for
 
-  pub behind_board : (p : Past) → held ≡ p → (ws : List Write) (by : ℕ) (told : Option ℕ) → times_in by (batches p.unreleased) ≡ 0 → IsLeastOther (HoldsWritten l ws) by told → told ≡ behind p ws
+  pub behind_board : (p : Past) → held ≡ p → (ws : List Write) (by : ℕ) (told : Option ℕ) → times_in by (batches p.unreleased) ≡ 0 → IsLeastOther (λ i. IsTrue (list_any (λ w. writes_name i (written_name w) b.commits) ws)) by told → told ≡ behind p ws
   behind_board p view ws by told none is =
-      behind_held (whole j.history) l b.commits kept.stand kept.locks ws by told (ap (λ (q : Past). times_in by (batches q.unreleased)) view ∙ none) is ∙ ap (λ q. behind q ws) view
+      behind_written (whole j.history) b.commits kept.stand ws by told (ap (λ (q : Past). times_in by (batches q.unreleased)) view ∙ none) is ∙ ap (λ q. behind q ws) view
 
   -- ---- a release
 
@@ -276,7 +279,7 @@ module _ (j : Recorded) (b : Posted Unreleased Accepted) (l : List Hold) (s : St
       pub after_release : past_of k.history c t moment ≡ past_released held
       after_release = there_is ∙ released_is
 
-      pub kept_released : ((f g : List Batch) → Shows f s → Brings f cs g → Shows g t) → length c.commits ≤ k.room → (m : List Hold) → AreHeld m c.commits → left_bytes ≡ bytes_of c.commits → IsKept k c m t moment left_bytes
+      pub kept_released : ((f g : List Batch) → Shows f s → Brings f cs g → Shows g t) → length c.commits ≤ k.room → (m : Holds) → AreHeld m c.commits → left_bytes ≡ bytes_of c.commits → IsKept k c m t moment left_bytes
       kept_released shows room m locks waiting = record {
         facts = subst PastFacts (sym after_release) (past_kept_at_release held kept.facts);
         shows = subst (λ h. Shows h t) (sym history) (shows j.history (all_history j.history b.commits) kept.shows (subst (λ x. Brings j.history x (all_history j.history b.commits)) (sym is) goes.1));

@@ -8,7 +8,6 @@ use Rattle.fs_board.specs.Board.{all_ready, ready, rest_of}
 use Rattle.fs_history.specs.Bytes.{batch_size}
 use Rattle.fs_history.specs.History.{EndsBy}
 use Rattle.fs_history.specs.declared.batch.Batch.{Batch}
-use Rattle.fs_locks.specs.Holds.{Hold}
 use Rattle.fs_machine.specs.Release.{free_to, freed, joined, kept_back}
 use Rattle.fs_machine.specs.UnreleasedRise.{RiseFrom}
 use Rattle.fs_machine.specs.declared.unreleased.Unreleased.{Unreleased}
@@ -16,8 +15,9 @@ use Rattle.fs_machine.proofs.HistoryRises.{ends_before}
 use Rattle.fs_machine.proofs.Moved.{accepted_goes, none_freed, pending_stays}
 use Rattle.fs_machine.proofs.UnreleasedRise.{free_above}
 use Rattle.fs_past.specs.declared.accepted.Accepted.{Accepted}
-use Rattle.fs_past.specs.Kept.{AreHeld, AreNumbered, GoOn, all_history, all_unreleased, bytes_of, changes_of, kept_on_board, let_out_of}
-use Rattle.fs_past.proofs.Holding.{HeldBut, held_behind}
+use Rattle.fs_past.specs.declared.holds.Holds.{Holds}
+use Rattle.fs_past.specs.Kept.{AreHeld, AreNumbered, GoOn, HoldLess, all_history, all_unreleased, bytes_of, changes_of, kept_on_board, let_out_of}
+use Rattle.fs_past.proofs.Holding.{held_behind}
 use Rattle.fs_past.proofs.OnBoard.{Posted1, bytes_more, with_brought}
 
 -- ---- it is the release of the machine
@@ -71,7 +71,7 @@ go_on (c ∷ cs) h from last ends above =
 -- ---- one after another
 
 -- the commits that are let in from here on, those that then stay, and what stands until then
-pub record AreLetIn (h k : List Batch) (cs ds : List Posted1) (holds : List Hold) (free bytes : ℕ) : Type 0 where
+pub record AreLetIn (h k : List Batch) (cs ds : List Posted1) (holds : Holds) (free bytes : ℕ) : Type 0 where
   pub history : all_history h cs ≡ k
   pub rest : kept_on_board cs ≡ ds
   pub room : length cs ≤ free
@@ -92,9 +92,9 @@ pub bytes_ready : (cs : List Posted1) (x : ℤ × Unreleased × Accepted) → So
 bytes_ready [] x is = absurd (cc)
 bytes_ready (c ∷ cs) x is = ready_next c.time c.id c.asked c.batch cs x is
 
-module _ (h k : List Batch) (ds : List Posted1) (old new : List Hold) (free bytes then_bytes : ℕ) where
+module _ (h k : List Batch) (ds : List Posted1) (old new : Holds) (free bytes then_bytes : ℕ) where
   in_next : (t : ℤ) (id : ℕ) (u : Unreleased) (o : Option Accepted) (cs : List Posted1) (x : ℤ × Unreleased × Accepted) → Some x ≡ option_map (λ a. (t, u, a)) o
-      → then_bytes ≡ bytes_of (cond (is_none o) (record { time = t; id = id; asked = u; batch = o } ∷ cs) cs) → HeldBut old new x.1.batch.id
+      → then_bytes ≡ bytes_of (cond (is_none o) (record { time = t; id = id; asked = u; batch = o } ∷ cs) cs) → HoldLess old new x.1.batch.id
       → AreLetIn h k (record { time = t; id = id; asked = u; batch = o } ∷ cs) ds old free bytes
       → AreLetIn (x.1.batch ∷ h) k (cond (is_none o) (record { time = t; id = id; asked = u; batch = o } ∷ cs) cs) ds new (free - 1) then_bytes
   in_next t id u None cs x is left but are = absurd (cc)
@@ -115,7 +115,7 @@ module _ (h k : List Batch) (ds : List Posted1) (old new : List Hold) (free byte
       })
 
   -- it is let in
-  pub one_in : (cs : List Posted1) (x : ℤ × Unreleased × Accepted) → Some x ≡ ready cs → then_bytes ≡ bytes_of (rest_of cs) → HeldBut old new x.1.batch.id → AreLetIn h k cs ds old free bytes
+  pub one_in : (cs : List Posted1) (x : ℤ × Unreleased × Accepted) → Some x ≡ ready cs → then_bytes ≡ bytes_of (rest_of cs) → HoldLess old new x.1.batch.id → AreLetIn h k cs ds old free bytes
       → AreLetIn (x.1.batch ∷ h) k (rest_of cs) ds new (free - 1) then_bytes
   one_in [] x is left but are = absurd (cc)
   one_in (c ∷ cs) x is left but are = in_next c.time c.id c.asked c.batch cs x is left but are

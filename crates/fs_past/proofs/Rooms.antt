@@ -21,7 +21,6 @@ use Rattle.fs_write.proofs.BatchLaws.{no_change, untouched}
 use Rattle.fs_write.specs.Batch.{Docs, IsOutcome, change_of, changes_by_name}
 use Rattle.fs_write.specs.WrittenName.{is_written, written_name}
 use Rattle.fs_write.specs.declared.change.Change.{Change}
-use Rattle.fs_write.specs.declared.timed_change.TimedChange.{TimedChange}
 use Rattle.fs_write.specs.declared.write.Write.{Write}
 use Rattle.fs_write.specs.declared.write_result.WriteResult.{WriteResult}
 use Rattle.fs_past.specs.declared.accepted.Accepted.{Accepted}

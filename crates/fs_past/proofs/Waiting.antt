@@ -1,8 +1,8 @@
--- Whom a commit waits for: those that hold a name that it writes are those that write one, and the least of them is told.
-use Rattle.std.proofs.Common.{◌≡◌, ℕ, ◌≤◌, Bool, true, false, cond, List, [], ◌∷◌, map, Option, Some, None, refl, sym, ap, ◌∙◌, subst, arith}
+-- Whom a commit waits for: the commits on the board that write a name which it writes, and the least of them is told.
+use Rattle.std.proofs.Common.{◌≡◌, ℕ, Bool, true, false, cond, List, [], ◌∷◌, map, Option, Some, None, refl, sym, ap, ◌∙◌, subst, arith}
 use Rattle.std.specs.Prelude.{◌≢◌, ◌==◌, ◌&&◌, ◌||◌, IsTrue}
 use Rattle.std.specs.List.{AllByRecursion, filter, list_any}
-use Rattle.fs_locks.specs.Holds.{Hold, IsLeastOther, is_held}
+use Rattle.fs_locks.specs.Holds.{IsLeastOther}
 use Rattle.fs_machine.proofs.Behind.{IsLeastIn, above, is_one, least_in, one_next}
 use Rattle.fs_machine.specs.Behind.{least, write_same, writing_same}
 use Rattle.fs_machine.specs.IdsAreDrawn.{times_in}
@@ -12,7 +12,8 @@ use Rattle.fs_path.specs.declared.name.DocName.{DocName}
 use Rattle.fs_write.specs.Batch.{Docs}
 use Rattle.fs_write.specs.WrittenName.{is_written, written_name}
 use Rattle.fs_write.specs.declared.write.Write.{Write}
-use Rattle.fs_past.specs.Kept.{AreHeld, HoldsWritten, Stands, all_unreleased, writes_name}
+use Rattle.fs_past.specs.Kept.{Stands, all_unreleased, writes_name}
+use Rattle.fs_past.proofs.Holding.{none_at_all}
 use Rattle.fs_past.proofs.OnBoard.{Posted1, count_by}
 
 -- ---- the least of some numbers, other than one that isn't among them
@@ -48,10 +49,6 @@ and_any a p q (x ∷ xs) = ap (λ b. ((a && p x) || q x) || b) (and_any a p q xs
     by false x true ps qs = refl
     by false x false ps qs = refl
 
-none_at_all : {A : Type 0} (xs : List A) → list_any (λ x. false) xs ≡ false
-none_at_all [] = refl
-none_at_all (x ∷ xs) = none_at_all xs
-
 pub who_writes : (us : List Unreleased) (ws : List Write) (i : ℕ) → list_any (λ w. writes_in i (written_name w) us) ws ≡ is_one (writing_same us ws) i
 who_writes [] ws i = none_at_all ws
 who_writes (u ∷ us) ws i =
@@ -79,13 +76,14 @@ on_board docs (c ∷ cs) i n stand =
     ap (λ (k : ℕ). (k == i && is_written n c.asked.batch.writes) || writes_name i n cs) (sym stand.0.id)
     ∙ ap (λ b. (c.asked.batch.id == i && is_written n c.asked.batch.writes) || b) (on_board docs cs i n stand.1)
 
-module _ (docs : Docs) (holds : List Hold) (cs : List Posted1) (stand : AllByRecursion (Stands docs) cs) (held : AreHeld holds cs) (ws : List Write) where
-  who_holds : (i : ℕ) → list_any (λ w. is_held holds i (written_name w)) ws ≡ is_one (writing_same (all_unreleased cs) ws) i
-  who_holds i = ap (λ p. list_any p ws) (λ k w. (held i (written_name w) ∙ on_board docs cs i (written_name w) stand) k) ∙ who_writes (all_unreleased cs) ws i
+module _ (docs : Docs) (cs : List Posted1) (stand : AllByRecursion (Stands docs) cs) (ws : List Write) where
+  who_waits : (i : ℕ) → list_any (λ w. writes_name i (written_name w) cs) ws ≡ is_one (writing_same (all_unreleased cs) ws) i
+  who_waits i = ap (λ p. list_any p ws) (λ k w. on_board docs cs i (written_name w) stand k) ∙ who_writes (all_unreleased cs) ws i
 
-  -- the least that holds one of the names is the least that writes one
-  pub behind_held : (by : ℕ) (told : Option ℕ) → times_in by (batches (all_unreleased cs)) ≡ 0 → IsLeastOther (HoldsWritten holds ws) by told → told ≡ least (writing_same (all_unreleased cs) ws)
-  behind_held by told none is =
+  -- the least that writes one of the names on the board is the least in the machine
+  pub behind_written : (by : ℕ) (told : Option ℕ) → times_in by (batches (all_unreleased cs)) ≡ 0
+      → IsLeastOther (λ i. IsTrue (list_any (λ w. writes_name i (written_name w) cs) ws)) by told → told ≡ least (writing_same (all_unreleased cs) ws)
+  behind_written by told none is =
       one_least (writing_same (all_unreleased cs) ws) by told (least (writing_same (all_unreleased cs) ws)) (new_number (all_unreleased cs) ws by none)
-      (subst (λ (p : ℕ → Bool). IsLeastOther (λ i. IsTrue (p i)) by told) (λ k i. who_holds i k) is)
+      (subst (λ (p : ℕ → Bool). IsLeastOther (λ i. IsTrue (p i)) by told) (λ k i. who_waits i k) is)
       (least_in (writing_same (all_unreleased cs) ws))

@@ -2,9 +2,9 @@
 --
 --     the journal     c/b at 7, c/a at 5
 --     the board       8 pending, 9 accepted with its results and changes, last 9
---     the locks       8 holds c/a and c/d, 9 holds c/e: the names that they write
+--     the holds       8 holds c/a and c/d, 9, which writes c/e, is late
 --     the store       what 5 and 7 leave, up to 7
-use Rattle.std.specs.Prelude.{◌≡◌, ℕ, ℤ, ◌≤◌, ⊤, Bool, ◌&&◌, ◌==◌, IsTrue, List, [], ◌∷◌, Option, Some, None, is_none, length, map, sum_by, if◌then◌else◌}
+use Rattle.std.specs.Prelude.{◌≡◌, ℕ, ℤ, ◌≤◌, ⊤, Bool, false, ◌&&◌, ◌==◌, IsTrue, List, [], ◌∷◌, Option, Some, None, is_none, length, map, sum_by, not, if◌then◌else◌}
 use Rattle.std.specs.List.{AllByRecursion, list_any}
 use Rattle.std.specs.Option.{option_map}
 use Rattle.fs_board.specs.Board.{Commit, HasNo, Posted, all_ready}
@@ -24,6 +24,7 @@ use Rattle.fs_machine.specs.declared.unreleased.Unreleased.{Unreleased}
 use Rattle.fs_machine.specs.Facts.{PastFacts}
 use Rattle.fs_machine.specs.Past.{Past}
 use Rattle.fs_past.specs.declared.accepted.Accepted.{Accepted}
+use Rattle.fs_past.specs.declared.holds.Holds.{Holds}
 
 -- the commit that stands on the board, with its results once it is accepted
 abbrev pub unreleased_of : Commit Unreleased Accepted → Unreleased
@@ -71,9 +72,19 @@ bytes_of cs = sum_by (λ u. batch_size u.batch) (all_unreleased cs)
 abbrev pub writes_name : ℕ → DocName → List (Commit Unreleased Accepted) → Bool
 writes_name i n cs = list_any (λ c. c.id == i && is_written n c.asked.batch.writes) cs
 
--- each holds the names that it writes, and nothing else is held
-abbrev pub AreHeld : List Hold → List (Commit Unreleased Accepted) → Type 0
-AreHeld holds cs = (i : ℕ) (n : DocName) → is_held holds i n ≡ writes_name i n cs
+-- the commit of an id holds nothing yet
+abbrev pub is_late : Option ℕ → ℕ → Bool
+is_late None i = false
+is_late (Some id) i = i == id
+
+-- each holds the names that it writes, but for one that is late, and nothing else is held
+abbrev pub AreHeld : Holds → List (Commit Unreleased Accepted) → Type 0
+AreHeld holds cs = (i : ℕ) (n : DocName) → is_held holds.locks i n ≡ (not (is_late holds.late i) && writes_name i n cs)
+
+-- an id holds nothing any more, and isn't late
+pub record HoldLess (old new : Holds) (id : ℕ) : Type 0 where
+  pub locks : (i : ℕ) (n : DocName) → is_held new.locks i n ≡ (not (i == id) && is_held old.locks i n)
+  pub late : (i : ℕ) → is_late new.late i ≡ (not (i == id) && is_late old.late i)
 
 -- an id holds a name that one of these writes
 abbrev pub HoldsWritten : List Hold → List Write → ℕ → Type 0
@@ -106,7 +117,7 @@ GoOn h (c ∷ cs) = EndsBefore h c.asked.batch.time × GoOn (c.asked.batch ∷ h
 
 -- ---- always
 
-pub record IsKept (journal : Recorded) (board : Posted Unreleased Accepted) (holds : List Hold) (store : Stored) (moment : ℤ) (bytes : ℕ) : Type 0 where
+pub record IsKept (journal : Recorded) (board : Posted Unreleased Accepted) (holds : Holds) (store : Stored) (moment : ℤ) (bytes : ℕ) : Type 0 where
   pub facts : PastFacts (past_of journal.history board store moment)
   -- the store has the documents of each time that can be read
   pub shows : Shows journal.history store

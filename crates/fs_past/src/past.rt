@@ -4,13 +4,12 @@ ghost use Rattle.fs_board.specs.Rising.{Differ};
 use crate::accepted::Accepted;
 use crate::answer::answer_at;
 use crate::commits::{bytes_in, bytes_left, id_of};
-use crate::holds::{first_behind, hold};
+use crate::holds::Holds;
 use crate::outcome::outcome_among;
-use crate::release::{bring, let_in, make_room};
+use crate::release::{bring, let_in, make_room, one_ready};
 use crate::replies::replies_ready;
 use fs_board::Board;
 use fs_history::{Journal, histories_are_lawful};
-use fs_locks::Locks;
 use fs_machine::{Outcome, Reply, Unreleased};
 use fs_path::DocName;
 use fs_query::Query;
@@ -38,7 +37,7 @@ pub struct Past {
     // what these count in the limit of the journal, in bytes
     waiting: u128,
     // the names that they write, which each holds until it leaves the board
-    locks: Locks,
+    holds: Holds,
     // its absorbed time is the released time, and its floor that of the past
     store: Store,
     moment: Micros,
@@ -55,7 +54,7 @@ impl Model for Past {
 
     ghost view = { λ p. past_of p.journal.history p.board p.store.stored p.moment };
 
-    ghost invariant = { λ p. IsKept p.journal p.board p.locks p.store.stored p.moment p.waiting };
+    ghost invariant = { λ p. IsKept p.journal p.board p.holds p.store.stored p.moment p.waiting };
 }
 
 // That no two commits on a board have one id is known of it once it is read.
@@ -95,7 +94,7 @@ impl Past {
             journal: Journal::new(alloc),
             board: Board::new(alloc, start),
             waiting: 0,
-            locks: Locks::new(alloc),
+            holds: Holds::new(alloc),
             store: Store::new(alloc, start),
             moment: start,
         }
@@ -171,16 +170,26 @@ impl Past {
     }
 
     /// What these writes of a new commit wait behind: the least number of a commit that isn't released and writes a name that they
-    /// write. It takes no memory.
+    /// write. It takes no memory. Each name costs a search, and where `hold_all` wasn't called since the newest commit came, a
+    /// comparison with each name that this writes.
     pub fn behind(&self, writes: &[Write], by: Id) -> Option<Id>
         requires { times_in by (batches self.now.unreleased) ≡ 0 }
         ensures { result ≡ behind self.now writes.now }
     {
         if self.board.is_empty() {
-            None
-        } else {
-            first_behind(&self.locks, writes, by)
+            return None;
         }
+        ids_differ(&self.board);
+        self.holds.first_behind(&self.board, writes, by)
+    }
+
+    /// Makes whom a commit waits for a search for each of its names. It changes nothing that can be told, and is of use where more
+    /// than one commit isn't released.
+    pub fn hold_all(&mut self, alloc: Global) -> Result<(), AllocError>
+        ensures { self.new ≡ self.old }
+    {
+        ids_differ(&self.board);
+        self.holds.hold_all(alloc, &self.board)
     }
 
     /// A commit is pending from now on, at the next time. It writes no name that a commit writes which isn't released. Where memory
@@ -201,12 +210,12 @@ impl Past {
             return Err(AllocError);
         };
         self.journal.reserve(more)?;
-        hold(alloc, &mut self.locks, &commit)?;
+        self.holds.hold_all(alloc, &self.board)?;
         // A time is left, since the commit has it.
         if let Err(_) = self.board.prepare(id, commit) {
-            self.locks.release_all(id);
             return Err(AllocError);
         }
+        self.holds.add(id);
         self.waiting = waiting;
         Ok(())
     }
@@ -253,7 +262,7 @@ impl Past {
     {
         ids_differ(&self.board);
         let gone = self.board.drop(id);
-        self.locks.release_all(id);
+        self.holds.release(id);
         self.waiting = bytes_left(&self.board, self.waiting, &gone);
     }
 
@@ -265,11 +274,23 @@ impl Past {
     {
         histories_are_lawful();
         let to = self.board.released();
+        if let Some(commit) = one_ready(&self.board) {
+            let mut changes = Vec::with_capacity(alloc, 1)?;
+            self.store.absorb_one(alloc, to, commit)?;
+            let_in(
+                &mut self.journal,
+                &mut self.board,
+                &mut self.holds,
+                &mut self.waiting,
+                &mut changes,
+            );
+            return Ok(());
+        }
         let mut changes = make_room(alloc, &mut self.store, &self.board)?;
         let_in(
             &mut self.journal,
             &mut self.board,
-            &mut self.locks,
+            &mut self.holds,
             &mut self.waiting,
             &mut changes,
         );

@@ -1,5 +1,5 @@
 //! Releases of a store.
-ghost use Rattle.std.specs.Prelude.{◌≡◌, ◌-◌, ◌≤◌, ◌++◌, List, [], IfOk, OnOk, length};
+ghost use Rattle.std.specs.Prelude.{◌≡◌, ◌-◌, ◌≤◌, ◌++◌, ◌∷◌, List, [], IfOk, IfSome, OnOk, length};
 ghost use Rattle.std.specs.List.{All};
 ghost use Rattle.std.specs.Vec.{vec_len, vec_capacity};
 ghost use Rattle.fs_history.specs.declared.batch.Batch.{Batch};
@@ -10,13 +10,13 @@ ghost use Rattle.fs_store.specs.Shows.{Shows};
 ghost use Rattle.fs_store.specs.Stored.{absorbed};
 ghost use Rattle.fs_versions.specs.Room.{HasRoom};
 ghost use Rattle.fs_past.specs.Kept.{AreHeld, AreNumbered, GoOn, all_history, bytes_of, changes_of, kept_on_board};
-ghost use Rattle.fs_past.specs.Next.{next_release};
+ghost use Rattle.fs_store.specs.Next.{next_release};
 
 use crate::accepted::Accepted;
 use crate::commits::{batch_of, bytes_left, change_of, id_of};
+use crate::holds::Holds;
 use fs_board::Board;
 use fs_history::Journal;
-use fs_locks::Locks;
 use fs_machine::Unreleased;
 use fs_store::{Release, Store};
 use fs_time::Micros;
@@ -42,30 +42,41 @@ pub(crate) fn make_room(
     Ok(Vec::with_capacity(alloc, ready.len())?)
 }
 
+/// What the accepted commit changes before which none is pending, where that is one alone and has one change, as most have.
+pub(crate) fn one_ready(board: &Board<Unreleased, Accepted>) -> Option<&TimedChange>
+    ensures alone { IfSome result (λ c. changes_of board.now.commits ≡ c.now ∷ []) }
+    ensures one { IfSome result (λ c. length c.now.changes ≡ 1) }
+{
+    match board.only_ready() {
+        Some((_, accepted)) if accepted.change.changes.len() == 1 => Some(&accepted.change),
+        _ => None,
+    }
+}
+
 /// Lets the accepted commits into a journal before which none is pending, the first of them first. They hold no names any more, and
 /// what they change comes into a list. It takes no memory.
 pub(crate) fn let_in(
     journal: &mut Journal,
     board: &mut Board<Unreleased, Accepted>,
-    locks: &mut Locks,
+    holds: &mut Holds,
     waiting: &mut u128,
     changes: &mut Vec<TimedChange>,
 )
     requires room { length board.old.commits ≤ journal.old.room }
     requires times { GoOn journal.old.history board.old.commits }
     requires numbered { AreNumbered board.old.commits }
-    requires held { AreHeld locks.old board.old.commits }
+    requires held { AreHeld holds.old board.old.commits }
     requires waiting { waiting.old ≡ bytes_of board.old.commits }
     requires places { length (changes_of board.old.commits) ≤ vec_capacity changes.old - vec_len changes.old }
     ensures history { journal.new.history ≡ all_history journal.old.history board.old.commits }
     ensures board { board.new ≡ record board.old { commits = kept_on_board board.old.commits } }
     ensures room { length board.new.commits ≤ journal.new.room }
-    ensures held { AreHeld locks.new board.new.commits }
+    ensures held { AreHeld holds.new board.new.commits }
     ensures waiting { waiting.new ≡ bytes_of board.new.commits }
     ensures changes { changes.new.items ≡ changes.old.items ++ changes_of board.old.commits }
 {
     while let Some((_, commit, accepted)) = board.take_ready() {
-        locks.release_all(id_of(&commit));
+        holds.release(id_of(&commit));
         *waiting = bytes_left(board, *waiting, &commit);
         journal.push(batch_of(commit));
         changes.push_reserved(change_of(accepted));

@@ -60,6 +60,7 @@ impl Server {
         ensures err { OnErr result (self.new ≡ self.old) }
     {
         self.stand();
+        self.past.hold_all(alloc)?;
         let id = Id::new(self.numbers.ids + 1);
         match self.past.behind(writes.as_slice(), id) {
             Some(holder) => self.park(alloc, session, envelope, holder),

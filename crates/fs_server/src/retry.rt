@@ -118,6 +118,7 @@ impl Server {
         ensures state { OnOk result (self.new ≡ retried self.old place) }
         ensures err { OnErr result (self.new ≡ self.old) }
     {
+        self.past.hold_all(alloc)?;
         match self.holder(place) {
             Some(id) => Ok(Answer::Held(id)),
             None => self.go_on(alloc, place),

@@ -5,3 +5,4 @@ pub mod Fits
 pub mod Brings
 pub mod Shows
 pub mod Held
+pub mod Next

@@ -8,7 +8,7 @@ use fs_query::{Query, answer_among};
 use fs_time::Micros;
 use fs_value::{Document, Documents};
 use fs_versions::{Version, Versions};
-use fs_write::Changes;
+use fs_write::{Changes, TimedChange};
 use std::alloc::{AllocError, Global};
 use std::marker::Model;
 use std::sync::ledger::Ledger;
@@ -45,7 +45,7 @@ impl Model for Store {
 }
 
 impl Store {
-    ghost use Rattle.std.specs.Prelude.{◌≡◌, ◌↔◌, ◌≤ℤ◌, List, [], IsTrue, IsNone, IfOk, IfSome, OnOk};
+    ghost use Rattle.std.specs.Prelude.{◌≡◌, ◌↔◌, ◌≤ℤ◌, List, [], ◌∷◌, IsTrue, IsNone, IfOk, IfSome, OnOk, OnErr, length};
     ghost use Rattle.std.specs.FinMap.{get, values};
     ghost use Rattle.std.specs.Option.{option_copied};
     ghost use Rattle.fs_history.specs.History.{at};
@@ -58,6 +58,7 @@ impl Store {
     ghost use Rattle.fs_store.specs.Brings.{Brings};
     ghost use Rattle.fs_store.specs.Events.{store_of};
     ghost use Rattle.fs_store.specs.Fits.{Fits};
+    ghost use Rattle.fs_store.specs.Next.{next_release};
     ghost use Rattle.fs_store.specs.Room.{HasRoomFor};
     ghost use Rattle.fs_store.specs.Shows.{Shows};
     ghost use Rattle.fs_store.specs.Stored.{absorbed, compacted};
@@ -173,6 +174,27 @@ impl Store {
     {
         install_all(&mut self.versions, release.changes);
         self.absorbed = release.to;
+    }
+
+    /// Takes in the one change of the one commit of the next release, up to a time, and makes the room that it takes: what `make_room` and
+    /// `absorb` do, by one search. Where memory runs out, nothing is changed that is stored.
+    pub fn absorb_one(
+        &mut self,
+        alloc: Global,
+        to: Micros,
+        commit: &TimedChange,
+    ) -> Result<(), AllocError>
+        requires one { length commit.now.changes ≡ 1 }
+        requires fits { Fits self.old.stored (next_release self.old.stored to (commit.now ∷ [])) }
+        ensures value { OnOk result (self.new.stored ≡ absorbed self.old.stored (next_release self.old.stored to (commit.now ∷ []))) }
+        ensures err { OnErr result (self.new.stored ≡ self.old.stored) }
+        ensures shows { OnOk result ((h : List Batch) (k : List Batch) → Shows h self.old.stored → Brings h (commit.now ∷ []) k
+            → Shows k self.new.stored) }
+    {
+        let change = &commit.changes.as_slice()[0];
+        self.versions.install_one(alloc, change, commit.time)?;
+        self.absorbed = to;
+        Ok(())
     }
 
     /// Raises the floor, up to the end of the last release at most, and drops what no time from there on shows. It takes no

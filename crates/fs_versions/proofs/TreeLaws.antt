@@ -1,12 +1,13 @@
 -- Changes that go into the chains one after another.
-use Rattle.std.proofs.Common.{◌≡◌, ℕ, ◌-◌, ◌<◌, ◌≤◌, ℤ, Bool, true, false, cond, List, [], ◌∷◌, ◌++◌, length, get_or, Option, Some, None, refl, sym, ap, ◌∙◌, subst, arith}
-use Rattle.std.specs.Prelude.{IsTrue}
+use Rattle.std.proofs.Common.{◌≡◌, ℕ, ◌-◌, ◌<◌, ◌≤◌, ℤ, Bool, true, false, cond, List, [], ◌∷◌, ◌++◌, length, get_or, Option, Some, None, Result, Ok, Err, refl, sym, ap, ◌∙◌, subst, arith}
+use Rattle.std.specs.Prelude.{IsTrue, unwrap_or}
 use Rattle.std.specs.BTreeMap.{is_at}
 use Rattle.std.specs.Cmp.{first_so, second_so}
 use Rattle.std.specs.FinMap.{find, is_sorted}
 use Rattle.std.specs.FinMap.Entries.{below_all}
 use Rattle.std.specs.List.{All}
 use Rattle.std.specs.Ordering.{eq_by_cmp}
+use Rattle.std.specs.Result.{OnErr}
 use Rattle.std.specs.declared.cmp.Ordering.TheVariants.{Equal}
 use Rattle.std.proofs.lemmas.Cmp.{eq_by_cmp_equiv, tied_itself}
 use Rattle.std.proofs.lemmas.List.{get_or-map, get_or_default}
@@ -21,7 +22,7 @@ use Rattle.fs_versions.specs.Chain.{extended}
 use Rattle.fs_versions.specs.Chained.{Chained}
 use Rattle.fs_versions.specs.Rising.{AreBefore}
 use Rattle.fs_versions.specs.Room.{room_after}
-use Rattle.fs_versions.specs.Sound.{Tree, found, chained, chained_in, chain_in, room_in, EndsBefore, NoLess, Puts, SameChains}
+use Rattle.fs_versions.specs.Sound.{Tree, found, chained, chained_in, chain_in, room_in, EndsBefore, HasChanged, NoLess, Puts, SameChains}
 
 abbrev pub Rise : List Change → Type 0
 Rise cs = IsTrue (is_sorted name_cmp (changes_by_name cs))
@@ -84,6 +85,11 @@ module _ (old new : Tree) (name : DocName) (value : Chained) (put : Puts old new
 
   pub no_less : room_in name old ≤ value.room → NoLess old new
   no_less more q = subst (λ (c : Chained). room_in q old ≤ c.room) (sym (put_at old new name value put q)) (less_next more q (is_at (name_cmp name) q) refl)
+
+-- an empty chain that is put where none stands shows what stood there
+pub chain_or : (o : Option Chained) (d : Chained) → d.versions ≡ [] → (unwrap_or o d).versions ≡ (chained o).versions
+chain_or None d none = none
+chain_or (Some c) d none = refl
 
 -- ---- what is still to go in
 
@@ -169,3 +175,26 @@ room_first old now all c rest time left = left.room c.name c (first_at c rest)
 
 pub before_first : (old now : Tree) (all : List Change) (c : Change) (rest : List Change) (time : ℤ) → IsLeft old now all (c ∷ rest) time → AreBefore (chain_in c.name now) time
 before_first old now all c rest time left = subst (λ vs. AreBefore vs time) (sym (left.same c.name c (first_at c rest))) (left.earlier c.name)
+
+-- ---- the one change of a batch
+
+module _ (old new : Tree) (c : Change) (time : ℤ) (value : Chained) (put : Puts old new c.name value) where
+  one_next : value.versions ≡ chain_in c.name old ++ record { time = time; after = c.after } ∷ [] → (q : DocName) (b : Bool) → is_at (name_cmp c.name) q ≡ b
+      → (cond b value (chained_in q old)).versions ≡ extended time (cond b (Some c) None) (chain_in q old)
+  one_next made q true ties = made ∙ ap (λ n. extended time (Some c) (chain_in n old)) (name_is c.name q ties)
+  one_next made q false ties = refl
+
+  pub one_changed : value.versions ≡ chain_in c.name old ++ record { time = time; after = c.after } ∷ [] → HasChanged old new (c ∷ []) time
+  one_changed made q =
+      ap (λ (x : Chained). x.versions) (put_at old new c.name value put q)
+      ∙ one_next made q (is_at (name_cmp c.name) q) refl
+      ∙ ap (λ b. extended time (cond b (Some c) None) (chain_in q old)) (sym (turned c.name q))
+
+-- it rises, as there is no other
+pub one_rises : (c : Change) → Rise (c ∷ [])
+one_rises c = refl
+
+-- what stands in any case stands at an error
+pub at_err : {A E P : Type 0} (r : Result A E) → P → OnErr r P
+at_err (Ok x) p = tt
+at_err (Err e) p = p

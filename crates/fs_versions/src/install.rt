@@ -1,5 +1,5 @@
 //! How room is made for the changes of a batch, and how they come into the chains.
-ghost use Rattle.std.specs.Prelude.{◌≡◌, ◌-◌, ◌<◌, ◌≤◌, ◌∷◌, ◌++◌, [], IsTrue, OnOk};
+ghost use Rattle.std.specs.Prelude.{◌≡◌, ◌-◌, ◌<◌, ◌≤◌, ◌∷◌, ◌++◌, [], IsTrue, OnOk, OnErr};
 ghost use Rattle.std.specs.FinMap.{is_sorted};
 ghost use Rattle.std.specs.List.{All};
 ghost use Rattle.fs_path.specs.NameOrder.{name_cmp};
@@ -11,7 +11,7 @@ use crate::chain::Chain;
 use fs_history::Version;
 use fs_path::DocName;
 use fs_time::Micros;
-use fs_write::Change;
+use fs_write::{Change, copy_document};
 use std::alloc::{AllocError, Global};
 use std::collections::BTreeMap;
 
@@ -46,6 +46,27 @@ pub(crate) fn make_room(
     for change in changes {
         reserve(alloc, chains, &change.name, more)?;
     }
+    Ok(())
+}
+
+/// Puts in the version that the one change of a batch leaves at a time, which is made room for. Where memory runs out, no chain has other
+/// versions than before.
+pub(crate) fn install_one(
+    alloc: Global,
+    chains: &mut BTreeMap<DocName, Chain>,
+    change: &Change,
+    time: Micros,
+) -> Result<(), AllocError>
+    requires { AreBefore (chain_in change.now.name chains.old.entries) time }
+    ensures ok { OnOk result (HasChanged chains.old.entries chains.new.entries (change.now ∷ []) time) }
+    ensures err { OnErr result (SameChains chains.old.entries chains.new.entries) }
+{
+    let after = copy_document(alloc, &change.after)?;
+    let chain = chains
+        .entry(change.name.copy(alloc)?)?
+        .or_insert(Chain::new(alloc));
+    chain.reserve(1)?;
+    chain.push(Version { time, after });
     Ok(())
 }
 

@@ -1,12 +1,12 @@
 //! The versions of all documents.
 use crate::chain::Chain;
-use crate::install::{install, make_room};
+use crate::install::{install, install_one, make_room};
 use crate::listed::documents_in;
 use fs_history::{Version, histories_are_lawful};
 use fs_path::{DocName, Scope};
 use fs_time::Micros;
 use fs_value::{Document, Documents};
-use fs_write::Changes;
+use fs_write::{Change, Changes};
 use std::alloc::{AllocError, Global};
 use std::collections::BTreeMap;
 use std::marker::Model;
@@ -58,7 +58,7 @@ impl Model for Versions {
 }
 
 impl Versions {
-    ghost use Rattle.std.specs.Prelude.{◌≡◌, ◌↔◌, ◌<ℤ◌, ◌≤ℤ◌, List, ◌∷◌, [], IsTrue, IsNone, is_some, IfOk, IfSome, OnOk, map};
+    ghost use Rattle.std.specs.Prelude.{◌≡◌, ◌↔◌, ◌<ℤ◌, ◌≤ℤ◌, List, ◌∷◌, [], IsTrue, IsNone, is_some, IfOk, IfSome, OnOk, OnErr, map};
     ghost use Rattle.std.specs.FinMap.{empty, get, values, is_sorted};
     ghost use Rattle.std.specs.Option.{option_copied};
     ghost use Rattle.fs_path.specs.NameOrder.{name_cmp};
@@ -135,6 +135,27 @@ impl Versions {
         histories_are_lawful();
         install(&mut self.chains, changes.into_vec(), time);
         self.last = time;
+    }
+
+    /// Installs the one change of a batch at a time, which is later than all that were installed, and makes the room that it takes: one
+    /// search where `make_room` and `install` take two. Where memory runs out, nothing is changed but room.
+    pub fn install_one(
+        &mut self,
+        alloc: Global,
+        change: &Change,
+        time: Micros,
+    ) -> Result<(), AllocError>
+        requires above_floor { self.old.chains.floor <ℤ time }
+        requires later { self.old.chains.last <ℤ time }
+        ensures value { OnOk result (self.new.chains ≡ installed self.old.chains (change.now ∷ []) time) }
+        ensures err { OnErr result (self.new.chains ≡ self.old.chains) }
+        ensures shows { OnOk result ((h : List Batch) (b : Batch) → Shows h self.old.chains → b.time ≡ time
+            → AreChanges (whole h) (whole (b ∷ h)) (change.now ∷ []) → Shows (b ∷ h) self.new.chains) }
+    {
+        histories_are_lawful();
+        install_one(alloc, &mut self.chains, change, time)?;
+        self.last = time;
+        Ok(())
     }
 
     /// The document of a name at a time, which isn't before the floor.

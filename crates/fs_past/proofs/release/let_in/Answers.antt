@@ -1,13 +1,12 @@
-use Rattle.std.proofs.Common.{◌≡◌, ◌+◌, ◌-◌, ℤ, [], ◌∷◌, ◌++◌, length, append_assoc, sym, ap, ◌∙◌, subst, arith}
-use Rattle.fs_board.specs.Board.{Posted, rest_of}
+use Rattle.std.proofs.Common.{◌+◌, ◌-◌, ℤ, [], ◌∷◌, ◌++◌, length, append_assoc, sym, ap, ◌∙◌, subst, arith}
+use Rattle.fs_board.specs.Board.{Posted}
 use Rattle.fs_history.specs.Bytes.{batch_size}
 use Rattle.fs_history.specs.Journal.{Recorded}
 use Rattle.fs_history.specs.declared.batch.Batch.{Batch}
 use Rattle.fs_machine.specs.declared.unreleased.Unreleased.{Unreleased}
 use Rattle.fs_write.specs.declared.timed_change.TimedChange.{TimedChange}
 use Rattle.fs_past.specs.declared.accepted.Accepted.{Accepted}
-use Rattle.fs_past.specs.Kept.{all_history, bytes_of, changes_of, kept_on_board}
-use Rattle.fs_past.proofs.Holding.{HeldBut}
+use Rattle.fs_past.specs.Kept.{HoldLess, all_history, bytes_of, changes_of, kept_on_board}
 use Rattle.fs_past.proofs.Releasing.{AreLetIn, bytes_ready, changes_ready, one_in}
 use Rattle.fs_past.proofs.release.let_in.Goals as goal
 
@@ -29,13 +28,13 @@ loop-commit-preserved c =
     let h = l.journal.history in
     let k = all_history c.args.journal.now.history c.args.board.now.commits in
     let ds = kept_on_board c.args.board.now.commits in
-    let new = c.release_all.new.self in
+    let new = c.release.new.self in
     let left = c.bytes_left.result in
     let x : ℤ × Unreleased × Accepted = (c.in-Some.field-0-0, c.in-Some.commit, c.in-Some.accepted) in
-    let but : HeldBut l.locks new c.in-Some.commit.batch.id = subst (HeldBut l.locks new) c.id_of.ensures c.release_all.ensures.value in
+    let but : HoldLess l.holds new c.in-Some.commit.batch.id = subst (HoldLess l.holds new) c.id_of.ensures c.release.ensures in
     let rest = ap (λ (b : Posted Unreleased Accepted). bytes_of b.commits) c.in-Some.ensures.rest in
     let pushed = c.push.ensures ∙ ap (λ (b : Batch). record { history = b ∷ h; room = l.journal.room - 1 }) c.batch_of.ensures in
-    let next = one_in h k ds l.locks new l.journal.room l.waiting left l.board.commits x c.in-Some.ensures.value (c.bytes_left.ensures ∙ rest) but l.invariant.0 in
+    let next = one_in h k ds l.holds new l.journal.room l.waiting left l.board.commits x c.in-Some.ensures.value (c.bytes_left.ensures ∙ rest) but l.invariant.0 in
     let first = changes_ready l.board.commits x c.in-Some.ensures.value ∙ ap (λ (b : Posted Unreleased Accepted). c.in-Some.accepted.change ∷ changes_of b.commits) (sym c.in-Some.ensures.rest) in (
       subst (λ (r : Recorded). AreLetIn r.history k c.take_ready.new.self.commits ds new r.room left) (sym pushed)
           (subst (λ (b : Posted Unreleased Accepted). AreLetIn (c.in-Some.commit.batch ∷ h) k b.commits ds new (l.journal.room - 1) left) (sym c.in-Some.ensures.rest) next),

@@ -3,13 +3,8 @@ use Rattle.std.specs.Prelude.{unwrap_or}
 use Rattle.fs_path.specs.declared.name.DocName.{DocName}
 use Rattle.fs_versions.specs.Chained.{Chained}
 use Rattle.fs_versions.specs.Sound.{Puts, chained, found, room_in}
-use Rattle.fs_versions.proofs.TreeLaws.{no_less, same_chains}
+use Rattle.fs_versions.proofs.TreeLaws.{chain_or, no_less, same_chains}
 use Rattle.fs_versions.proofs.install.reserve.Goals as goal
-
--- an empty chain that is put where none stands shows what stood there
-chain_or : (o : Option Chained) (d : Chained) → d.versions ≡ [] → (unwrap_or o d).versions ≡ (chained o).versions
-chain_or None d none = none
-chain_or (Some c) d none = refl
 
 room_or : (o : Option Chained) (d : Chained) → (chained o).room ≤ (unwrap_or o d).room
 room_or None d = omega arith

@@ -12,16 +12,16 @@ pub accept-requires : goal.accept-requires
 accept-requires c =
     let s = c.self.inside in
     let differ = c.ids_differ.ensures in
-    pending_on_board s.journal s.board s.locks s.store.stored s.moment s.waiting c.self.invariant differ c.args.id
-    (comes_pending s.journal s.board s.locks s.store.stored s.moment s.waiting c.self.invariant c.args.id (outcome.Effects c.args.changes c.args.results)
+    pending_on_board s.journal s.board s.holds s.store.stored s.moment s.waiting c.self.invariant differ c.args.id
+    (comes_pending s.journal s.board s.holds s.store.stored s.moment s.waiting c.self.invariant c.args.id (outcome.Effects c.args.changes c.args.results)
     (subst (λ p. ComesTo p c.args.id (outcome.Effects c.args.changes c.args.results)) (sym c.self.view_is) c.requires))
 
 pub unwrap-requires : goal.unwrap-requires
 unwrap-requires c =
     let s = c.self.inside in
     let differ = c.ids_differ.ensures in
-    lent_there s.journal s.board s.locks s.store.stored s.moment s.waiting c.self.invariant differ c.args.id
-    (comes_pending s.journal s.board s.locks s.store.stored s.moment s.waiting c.self.invariant c.args.id (outcome.Effects c.args.changes c.args.results)
+    lent_there s.journal s.board s.holds s.store.stored s.moment s.waiting c.self.invariant differ c.args.id
+    (comes_pending s.journal s.board s.holds s.store.stored s.moment s.waiting c.self.invariant c.args.id (outcome.Effects c.args.changes c.args.results)
     (subst (λ p. ComesTo p c.args.id (outcome.Effects c.args.changes c.args.results)) (sym c.self.view_is) c.requires))
     c.asked.result c.asked.ensures
 
@@ -30,14 +30,14 @@ invariant_of-self c =
     let s = c.self.inside in
     let differ = c.ids_differ.ensures in
     let pending =
-    pending_on_board s.journal s.board s.locks s.store.stored s.moment s.waiting c.self.invariant differ c.args.id
-    (comes_pending s.journal s.board s.locks s.store.stored s.moment s.waiting c.self.invariant c.args.id (outcome.Effects c.args.changes c.args.results)
+    pending_on_board s.journal s.board s.holds s.store.stored s.moment s.waiting c.self.invariant differ c.args.id
+    (comes_pending s.journal s.board s.holds s.store.stored s.moment s.waiting c.self.invariant c.args.id (outcome.Effects c.args.changes c.args.results)
     (subst (λ p. ComesTo p c.args.id (outcome.Effects c.args.changes c.args.results)) (sym c.self.view_is) c.requires))
     in
     let at : asked_in c.args.id s.board.commits ≡ Some c.unwrap.result.now = sym c.asked.ensures ∙ ap option_copied c.unwrap.ensures in
-    let found = found_held s.journal s.board s.locks s.store.stored s.moment s.waiting c.self.invariant differ c.args.id c.unwrap.result.now at pending in
-    subst (λ b. IsKept s.journal b s.locks s.store.stored s.moment s.waiting) (sym c.accept.ensures)
-    (kept_accepted s.journal s.board s.locks s.store.stored s.moment s.waiting c.self.invariant c.args.id c.unwrap.result.now found at pending c.time-time.result c.time-time.ensures c.args.changes c.args.results
+    let found = found_held s.journal s.board s.holds s.store.stored s.moment s.waiting c.self.invariant differ c.args.id c.unwrap.result.now at pending in
+    subst (λ b. IsKept s.journal b s.holds s.store.stored s.moment s.waiting) (sym c.accept.ensures)
+    (kept_accepted s.journal s.board s.holds s.store.stored s.moment s.waiting c.self.invariant c.args.id c.unwrap.result.now found at pending c.time-time.result c.time-time.ensures c.args.changes c.args.results
     (subst (λ p. ComesTo p c.args.id (outcome.Effects c.args.changes c.args.results)) (sym c.self.view_is) c.requires))
 
 pub returns : goal.returns
@@ -45,12 +45,12 @@ returns c =
     let s = c.self.inside in
     let differ = c.ids_differ.ensures in
     let pending =
-    pending_on_board s.journal s.board s.locks s.store.stored s.moment s.waiting c.self.invariant differ c.args.id
-    (comes_pending s.journal s.board s.locks s.store.stored s.moment s.waiting c.self.invariant c.args.id (outcome.Effects c.args.changes c.args.results)
+    pending_on_board s.journal s.board s.holds s.store.stored s.moment s.waiting c.self.invariant differ c.args.id
+    (comes_pending s.journal s.board s.holds s.store.stored s.moment s.waiting c.self.invariant c.args.id (outcome.Effects c.args.changes c.args.results)
     (subst (λ p. ComesTo p c.args.id (outcome.Effects c.args.changes c.args.results)) (sym c.self.view_is) c.requires))
     in
     let at : asked_in c.args.id s.board.commits ≡ Some c.unwrap.result.now = sym c.asked.ensures ∙ ap option_copied c.unwrap.ensures in
-    let found = found_held s.journal s.board s.locks s.store.stored s.moment s.waiting c.self.invariant differ c.args.id c.unwrap.result.now at pending in
+    let found = found_held s.journal s.board s.holds s.store.stored s.moment s.waiting c.self.invariant differ c.args.id c.unwrap.result.now at pending in
     ap (λ b. past_of s.journal.history b s.store.stored s.moment) c.accept.ensures
-    ∙ after_accept s.journal s.board s.locks s.store.stored s.moment s.waiting c.self.invariant c.args.id c.unwrap.result.now found at pending c.time-time.result c.time-time.ensures c.args.changes c.args.results
+    ∙ after_accept s.journal s.board s.holds s.store.stored s.moment s.waiting c.self.invariant c.args.id c.unwrap.result.now found at pending c.time-time.result c.time-time.ensures c.args.changes c.args.results
     ∙ ap (λ (p : Past). record p { unreleased = accepted_in c.args.id c.args.results p.unreleased }) c.self.view_is

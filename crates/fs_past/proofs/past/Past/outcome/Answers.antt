@@ -14,5 +14,5 @@ returns c =
     let found : pending_of (past_of s.journal.history s.board s.store.stored s.moment) id ≡ Some c.in-Some.commit.now =
     ap (λ (p : Past). pending_of p id) c.self.view_is ∙ sym c.commit.ensures ∙ ap option_copied c.in-Some.is in
     IfOk-weaker c.outcome_among.result _ _
-    (λ o so. subst (λ p. ComesTo p id o) c.self.view_is (comes_by s.journal s.board s.locks s.store.stored s.moment s.waiting c.self.invariant id c.in-Some.commit.now o found (so s.journal.history c.self.invariant.shows)))
+    (λ o so. subst (λ p. ComesTo p id o) c.self.view_is (comes_by s.journal s.board s.holds s.store.stored s.moment s.waiting c.self.invariant id c.in-Some.commit.now o found (so s.journal.history c.self.invariant.shows)))
     c.outcome_among.ensures

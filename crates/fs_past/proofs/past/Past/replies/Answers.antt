@@ -8,5 +8,5 @@ pub returns : goal.returns
 returns c =
     let s = c.self.inside in
     IfOk-weaker c.replies_ready.result _ _
-    (λ rs so. so ∙ ap (map reply_of) (out_of_board s.journal s.board s.locks s.store.stored s.moment s.waiting c.self.invariant ∙ ap let_out c.self.view_is))
+    (λ rs so. so ∙ ap (map reply_of) (out_of_board s.journal s.board s.holds s.store.stored s.moment s.waiting c.self.invariant ∙ ap let_out c.self.view_is))
     c.replies_ready.ensures

@@ -1,7 +1,7 @@
 use Rattle.std.proofs.Common.{take}
 use Rattle.fs_locks.specs.Holds.{IsLeastOther}
 use Rattle.fs_past.specs.Kept.{HoldsWritten}
-use Rattle.fs_past.proofs.holds.first_behind.Given as goal
+use Rattle.fs_past.proofs.holds.first_holder.Given as goal
 
 -- the least of those that hold a name of the writes so far
 abbrev pub invariant-loop-write : goal.invariant-loop-write

@@ -1,4 +1,4 @@
--- Only private clauses cite this: the next release of a store, up to a time.
+-- The next release of a store, up to a time: it begins where the last one ended.
 use Rattle.std.specs.Prelude.{ℤ, List}
 use Rattle.fs_write.specs.declared.timed_change.TimedChange.{TimedChange}
 use Rattle.fs_store.specs.Stored.{Stored}

@@ -3,7 +3,7 @@ use Rattle.std.proofs.lemmas.List.{take_all}
 use Rattle.fs_locks.specs.Holds.{IsLeastOther}
 use Rattle.fs_write.specs.declared.write.Write.{Write}
 use Rattle.fs_past.specs.Kept.{HoldsWritten}
-use Rattle.fs_past.proofs.holds.first_behind.Goals as goal
+use Rattle.fs_past.proofs.holds.first_holder.Goals as goal
 
 pub returns : goal.returns
 returns c =
