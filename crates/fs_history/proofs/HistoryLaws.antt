@@ -25,7 +25,7 @@ pub ends_by : (h : List Batch) (s t : ℤ) → EndsBefore h s → s ≤ℤ t →
 ends_by [] s t ends within = tt
 ends_by (b ∷ h) s t ends within = omega (arith, ints)
 
-ends_earlier : (h : List Batch) (s t : ℤ) → EndsBefore h s → s <ℤ t → EndsBefore h t
+pub ends_earlier : (h : List Batch) (s t : ℤ) → EndsBefore h s → s <ℤ t → EndsBefore h t
 ends_earlier [] s t ends within = tt
 ends_earlier (b ∷ h) s t ends within = omega (arith, ints)
 
@@ -48,7 +48,7 @@ before_all (b ∷ h) t rise ends =
     ap (λ c. cond c (after_batch (before h t) b.writes b.time) (before h t)) (earlier b.time t ends)
     ∙ ap (λ docs. after_batch docs b.writes b.time) (before_all h t rise.1 (ends_earlier h b.time t rise.0 ends))
 
-before_skips : (b : Batch) (h : List Batch) (t : ℤ) → t ≤ℤ b.time → before (b ∷ h) t ≡ before h t
+pub before_skips : (b : Batch) (h : List Batch) (t : ℤ) → t ≤ℤ b.time → before (b ∷ h) t ≡ before h t
 before_skips b h t within = ap (λ c. cond c (after_batch (before h t) b.writes b.time) (before h t)) (not_earlier b.time t within)
 
 pub before_whole : (b : Batch) (h : List Batch) → IsRising (b ∷ h) → before (b ∷ h) b.time ≡ whole h

@@ -45,10 +45,10 @@ by_own_names (e ∷ es) rise named =
 -- ---- the documents of a moment
 
 module _ (docs : Docs) (named : AreNamed docs) where
-  listed_entries : by_name (values docs) ≡ entries docs
+  pub listed_entries : by_name (values docs) ≡ entries docs
   listed_entries = by_own_names (entries docs) (to_true _ (entries_sorted docs)) (λ q. subst (λ o. Bears o q) (get-entries docs q) (named q))
 
-  listed : IsTrue (is_sorted name_cmp (by_name (values docs))) × (docs_of (values docs) ≡ docs)
+  pub listed : IsTrue (is_sorted name_cmp (by_name (values docs))) × (docs_of (values docs) ≡ docs)
   listed = (
     subst (λ es. IsTrue (is_sorted name_cmp es)) (sym listed_entries) (to_true _ (entries_sorted docs)),
     ap (from_sorted {R = name_cmp}) listed_entries ∙ same_entries_map _ docs (entries-from_sorted name_cmp (entries docs) (entries_sorted docs)),
@@ -57,7 +57,7 @@ module _ (docs : Docs) (named : AreNamed docs) where
 -- ---- of a history
 
 module _ (at_own_names : (docs : Docs) (ws : List Write) (t : ℤ) → AreNamed docs → AreNamed (after_batch docs ws t)) where
-  none_named : (q : DocName) (o : Option Document) → o ≡ None → Bears o q
+  pub none_named : (q : DocName) (o : Option Document) → o ≡ None → Bears o q
   none_named q None is = tt
   none_named q (Some d) is = absurd (cc)
 

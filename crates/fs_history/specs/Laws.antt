@@ -1,5 +1,5 @@
 -- The laws of histories. Each is shown by a public call.
-use Rattle.std.specs.Prelude.{◌≡◌, ℤ, ◌<ℤ◌, ◌≤ℤ◌, IsTrue, List, ◌∷◌, ◌++◌, reverse}
+use Rattle.std.specs.Prelude.{◌≡◌, ℤ, ◌<ℤ◌, ◌≤ℤ◌, false, IsTrue, List, ◌∷◌, ◌++◌, reverse}
 use Rattle.std.specs.FinMap.{get, values, is_sorted}
 use Rattle.fs_path.specs.NameOrder.{name_cmp}
 use Rattle.fs_path.specs.declared.name.DocName.{DocName}
@@ -9,8 +9,11 @@ use Rattle.fs_write.specs.Batch.{docs_of, AreNamed, AreChanges, IsOutcome}
 use Rattle.fs_write.specs.declared.change.Change.{Change}
 use Rattle.fs_write.specs.declared.write_result.WriteResult.{WriteResult}
 use Rattle.fs_history.specs.History.{at, before, whole, EndsBy, IsRising}
+use Rattle.fs_history.specs.Serial.{AreSerial, IsSerial, IsShown}
+use Rattle.fs_history.specs.Touches.{touched}
 use Rattle.fs_history.specs.Versions.{versions, newest, shown, chain}
 use Rattle.fs_history.specs.declared.batch.Batch.{Batch}
+use Rattle.fs_history.specs.declared.read.Read.{Read}
 
 -- ---- times
 
@@ -73,3 +76,13 @@ AtOwnNames = (h : List Batch) (t : ℤ) → AreNamed (at h t)
 -- so the documents of a time are a list whose names rise, and that list has them all
 abbrev pub ListedByName : Type 0
 ListedByName = (h : List Batch) (t : ℤ) → IsTrue (is_sorted name_cmp (by_name (values (at h t)))) × (docs_of (values (at h t)) ≡ at h t)
+
+-- ---- reads
+
+-- what a read showed is what the documents give still, behind a batch that doesn't touch it
+abbrev pub ReadsStay : Type 0
+ReadsStay = (b : Batch) (h : List Batch) (r : Read) → touched b.writes r ≡ false → IsShown (whole h) r → IsShown (whole (b ∷ h)) r
+
+-- a history is serial where each batch read what the batches before it leave
+abbrev pub SerialByBatch : Type 0
+SerialByBatch = (h : List Batch) → IsRising h → AreSerial h → IsSerial h

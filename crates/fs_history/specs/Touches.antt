@@ -2,7 +2,7 @@
 -- of documents that weren't there or didn't fit.
 -- (Cloud Firestore documentation, "Transaction serializability and isolation".)
 use Rattle.std.specs.Prelude.{◌≡◌, Bool, List}
-use Rattle.std.specs.List.{Any}
+use Rattle.std.specs.List.{Any, list_any}
 use Rattle.fs_path.specs.NameOrder.{name_eq}
 use Rattle.fs_path.specs.Scope.{covers, Covers}
 use Rattle.fs_path.specs.declared.name.DocName.{DocName}
@@ -25,3 +25,11 @@ Touches writes read = Any (λ w. TouchesName (written_name w) read) writes
 abbrev pub touches : DocName → Read → Bool
 touches name (read.Name read_name shown) = name_eq name read_name
 touches name (read.Query query shown) = covers query.scope name
+
+-- whether one of some writes touches a read
+abbrev pub touched : List Write → Read → Bool
+touched writes r = list_any (λ w. touches (written_name w) r) writes
+
+-- and whether one of some reads is touched
+abbrev pub some_touched : List Write → List Read → Bool
+some_touched writes rs = list_any (touched writes) rs

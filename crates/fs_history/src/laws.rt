@@ -1,5 +1,5 @@
 //! The laws of histories.
-ghost use Rattle.fs_history.specs.Laws.{AtIsWhole, BeforeIsWhole, LaterIsUnseen, BatchByBatch, ChangesAreTheDifference, ChangesOfTheLast, VersionsShow, ChainShows, ChainEndsWithNewest, ChainsTell, AtOwnNames, ListedByName};
+ghost use Rattle.fs_history.specs.Laws.{AtIsWhole, BeforeIsWhole, LaterIsUnseen, BatchByBatch, ChangesAreTheDifference, ChangesOfTheLast, VersionsShow, ChainShows, ChainEndsWithNewest, ChainsTell, AtOwnNames, ListedByName, ReadsStay, SerialByBatch};
 
 use fs_write::batches_are_lawful;
 
@@ -8,7 +8,8 @@ use fs_write::batches_are_lawful;
 /// what differs. A name's document at a time is that of its newest version then, which its chain from a floor tells for
 /// each time from there on; its newest document is at the end of its chain; and histories with the same chains have the
 /// same documents from the floor on. Each document stands at its own name, so those of a time are a list in the order of
-/// names.
+/// names. What a read showed stays behind a batch that doesn't touch it, and a history in which each batch read what those before it
+/// leave is serial.
 pub fn histories_are_lawful()
     ensures at_whole { AtIsWhole }
     ensures before_whole { BeforeIsWhole }
@@ -22,6 +23,8 @@ pub fn histories_are_lawful()
     ensures chains_tell { ChainsTell }
     ensures own_names { AtOwnNames }
     ensures listed { ListedByName }
+    ensures reads_stay { ReadsStay }
+    ensures serial { SerialByBatch }
 {
     batches_are_lawful();
 }

@@ -1,5 +1,7 @@
 use Rattle.fs_history.proofs.HistoryLaws as history
 use Rattle.fs_history.proofs.NamesListed as names
+use Rattle.fs_history.proofs.ReadsStay as reads
+use Rattle.fs_history.proofs.Serial as serial
 use Rattle.fs_history.proofs.VersionLaws as version
 use Rattle.fs_history.proofs.laws.histories_are_lawful.Goals as goal
 
@@ -19,4 +21,6 @@ returns c =
       chains_tell = version.chains_tell law.unchanged;
       own_names = names.own_names law.at_own_names;
       listed = names.listed_by_name law.at_own_names;
+      reads_stay = reads.reads_stay law.at_own_names;
+      serial = serial.serial_is;
     }
