@@ -13,11 +13,11 @@ use Rattle.fs_board.specs.Held.{IsKept}
 use Rattle.fs_board.specs.Rising.{RiseTo, Differ}
 use Rattle.fs_board.proofs.Keys.{id_at, other_id}
 
-not_there : (b : Bool) (time : ℤ) (rest : Option ℤ) → cond b (Some time) rest ≡ None → b ≡ false
+pub not_there : (b : Bool) (time : ℤ) (rest : Option ℤ) → cond b (Some time) rest ≡ None → b ≡ false
 not_there true time rest e = absurd (cc)
 not_there false time rest e = refl
 
-not_behind : (b : Bool) (time : ℤ) (rest : Option ℤ) → cond b (Some time) rest ≡ None → rest ≡ None
+pub not_behind : (b : Bool) (time : ℤ) (rest : Option ℤ) → cond b (Some time) rest ≡ None → rest ≡ None
 not_behind true time rest e = absurd (cc)
 not_behind false time rest e = e
 

@@ -7,11 +7,12 @@ use Rattle.std.specs.FinMap.Entries.{below_all}
 use Rattle.std.specs.List.{Contains, list_any}
 use Rattle.std.specs.Ordering.{eq_by_cmp}
 use Rattle.std.proofs.lemmas.Bool.{or_parts}
+use Rattle.fs_path.proofs.Elements.{has_first, has_later}
 use Rattle.fs_path.specs.NameOrder.{name_cmp, name_is, name_itself}
 use Rattle.fs_path.specs.Scope.{covers}
 use Rattle.fs_path.specs.declared.name.DocName.{DocName}
 use Rattle.fs_path.specs.declared.scope.Scope.{Scope}
-use Rattle.fs_query.proofs.Rising.{has_cases, has_first, has_later, has_none}
+use Rattle.fs_query.proofs.Rising.{has_cases, has_none}
 use Rattle.fs_query.specs.Answer.{AreFitting, IsAnswer}
 use Rattle.fs_query.specs.Asked.{Asked}
 use Rattle.fs_query.specs.Fits.{fits}

@@ -3,7 +3,7 @@ use Rattle.std.proofs.Common.{◌≡◌, ℕ, ◌≤◌, Bool, true, false, cond
 use Rattle.std.specs.Prelude.{◌==◌, ◌&&◌, ◌||◌, IsTrue, nat_le}
 use Rattle.std.specs.List.{filter, list_any, AllByRecursion}
 use Rattle.std.proofs.lemmas.Bool.{eq-eqb, eqb-true, leb-false, leb-true, or_left, or_parts, or_right}
-use Rattle.std.proofs.Math.Bool.{and-false}
+use Rattle.std.proofs.Math.Bool.{and-false, and-true}
 use Rattle.fs_write.specs.declared.write.Write.{Write}
 use Rattle.fs_history.specs.declared.batch.Batch.{Batch}
 use Rattle.fs_machine.specs.Behind.{behind, least, lesser, write_same, writing_same}
@@ -68,11 +68,7 @@ above (n ∷ ns) m j all is = at (above ns m j all.1) (n == j) refl is
 -- it is of those that write a name which these writes write
 pub one_next : (u : Unreleased) (us : List Unreleased) (ws : List Write) (i : ℕ) (b : Bool)
     → ((u.batch.id == i && b) || is_one (writing_same us ws) i) ≡ is_one (map (λ v. v.batch.id) (cond b (u ∷ filter (λ v. write_same ws v.batch.writes) us) (filter (λ v. write_same ws v.batch.writes) us))) i
-one_next u us ws i true = ap (λ a. a || is_one (writing_same us ws) i) (with_true (u.batch.id == i))
-  where
-    with_true : (a : Bool) → (a && true) ≡ a
-    with_true true = refl
-    with_true false = refl
+one_next u us ws i true = ap (λ a. a || is_one (writing_same us ws) i) (and-true (u.batch.id == i))
 one_next u us ws i false = ap (λ a. a || is_one (writing_same us ws) i) (and-false (u.batch.id == i))
 
 one_holds : (us : List Unreleased) (ws : List Write) (i : ℕ) → list_any (λ u. u.batch.id == i && write_same ws u.batch.writes) us ≡ is_one (writing_same us ws) i

@@ -2,6 +2,7 @@
 use Rattle.std.proofs.Common.{◌≡◌, ℕ, ℤ, ◌+◌, ◌≤◌, Bool, true, false, cond, List, [], ◌∷◌, ◌++◌, Some, Result, Ok, Err, zero, suc, refl, ap, arith}
 use Rattle.std.specs.Prelude.{◌==◌, not, remove, slice_get}
 use Rattle.std.proofs.lemmas.Bool.Decides.{nat_tests}
+use Rattle.std.proofs.lemmas.Option.{same_Some}
 use Rattle.fs_status.specs.declared.refusal.Refusal.{Refusal}
 use Rattle.fs_write.specs.Batch.{Docs}
 use Rattle.fs_write.specs.declared.write_result.WriteResult.{WriteResult}
@@ -16,7 +17,7 @@ use Rattle.fs_machine.specs.Tick.{past_advanced}
 use Rattle.fs_machine.specs.UnreleasedRise.{UnreleasedRise}
 use Rattle.fs_machine.specs.IdsAreDrawn.{counted, times_in, times_parked, times, IdsAreDrawn}
 use Rattle.fs_machine.proofs.Moved.{moved}
-use Rattle.fs_machine.proofs.Pending.{same_batches, same_some}
+use Rattle.fs_machine.proofs.Pending.{same_batches}
 use Rattle.fs_machine.proofs.UnreleasedRise.{unreleased_advanced, unreleased_decided}
 
 -- an event that leaves no number more often than it was
@@ -64,7 +65,7 @@ removed_here id s rs r is = let same : counted id s.id ≡ counted id r.id = ap 
 
 pub parked_less : (id : ℕ) (rs : List ParkedRequest) (place : ℕ) (r : ParkedRequest) → slice_get rs place ≡ Some r → times_parked id rs ≡ times_parked id (remove rs place) + counted id r.id
 parked_less id [] place r is = absurd (cc)
-parked_less id (s ∷ rs) zero r is = removed_here id s rs r (same_some s r is)
+parked_less id (s ∷ rs) zero r is = removed_here id s rs r (same_Some s r is)
 parked_less id (s ∷ rs) (suc place) r is = let less = parked_less id rs place r is in omega (arith, less)
 
 pub fewer_unparked : (p : Past) (rs : List ParkedRequest) (place : ℕ) (r : ParkedRequest) → slice_get rs place ≡ Some r → AreFewer p rs p (remove rs place)

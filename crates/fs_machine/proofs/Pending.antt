@@ -1,18 +1,15 @@
 -- The pending commit of a number, as it is found.
 use Rattle.std.proofs.Common.{◌≡◌, ℕ, Bool, true, false, cond, List, [], ◌∷◌, Some, refl, sym, ap, ◌∙◌, subst, arith}
-use Rattle.std.specs.Prelude.{unwrap_or}
 use Rattle.std.specs.List.{AllByRecursion}
 use Rattle.std.proofs.lemmas.Bool.Decides.{nat_tests}
+use Rattle.std.proofs.lemmas.Option.{same_Some}
 use Rattle.fs_write.specs.declared.write_result.WriteResult.{WriteResult}
 use Rattle.fs_machine.specs.Past.{batches, is_pending}
 use Rattle.fs_machine.specs.declared.unreleased.Unreleased.{Unreleased}
 use Rattle.fs_machine.specs.Settle.{accepted_in, is_it, pending_in}
 
-pub same_some : {A : Type 0} (x y : A) → Some x ≡ Some y → x ≡ y
-same_some x y is = ap (λ o. unwrap_or o x) is
-
 found_next : (v : Unreleased) (us : List Unreleased) (id : ℕ) (u : Unreleased) (b : Bool) → is_it id v ≡ b → cond b (Some v) (pending_in id us) ≡ Some u → (pending_in id us ≡ Some u → is_it id u ≡ true) → is_it id u ≡ true
-found_next v us id u true here is more = ap (is_it id) (sym (same_some v u is)) ∙ here
+found_next v us id u true here is more = ap (is_it id) (sym (same_Some v u is)) ∙ here
 found_next v us id u false here is more = more is
 
 -- what is found is a commit of the number, and pending
@@ -26,7 +23,7 @@ number_of_it id u is = grind (arith, nat_tests)
 pub number_found : (us : List Unreleased) (id : ℕ) (u : Unreleased) → pending_in id us ≡ Some u → u.batch.id ≡ id
 number_found us id u is = number_of_it id u (is_found us id u is)
 
-pending_it : (id : ℕ) (u : Unreleased) → is_it id u ≡ true → is_pending u ≡ true
+pub pending_it : (id : ℕ) (u : Unreleased) → is_it id u ≡ true → is_pending u ≡ true
 pending_it id u is = grind (arith, nat_tests)
 
 pub pending_found : (us : List Unreleased) (id : ℕ) (u : Unreleased) → pending_in id us ≡ Some u → is_pending u ≡ true
@@ -36,7 +33,7 @@ pub passes_it : (id : ℕ) (v : Unreleased) → is_pending v ≡ false → is_it
 passes_it id v is = grind (arith, nat_tests)
 
 all_next : (P : Unreleased → Type 0) (v : Unreleased) (us : List Unreleased) (id : ℕ) (u : Unreleased) (b : Bool) → cond b (Some v) (pending_in id us) ≡ Some u → P v → (pending_in id us ≡ Some u → P u) → P u
-all_next P v us id u true is here more = subst P (same_some v u is) here
+all_next P v us id u true is here more = subst P (same_Some v u is) here
 all_next P v us id u false is here more = more is
 
 -- what holds of all holds of it

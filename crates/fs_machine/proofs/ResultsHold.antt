@@ -4,6 +4,7 @@ use Rattle.std.proofs.Common.{◌≡◌, ℕ, ℤ, ◌<ℤ◌, ◌≤ℤ◌, Boo
 use Rattle.std.specs.List.{filter, AllByRecursion, Contains}
 use Rattle.std.proofs.lemmas.Int.{ints}
 use Rattle.std.proofs.lemmas.List.Elements.{All-contains, All-from_recursion}
+use Rattle.std.proofs.lemmas.Option.{same_Some}
 use Rattle.fs_history.specs.History.{whole}
 use Rattle.fs_history.specs.declared.batch.Batch.{Batch}
 use Rattle.fs_status.specs.declared.refusal.Refusal.{Refusal}
@@ -24,7 +25,7 @@ use Rattle.fs_machine.specs.UnreleasedRise.{RiseFrom, UnreleasedRise}
 use Rattle.fs_machine.specs.declared.unreleased.Unreleased.{Unreleased}
 use Rattle.fs_machine.proofs.Behind.{IsFree, none_any}
 use Rattle.fs_machine.proofs.Moved.{moved}
-use Rattle.fs_machine.proofs.Pending.{number_found, pending_found, same_some}
+use Rattle.fs_machine.proofs.Pending.{number_found, pending_found}
 
 -- ---- what other commits leave of the names of some writes
 
@@ -59,7 +60,7 @@ none_before (u ∷ us) from last time above within =
 -- those before it write none of its names
 all_apart_next : (v : Unreleased) (us : List Unreleased) (id : ℕ) (u : Unreleased) (c : Unreleased) (b : Bool) → cond b (Some v) (pending_in id us) ≡ Some u → IsApartFrom c.batch v.batch
     → (pending_in id us ≡ Some u → IsApartFrom c.batch u.batch) → IsApartFrom c.batch u.batch
-all_apart_next v us id u c true is here more = subst (λ (x : Unreleased). IsApartFrom c.batch x.batch) (same_some v u is) here
+all_apart_next v us id u c true is here more = subst (λ (x : Unreleased). IsApartFrom c.batch x.batch) (same_Some v u is) here
 all_apart_next v us id u c false is here more = more is
 
 pub found_apart : (us : List Unreleased) (id : ℕ) (u c : Unreleased) → pending_in id us ≡ Some u → AllByRecursion (IsApartFrom c.batch) (batches us) → IsApartFrom c.batch u.batch
@@ -76,7 +77,7 @@ free_before_next : (v : Unreleased) (us : List Unreleased) (id : ℕ) (u : Unrel
     → (pending_in id us ≡ Some u → AllByRecursion (IsFree u.batch.writes) (batches (filter (is_before u.batch.time) us)))
     → AllByRecursion (IsFree u.batch.writes) (batches (filter (is_before u.batch.time) (v ∷ us)))
 free_before_next v us id u last true here is pending above all more =
-    let same = same_some v u is in
+    let same = same_Some v u is in
     let rest : filter (is_before u.batch.time) us ≡ [] = none_before us v.batch.time last u.batch.time above (subst (λ (x : Unreleased). x.batch.time ≤ℤ v.batch.time) same (omega (arith, ints))) in
     let itself : is_before u.batch.time v ≡ false = subst (λ (x : Unreleased). is_before u.batch.time x ≡ false) (sym same) (pending_not_before u.batch.time u pending) in
     rw (itself, rest) tt
@@ -126,7 +127,7 @@ results_prepared p u none all = results_more p.unreleased u (whole p.history) no
 accepted_next : (v : Unreleased) (us : List Unreleased) (id : ℕ) (u : Unreleased) (docs : Docs) (results : List WriteResult) (b : Bool) → cond b (Some v) (pending_in id us) ≡ Some u
     → AreResultsOf docs u.batch (Some results) → HasResults docs v → AllByRecursion (HasResults docs) us → (pending_in id us ≡ Some u → AllByRecursion (HasResults docs) (accepted_in id results us))
     → AllByRecursion (HasResults docs) (cond b (record v { results = Some results } ∷ us) (v ∷ accepted_in id results us))
-accepted_next v us id u docs results true is has here all more = (subst (λ (x : Unreleased). AreResultsOf docs x.batch (Some results)) (sym (same_some v u is)) has, all)
+accepted_next v us id u docs results true is has here all more = (subst (λ (x : Unreleased). AreResultsOf docs x.batch (Some results)) (sym (same_Some v u is)) has, all)
 accepted_next v us id u docs results false is has here all more = (here, more is)
 
 results_accepted : (us : List Unreleased) (id : ℕ) (u : Unreleased) (docs : Docs) (results : List WriteResult) → pending_in id us ≡ Some u → AreResultsOf docs u.batch (Some results)

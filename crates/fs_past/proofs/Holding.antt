@@ -20,7 +20,8 @@ use Rattle.fs_past.specs.declared.accepted.Accepted.{Accepted}
 use Rattle.fs_past.specs.declared.holds.Holds.{Holds}
 use Rattle.fs_past.specs.Kept.{AreHeld, AreNumbered, HoldLess, Stands, is_late, writes_name}
 use Rattle.fs_past.proofs.Naming.{turned}
-use Rattle.fs_past.proofs.OnBoard.{Posted1, not_here, not_later}
+use Rattle.fs_board.proofs.Keeping.{not_behind, not_there}
+use Rattle.fs_past.proofs.OnBoard.{Posted1}
 
 -- the names of writes are those that they write
 pub in_written : (n : DocName) (ws : List Write) → is_in n (map written_name ws) ≡ is_written n ws
@@ -41,8 +42,8 @@ writes_it i n c = c.id == i && is_written n c.asked.batch.writes
 none_writes : (i : ℕ) (n : DocName) (cs : List Posted1) → HasNo i cs → writes_name i n cs ≡ false
 none_writes i n [] none = refl
 none_writes i n (c ∷ cs) none =
-    ap (λ b. (b && is_written n c.asked.batch.writes) || writes_name i n cs) (not_here (c.id == i) c.time (time_in i cs) none)
-    ∙ none_writes i n cs (not_later (c.id == i) c.time (time_in i cs) none)
+    ap (λ b. (b && is_written n c.asked.batch.writes) || writes_name i n cs) (not_there (c.id == i) c.time (time_in i cs) none)
+    ∙ none_writes i n cs (not_behind (c.id == i) c.time (time_in i cs) none)
 
 -- ---- an id holds nothing more
 

@@ -8,6 +8,7 @@ use Rattle.std.proofs.lemmas.List.{map-append}
 use Rattle.std.proofs.lemmas.List.Sums.{sum_by-cons, sum_by_push}
 use Rattle.fs_board.specs.Board.{Commit, HasNo, accepted_with, asked_in, asked_pending, free_to as board_free_to, next_pending_in, pending_in as board_pending, time_in, without}
 use Rattle.fs_board.specs.Rising.{Differ}
+use Rattle.fs_board.proofs.Keeping.{not_behind, not_there}
 use Rattle.fs_history.specs.Bytes.{batch_size}
 use Rattle.fs_machine.specs.declared.unreleased.Unreleased.{Unreleased}
 use Rattle.fs_machine.specs.IdsAreDrawn.{times_in}
@@ -38,14 +39,6 @@ abbrev pub Found : Bool → Option Unreleased → Option Unreleased → Type 0
 Found true asked found = (u : Unreleased) × (asked ≡ Some u) × (found ≡ Some u)
 Found false asked found = found ≡ None
 
-pub not_here : (b : Bool) (t : ℤ) (rest : Option ℤ) → cond b (Some t) rest ≡ None → b ≡ false
-not_here true t rest e = absurd (cc)
-not_here false t rest e = refl
-
-pub not_later : (b : Bool) (t : ℤ) (rest : Option ℤ) → cond b (Some t) rest ≡ None → rest ≡ None
-not_later true t rest e = absurd (cc)
-not_later false t rest e = e
-
 number_test : (n m id : ℕ) (b : Bool) → n ≡ m → (m == id) ≡ b → (n == id) ≡ b
 number_test n m id b same is = ap (λ k. k == id) same ∙ is
 
@@ -53,8 +46,8 @@ number_test n m id b same is = ap (λ k. k == id) same ∙ is
 none_is_it : (docs : Docs) (cs : List Posted1) (id : ℕ) → AllByRecursion (Stands docs) cs → HasNo id cs → pending_in id (all_unreleased cs) ≡ None
 none_is_it docs [] id stand none = refl
 none_is_it docs (c ∷ cs) id stand none =
-    let other = number_test c.asked.batch.id c.id id false stand.0.id (not_here (c.id == id) c.time (time_in id cs) none) in
-    rw other (none_is_it docs cs id stand.1 (not_later (c.id == id) c.time (time_in id cs) none))
+    let other = number_test c.asked.batch.id c.id id false stand.0.id (not_there (c.id == id) c.time (time_in id cs) none) in
+    rw other (none_is_it docs cs id stand.1 (not_behind (c.id == id) c.time (time_in id cs) none))
 
 found_here : (u : Unreleased) (o : Option Accepted) (id : ℕ) (us : List Unreleased) (t : Bool) → t ≡ true → u.results ≡ None → pending_in id us ≡ None
     → Found (is_none o) (Some u) (cond (t && is_pending (with_brought u o)) (Some (with_brought u o)) (pending_in id us))

@@ -1,7 +1,9 @@
 pub mod Bools
+pub mod Elements
 pub mod Orders
 pub mod Segments
 pub mod Reserved
+pub mod Results
 pub mod PathOrder
 pub mod NameTexts
 pub mod Refusals

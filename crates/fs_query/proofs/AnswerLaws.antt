@@ -26,7 +26,8 @@ use Rattle.fs_query.specs.Normal.{whole_order}
 use Rattle.fs_query.proofs.CursorLaws.{beside_document, behind_started, first_true, second_true}
 use Rattle.fs_query.proofs.Foremost.{told, keeps_sorted}
 use Rattle.fs_query.proofs.OrderLaws.{orders_total, tells_names, name_is_ordered}
-use Rattle.fs_query.proofs.Rising.{has_none, has_first, has_later, has_cases, has_kept, has_taken, has_left, keeps, all_of, rise_kept, rise_taken, rise_left, rise_rest, rise_behind, first_below, front_below, only_one, in_rise_rises, from_rise, to_rise, not_below_itself, not_both_below}
+use Rattle.fs_path.proofs.Elements.{has_first, has_later}
+use Rattle.fs_query.proofs.Rising.{has_none, has_cases, has_kept, has_taken, has_left, keeps, all_of, rise_kept, rise_taken, rise_left, rise_rest, rise_behind, first_below, front_below, only_one, in_rise_rises, from_rise, to_rise, not_below_itself, not_both_below}
 use Rattle.fs_path.proofs.Orders.{less_is}
 
 -- the order of a query's documents

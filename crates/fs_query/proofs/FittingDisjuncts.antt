@@ -25,13 +25,9 @@ use Rattle.fs_query.specs.Normal.{is_inequality, alternatives, products, conjunc
 use Rattle.fs_query.specs.declared.op.Op.{Op}
 use Rattle.fs_query.specs.declared.op.Op.TheVariants as op
 use Rattle.fs_query.proofs.OrderFields.{order_fields}
-use Rattle.std.proofs.Math.Bool.{or-false}
+use Rattle.std.proofs.Math.Bool.{and-true, or-false}
 
 -- ---- truth values
-
-and_true : (a : Bool) → (a && true) ≡ a
-and_true true = refl
-and_true false = refl
 
 and_false : (a : Bool) → false ≡ (a && false)
 and_false true = refl
@@ -40,7 +36,7 @@ and_false false = refl
 -- g && m where m needs g
 alone_by : (g m : Bool) → (g && m) ≡ m → (((g && true) && (m && true)) || false) ≡ m
 alone_by g m h =
-    or-false ((g && true) && (m && true)) ∙ (λ i. and_true g i && and_true m i) ∙ h
+    or-false ((g && true) && (m && true)) ∙ (λ i. and-true g i && and-true m i) ∙ h
 
 and_across : (a b c d : Bool) → ((a && b) && (c && d)) ≡ ((a && c) && (b && d))
 and_across true true c d = refl
@@ -158,7 +154,7 @@ in_met : (d : Document) (p : FieldPath) (ws : List Data) (o : Option Data) → v
 in_met d p [] None e = refl
 in_met d p [] (Some v) e = refl
 in_met d p (w ∷ ws) None e = (λ i. (passes (λ v. same v w) (e i) && true) || in_met d p ws None e i)
-in_met d p (w ∷ ws) (Some v) e = (λ i. (passes (λ x. same x w) (e i) && true) || in_met d p ws (Some v) e i) ∙ ap (λ b. b || array_contains ws v) (and_true (same v w))
+in_met d p (w ∷ ws) (Some v) e = (λ i. (passes (λ x. same x w) (e i) && true) || in_met d p ws (Some v) e i) ∙ ap (λ b. b || array_contains ws v) (and-true (same v w))
 
 any_met : (d : Document) (p : FieldPath) (ws : List Data) (o : Option Data) → value_at p d ≡ o
     → list_any (met d) (map (λ c. c ∷ []) (map (compared p op.ArrayContains) ws)) ≡ passes (λ v. list_any (λ w. array_contains (elements v) w) ws) o
@@ -167,7 +163,7 @@ any_met d p [] (Some v) e = refl
 any_met d p (w ∷ ws) None e = (λ i. (passes (λ v. array_contains (elements v) w) (e i) && true) || any_met d p ws None e i)
 any_met d p (w ∷ ws) (Some v) e =
     (λ i. (passes (λ x. array_contains (elements x) w) (e i) && true) || any_met d p ws (Some v) e i)
-    ∙ ap (λ b. b || list_any (λ y. array_contains (elements v) y) ws) (and_true (array_contains (elements v) w))
+    ∙ ap (λ b. b || list_any (λ y. array_contains (elements v) y) ws) (and-true (array_contains (elements v) w))
 
 any_passes : (ws : List Data) (o : Option Data) → passes (λ v. list_any (λ w. array_contains (elements v) w) ws) o ≡ passes (λ v. one_is_among (elements v) ws) o
 any_passes ws None = refl

@@ -14,6 +14,7 @@ use Rattle.fs_value.specs.Data.{reference}
 use Rattle.fs_value.specs.FieldPaths.{get_fields}
 use Rattle.fs_value.specs.declared.document.Document.{Document}
 use Rattle.std.specs.Prelude.{Some}
+use Rattle.std.proofs.Math.Bool.{and-true}
 use Rattle.fs_query.specs.Asked.{Asked}
 use Rattle.fs_query.specs.Condition.{Condition, anything, compared, is_null, is_not_null, all_of, any_of, Conditions, no_more, one_more}
 use Rattle.fs_query.specs.Field.{name_parts, name_path, is_name, value_at}
@@ -39,10 +40,6 @@ and_swap true true c = refl
 and_swap true false c = refl
 and_swap false true c = refl
 and_swap false false c = refl
-
-and_true : (a : Bool) → (a && true) ≡ a
-and_true true = refl
-and_true false = refl
 
 -- ---- equal paths lead to one value
 
@@ -109,7 +106,7 @@ joining_here d os (p ∷ ps) all = joining_here_by d os p ps (joins os p) refl a
 -- ---- the inequalities of a filter
 
 compared_here : (d : Document) (p : FieldPath) (b : Bool) → all_here d (cond b (p ∷ []) []) ≡ (not b || here d p)
-compared_here d p true = and_true (here d p)
+compared_here d p true = and-true (here d p)
 compared_here d p false = refl
 
 mutual
@@ -117,7 +114,7 @@ mutual
   inequalities_here anything d = refl
   inequalities_here (compared p op v) d = compared_here d p (is_inequality op)
   inequalities_here (is_null p) d = refl
-  inequalities_here (is_not_null p) d = and_true (here d p)
+  inequalities_here (is_not_null p) d = and-true (here d p)
   inequalities_here (all_of cs) d = inequalities_all_here cs d
   inequalities_here (any_of cs) d = inequalities_all_here cs d
 
@@ -139,7 +136,7 @@ joined_here : (q : Asked) (d : Document) → list_all (has_field d) q.orders ≡
 joined_here q d all =
     list_all-append (has_field d) (map (joined q) (joining q)) (cond (is_ordered q.orders name_path) [] (joined q name_path ∷ []))
     ∙ ap (λ b. list_all (has_field d) (map (joined q) (joining q)) && b) (name_is_there q d (is_ordered q.orders name_path))
-    ∙ and_true (list_all (has_field d) (map (joined q) (joining q)))
+    ∙ and-true (list_all (has_field d) (map (joined q) (joining q)))
     ∙ list_all-map (has_field d) (joined q) (joining q)
     ∙ in_order_here d (filter (joins q.orders) (inequality_paths q.filter))
     ∙ joining_here d q.orders (inequality_paths q.filter) all

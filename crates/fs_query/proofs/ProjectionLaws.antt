@@ -16,7 +16,8 @@ use Rattle.fs_value.specs.Ordered.{is_ordered, members_ordered}
 use Rattle.fs_query.specs.Laws.{PathsAreKept, OthersAreLeftOut, NoMapIsLeftEmpty}
 use Rattle.fs_query.specs.Project.{ends_here, rest_behind, rests, if_any, kept_of, kept}
 use Rattle.fs_query.proofs.Projected.{AtMost, none, one, at_most_one, below_kept, first_true, second_true}
-use Rattle.fs_query.proofs.Rising.{has_first, has_later, has_cases, has_none}
+use Rattle.fs_path.proofs.Elements.{has_first, has_later}
+use Rattle.fs_query.proofs.Rising.{has_cases, has_none}
 use Rattle.fs_path.specs.TextOrder.{text_alike, text_is, text_itself}
 use Rattle.fs_value.proofs.PathLaws.{apart_below}
 

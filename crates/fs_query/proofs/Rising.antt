@@ -10,17 +10,12 @@ use Rattle.std.proofs.lemmas.Cmp.{tied_itself}
 use Rattle.std.proofs.lemmas.List.{take-append-drop}
 use Rattle.std.proofs.lemmas.List.Elements.{All-contains, All-from_recursion, Contains-append_left, Contains-append_right}
 use Rattle.std.proofs.lemmas.List.Sorted.{sorted_far, ranks_by}
+use Rattle.fs_path.proofs.Elements.{has_first, has_later}
 use Rattle.fs_query.specs.AnswerTo.{put_in, in_rise}
 
 -- ---- the elements of a list
 
 module _ {X : Type 0} where
-  pub has_first : (x : X) (xs : List X) → Contains (x ∷ xs) x
-  has_first x xs = (0, omega arith, refl)
-
-  pub has_later : (x : X) (xs : List X) (y : X) → Contains xs y → Contains (x ∷ xs) y
-  has_later x xs y h = (suc h.0, omega (arith, h.1), h.2)
-
   has_cases_at : (x : X) (xs : List X) (y : X) (k : ℕ) → k < length (x ∷ xs) → get_or (x ∷ xs) k y ≡ y → (x ≡ y) ⊎ Contains xs y
   has_cases_at x xs y zero l e = inl e
   has_cases_at x xs y (suc k) l e = inr (k, omega arith, e)

@@ -2,7 +2,7 @@
 use Rattle.std.proofs.Common.{◌≡◌, ℕ, Bool, true, false, cond, List, [], ◌∷◌, ◌++◌, Some, subst, suc, zero}
 use Rattle.std.specs.Prelude.{remove, slice_get}
 use Rattle.std.specs.List.{filter, AllByRecursion}
-use Rattle.fs_machine.proofs.Pending.{same_some}
+use Rattle.std.proofs.lemmas.Option.{same_Some}
 
 module _ {A : Type 0} (P : A → Type 0) where
   filtered_next : (f : A → Bool) (x : A) (xs : List A) (b : Bool) → P x → AllByRecursion P (filter f xs) → AllByRecursion P (cond b (x ∷ filter f xs) (filter f xs))
@@ -25,5 +25,5 @@ module _ {A : Type 0} (P : A → Type 0) where
 
   pub all_at : (xs : List A) (place : ℕ) (x : A) → slice_get xs place ≡ Some x → AllByRecursion P xs → P x
   all_at [] place x is all = absurd (cc)
-  all_at (y ∷ xs) zero x is all = subst P (same_some y x is) all.0
+  all_at (y ∷ xs) zero x is all = subst P (same_Some y x is) all.0
   all_at (y ∷ xs) (suc place) x is all = all_at xs place x is all.1

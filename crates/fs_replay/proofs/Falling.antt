@@ -19,7 +19,7 @@ use Rattle.fs_machine.specs.Settle.{accepted_in, decided_if, decided_with, dropp
 use Rattle.fs_machine.specs.State.{Machine}
 use Rattle.fs_machine.specs.declared.parked_request.ParkedRequest.{ParkedRequest}
 use Rattle.fs_machine.specs.declared.unreleased.Unreleased.{Unreleased}
-use Rattle.fs_machine.proofs.Pending.{number_found}
+use Rattle.fs_machine.proofs.Pending.{number_found, pending_it}
 use Rattle.fs_replay.specs.Played.{nothing, followed_by}
 use Rattle.fs_replay.specs.Settling.{did_something, emptied, left_to_do, place_after, settles, settles_if, settles_next, tries, tries_all, tries_from, tries_if, tries_it, turn, waits_on}
 use Rattle.fs_replay.specs.declared.state.State.{State}
@@ -65,14 +65,11 @@ next_is_pending p id e = next_is_found p.unreleased id e
 
 -- ---- a commit is settled
 
-it_is_pending : (id : ℕ) (u : Unreleased) → is_it id u ≡ true → is_pending u ≡ true
-it_is_pending id u is = grind (arith, nat_tests)
-
 accepted_next : (u : Unreleased) (us : List Unreleased) (id : ℕ) (results : List WriteResult) (v : Unreleased) (b : Bool) → is_it id u ≡ b → cond b (Some u) (pending_in id us) ≡ Some v
     → (pending_in id us ≡ Some v → pending_among (accepted_in id results us) + 1 ≡ pending_among us)
     → pending_among (cond b (record u { results = Some results } ∷ us) (u ∷ accepted_in id results us)) + 1 ≡ pending_among (u ∷ us)
 accepted_next u us id results v true here is more =
-    let before = counted_as u us true (it_is_pending id u here) in
+    let before = counted_as u us true (pending_it id u here) in
     let after = counted_as (record u { results = Some results }) us false refl in
     omega (arith, before, after)
 accepted_next u us id results v false here is more =
@@ -89,7 +86,7 @@ dropped_next : (u : Unreleased) (us : List Unreleased) (id : ℕ) (v : Unrelease
     → (pending_in id us ≡ Some v → pending_among (dropped_from id us) + 1 ≡ pending_among us)
     → pending_among (cond b us (u ∷ dropped_from id us)) + 1 ≡ pending_among (u ∷ us)
 dropped_next u us id v true here is more =
-    let before = counted_as u us true (it_is_pending id u here) in
+    let before = counted_as u us true (pending_it id u here) in
     omega (arith, before)
 dropped_next u us id v false here is more =
     let before = counted u us in

@@ -37,11 +37,6 @@ nothing_between given (x ∷ out) rest total told none =
     let some = nothing_behind given ((x ∷ out) ++ rest) total told none in
     absurd (cc)
 
--- a fact that holds anyhow holds at an error
-pub on_err_anyhow : {T E P : Type 0} (r : Result T E) → P → OnErr r P
-on_err_anyhow (Ok x) p = tt
-on_err_anyhow (Err e) p = p
-
 -- what was given so far is a front of the whole piece
 pub gained_front : (a b c : Option (List ℕ)) (x rest piece : List ℕ) → Gained a b x → piece ≡ x ++ rest → c ≡ b → GainedFront a c piece
 gained_front a b c x rest piece gained is same = (length x, same ∙ gained ∙ ap (λ bytes. option_map (λ had. had ++ bytes) a) (sym (ap (take (length x)) is ∙ take-append_seam x rest)))

@@ -6,6 +6,7 @@ use Rattle.std.specs.Str.{bytes_eq}
 use Rattle.std.proofs.lemmas.Bool.{eq-eqb, or_left, or_right}
 use Rattle.std.proofs.lemmas.Bool.Decides.{nat_tests}
 use Rattle.std.proofs.lemmas.List.Folds.{list_any-append}
+use Rattle.std.proofs.lemmas.Option.{same_Some}
 use Rattle.fs_machine.specs.Leave.{of_others}
 use Rattle.fs_machine.specs.Sessions.{without as without_session}
 use Rattle.fs_machine.specs.SessionsNumbered.{NumbersRise}
@@ -22,12 +23,9 @@ use Rattle.fs_replay.specs.declared.directory.Named.{Named}
 abbrev pub has_number : ℕ → List Named → Bool
 has_number number ns = list_any (λ n. n.number == number) ns
 
-same_some : (a b : ℕ) → Some a ≡ Some b → a ≡ b
-same_some a b e = cc
-
 known_next : (n : Named) (ns : List Named) (name : List ℕ) (number : ℕ) (b : Bool) → cond b (Some n.number) (number_of name ns) ≡ Some number → (number_of name ns ≡ Some number → has_number number ns ≡ true)
     → has_number number (n ∷ ns) ≡ true
-known_next n ns name number true e more = or_left (n.number == number) (has_number number ns) (eq-eqb n.number number (same_some n.number number e))
+known_next n ns name number true e more = or_left (n.number == number) (has_number number ns) (eq-eqb n.number number (same_Some n.number number e))
 known_next n ns name number false e more = or_right (n.number == number) (has_number number ns) (more e)
 
 -- a name's number is in the directory
@@ -120,7 +118,7 @@ below_apart a b below = grind (arith, nat_tests)
 
 found_next : (n : Named) (ns : List Named) (name : List ℕ) (number from : ℕ) (b : Bool) → from ≤ n.number → cond b (Some n.number) (number_of name ns) ≡ Some number
     → (number_of name ns ≡ Some number → n.number + 1 ≤ number) → from ≤ number
-found_next n ns name number from true first e more = let is = same_some n.number number e in omega (arith, first, is)
+found_next n ns name number from true first e more = let is = same_Some n.number number e in omega (arith, first, is)
 found_next n ns name number from false first e more = let rest = more e in omega (arith, first, rest)
 
 found_above : (ns : List Named) (name : List ℕ) (number from to : ℕ) → NumbersRise from to (numbers_in ns) → number_of name ns ≡ Some number → from ≤ number
@@ -132,7 +130,7 @@ departed_next : (n : Named) (ns : List Named) (s : Session) (ss : List Session) 
     → (number_of name ns ≡ Some number → numbers_in (without name ns) ≡ numbers_of (without_session number ss))
     → numbers_in (cond b ns (n ∷ without name ns)) ≡ numbers_of (without_session number (s ∷ ss))
 departed_next n ns s ss name number to true first rest rise e more =
-    let here : (s.number == number) ≡ true = eq-eqb s.number number (sym first ∙ same_some n.number number e) in
+    let here : (s.number == number) ≡ true = eq-eqb s.number number (sym first ∙ same_Some n.number number e) in
     rw here rest
 departed_next n ns s ss name number to false first rest rise e more =
     let above : s.number + 1 ≤ number = found_above ns name number (s.number + 1) to rise e in

@@ -2,6 +2,7 @@
 use Rattle.std.proofs.Common.{◌≡◌, ℕ, ℤ, Bool, true, false, List, [], ◌∷◌, ◌++◌, Option, Some, None, Result, Ok, Err, refl, sym, ap, ◌∙◌, subst, cond, arith, suc, take, get_or, length, ◌-◌, ◌<◌}
 use Rattle.std.specs.Prelude.{IsSome, int_lt, map}
 use Rattle.std.proofs.Math.Seq.{take-length, take-suc}
+use Rattle.std.proofs.lemmas.Option.{same_Some}
 use Rattle.fs_rpc.specs.MessageJson.{refused}
 use Rattle.fs_status.specs.declared.refusal.Refusal.{Refusal}
 use Rattle.fs_write.specs.Batch.{Docs}
@@ -37,15 +38,12 @@ pub taken_back_last : (ns : List ℕ) (n : ℕ) (ss : List Session) → all_take
 taken_back_last [] n ss = refl
 taken_back_last (x ∷ ns) n ss = ap (taken_back x) (taken_back_last ns n ss)
 
-same_some : (x y : ℕ) → Some x ≡ Some y → x ≡ y
-same_some x y e = cc
-
 -- a list is what is left of it and its last
 pub popped : (xs : List ℕ) (len x : ℕ) → length xs ≡ len → 0 < len → Some x ≡ Some (get_or xs (len - 1) 0) → take (len - 1) xs ++ x ∷ [] ≡ xs
 popped xs len x is some last =
     let within : len - 1 < length xs = omega (arith, is, some) in
     let whole : suc (len - 1) ≡ length xs = omega (arith, is, some) in
-    ap (λ y. take (len - 1) xs ++ y ∷ []) (same_some x (get_or xs (len - 1) 0) last)
+    ap (λ y. take (len - 1) xs ++ y ∷ []) (same_Some x (get_or xs (len - 1) 0) last)
     ∙ sym (take-suc xs (len - 1) 0 within)
     ∙ ap (λ n. take n xs) whole
     ∙ take-length xs

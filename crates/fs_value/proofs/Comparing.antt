@@ -1,10 +1,11 @@
 -- Lists compared place by place.
 use Rattle.std.proofs.Common.{◌≡◌, ℕ, zero, suc, ◌<◌, ◌+◌, Bool, true, false, List, [], ◌∷◌, drop, length, Option, Some, None, option_map, Ordering, Less, Equal, Greater, refl, sym, ap, ◌∙◌, subst, arith}
-use Rattle.std.specs.Prelude.{min, not, ◌==◌, IsTrue, slice_get, unwrap_or}
+use Rattle.std.specs.Prelude.{min, not, ◌==◌, IsTrue, slice_get}
 use Rattle.std.specs.Ordering.{nat_cmp, ordering_index, ordering_then, is_eq}
 use Rattle.std.specs.Cmp.{Equal-is}
 use Rattle.std.proofs.lemmas.Bool.Decides.{nat_tests}
 use Rattle.std.proofs.lemmas.Cmp.{is_eq_index}
+use Rattle.std.proofs.lemmas.Option.{same_Some}
 use Rattle.fs_path.specs.TextOrder.{text_cmp}
 use Rattle.fs_value.specs.Data.{Data, items_of, members_of}
 use Rattle.fs_value.specs.ValueOrder.{value_cmp, items_cmp, members_cmp}
@@ -21,23 +22,20 @@ then_tied Less rest h = absurd (cc)
 then_tied Equal rest h = refl
 then_tied Greater rest h = absurd (cc)
 
-some_same : {X : Type 0} (x y : X) → Some x ≡ Some y → x ≡ y
-some_same x y e = ap (λ o. unwrap_or o x) e
-
 drop_next : {X : Type 0} (xs : List X) (i : ℕ) (x : X) → slice_get xs i ≡ Some x → drop i xs ≡ x ∷ drop (i + 1) xs
 drop_next [] i x is = absurd (cc)
-drop_next (y ∷ xs) zero x is = ap (λ z. z ∷ xs) (some_same y x is)
+drop_next (y ∷ xs) zero x is = ap (λ z. z ∷ xs) (same_Some y x is)
 drop_next (y ∷ xs) (suc i) x is =
     let e : suc i + 1 ≡ suc (i + 1) = omega arith in
     subst (λ (n : ℕ). drop i xs ≡ x ∷ drop n (y ∷ xs)) (sym e) (drop_next xs i x is)
 
 keyed : {A B : Type 0} (o : Option (A × B)) (a : A) → option_map (λ p. p.0) o ≡ Some a → (b : B) × (o ≡ Some (a, b))
 keyed None a e = absurd (cc)
-keyed (Some p) a e = (p.1, λ i. Some (some_same p.0 a e i, p.1))
+keyed (Some p) a e = (p.1, λ i. Some (same_Some p.0 a e i, p.1))
 
 paired : {A B : Type 0} (o : Option (A × B)) (a : A) (b : B) → option_map (λ p. p.0) o ≡ Some a → option_map (λ p. p.1) o ≡ Some b → o ≡ Some (a, b)
 paired None a b e f = absurd (cc)
-paired (Some p) a b e f = λ i. Some (some_same p.0 a e i, some_same p.1 b f i)
+paired (Some p) a b e f = λ i. Some (same_Some p.0 a e i, same_Some p.1 b f i)
 
 -- the comparison of two lists goes on at i
 abbrev pub ItemsFrom : List Data → List Data → ℕ → Type 0

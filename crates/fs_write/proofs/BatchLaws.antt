@@ -23,7 +23,8 @@ use Rattle.fs_write.specs.declared.write.Write.{Write}
 use Rattle.fs_write.specs.declared.write_result.WriteResult.{WriteResult}
 use Rattle.fs_write.proofs.StageChanges.{unchanged_itself}
 use Rattle.fs_write.proofs.Stages.{get-with_document, all_refused}
-use Rattle.fs_write.proofs.WriteLaws.{law_deleted, later_one, first_one}
+use Rattle.fs_path.proofs.Elements.{has_first, has_later}
+use Rattle.fs_write.proofs.WriteLaws.{law_deleted}
 
 -- ---- what a result has
 
@@ -152,8 +153,8 @@ all_alike [] docs other rs t p agree is =
     let same = same_ok (docs, rs) p is in
     (other, ap (λ (x : Docs × List WriteResult). Ok (other, x.1)) same, λ q e. ap (λ (x : Docs × List WriteResult). get x.0 q) (sym same) ∙ e)
 all_alike (w ∷ ws) docs other rs t p agree is =
-    next_alike w ws docs other rs t p (λ x at. agree x (later_one w ws x at)) (λ x y qs agreed h. all_alike ws x y qs t p agreed h) (one_write (get docs (written_name w)) w t) (one_write (get other (written_name w)) w t)
-    (ap (λ o. one_write o w t) (sym (agree w (first_one w ws)))) is
+    next_alike w ws docs other rs t p (λ x at. agree x (has_later w ws x at)) (λ x y qs agreed h. all_alike ws x y qs t p agreed h) (one_write (get docs (written_name w)) w t) (one_write (get other (written_name w)) w t)
+    (ap (λ o. one_write o w t) (sym (agree w (has_first w ws)))) is
 
 next_refused : (w : Write) (ws : List Write) (docs other : Docs) (rs : List WriteResult) (t : ℤ) (e : Refusal) → Agree ws docs other
     → ((x y : Docs) (qs : List WriteResult) → Agree ws x y → all_writes (Ok (x, qs)) ws t ≡ Err e → all_writes (Ok (y, qs)) ws t ≡ Err e)
@@ -167,8 +168,8 @@ next_refused w ws docs other rs t e agree more (Ok done) s same is =
 refused_alike : (ws : List Write) (docs other : Docs) (rs : List WriteResult) (t : ℤ) (e : Refusal) → Agree ws docs other → all_writes (Ok (docs, rs)) ws t ≡ Err e → all_writes (Ok (other, rs)) ws t ≡ Err e
 refused_alike [] docs other rs t e agree is = absurd (cc)
 refused_alike (w ∷ ws) docs other rs t e agree is =
-    next_refused w ws docs other rs t e (λ x at. agree x (later_one w ws x at)) (λ x y qs agreed h. refused_alike ws x y qs t e agreed h) (one_write (get docs (written_name w)) w t) (one_write (get other (written_name w)) w t)
-    (ap (λ o. one_write o w t) (sym (agree w (first_one w ws)))) is
+    next_refused w ws docs other rs t e (λ x at. agree x (has_later w ws x at)) (λ x y qs agreed h. refused_alike ws x y qs t e agreed h) (one_write (get docs (written_name w)) w t) (one_write (get other (written_name w)) w t)
+    (ap (λ o. one_write o w t) (sym (agree w (has_first w ws)))) is
 
 next_untouched : (w : Write) (ws : List Write) (docs : Docs) (rs : List WriteResult) (t : ℤ) (p : Docs × List WriteResult) (q : DocName) → is_at (name_cmp (written_name w)) q ≡ false
     → ((x : Docs) (qs : List WriteResult) → all_writes (Ok (x, qs)) ws t ≡ Ok p → get p.0 q ≡ get x q)
@@ -193,7 +194,7 @@ next_agrees w ws docs other q false here more ties is = more is
 written_agrees : (ws : List Write) (docs other : Docs) (q : DocName) → Agree ws docs other → is_written q ws ≡ true → get docs q ≡ get other q
 written_agrees [] docs other q agree is = absurd (cc)
 written_agrees (w ∷ ws) docs other q agree is =
-    next_agrees w ws docs other q (is_at (name_cmp (written_name w)) q) (agree w (first_one w ws)) (λ h. written_agrees ws docs other q (λ x at. agree x (later_one w ws x at)) h) refl is
+    next_agrees w ws docs other q (is_at (name_cmp (written_name w)) q) (agree w (has_first w ws)) (λ h. written_agrees ws docs other q (λ x at. agree x (has_later w ws x at)) h) refl is
 
 pub no_change : (q : DocName) (o : Option Document) → change_of q o o ≡ None
 no_change q o = ap (λ b. cond b None (Some (record { name = q; before = o; after = o }))) (unchanged_itself o)

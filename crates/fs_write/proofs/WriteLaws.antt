@@ -4,6 +4,7 @@ use Rattle.std.specs.Prelude.{IsTrue, ◌≢◌, nat_lt, unwrap_or}
 use Rattle.std.proofs.lemmas.Bool.{or_parts}
 use Rattle.std.proofs.lemmas.Bool.Decides.{nat_tests}
 use Rattle.std.specs.List.{Contains, list_any, starts_with}
+use Rattle.fs_path.proofs.Elements.{has_first, has_later}
 use Rattle.fs_path.specs.TextOrder.{text_eq}
 use Rattle.fs_path.specs.declared.field.FieldPath.{FieldPath}
 use Rattle.fs_path.specs.declared.name.DocName.{DocName}
@@ -197,12 +198,6 @@ apart_from p (x ∷ ps) h q (suc k, within, is) = apart_from p ps (or_parts (ove
 turned_apart : (p q : List (List ℕ)) → IsApart p q → IsApart q p
 turned_apart p q h = (h.1, h.0)
 
-pub later_one : {A : Type 0} (x : A) (xs : List A) (y : A) → Contains xs y → Contains (x ∷ xs) y
-later_one x xs y (k, within, is) = (suc k, omega arith, is)
-
-pub first_one : {A : Type 0} (x : A) (xs : List A) → Contains (x ∷ xs) x
-first_one x xs = (0, omega arith, refl)
-
 module _ (set_there : (p : List (List ℕ)) (v : Data) (fs : List (List ℕ × Data)) → 0 < length p → get_fields p (set_fields p v fs) ≡ Some v)
     (unset_gone : (p : List (List ℕ)) (fs : List (List ℕ × Data)) → get_fields p (unset_fields p fs) ≡ None)
     (set_apart : (p q : List (List ℕ)) (v : Data) (fs : List (List ℕ × Data)) → IsApart p q → get_fields q (set_fields p v fs) ≡ get_fields q fs)
@@ -218,8 +213,8 @@ module _ (set_there : (p : List (List ℕ)) (v : Data) (fs : List (List ℕ × D
   pub law_unmasked : (mask : List FieldPath) (input fs : List (List ℕ × Data)) (q : List (List ℕ)) → ((p : FieldPath) → Contains mask p → IsApart p.parts q) → get_fields q (merged mask input fs) ≡ get_fields q fs
   law_unmasked [] input fs q apart = refl
   law_unmasked (p ∷ ps) input fs q apart =
-      law_unmasked ps input (with_field p.parts (get_fields p.parts input) fs) q (λ x at. apart x (later_one p ps x at))
-      ∙ field_apart p.parts q (get_fields p.parts input) fs (apart p (first_one p ps))
+      law_unmasked ps input (with_field p.parts (get_fields p.parts input) fs) q (λ x at. apart x (has_later p ps x at))
+      ∙ field_apart p.parts q (get_fields p.parts input) fs (apart p (has_first p ps))
 
   pub law_masked : (mask : List FieldPath) (input fs : List (List ℕ × Data)) (p : FieldPath) → some_overlap mask ≡ false → Contains mask p → get_fields p.parts (merged mask input fs) ≡ get_fields p.parts input
   law_masked [] input fs p alone at = absurd (omega (arith, at.1))

@@ -1,17 +1,18 @@
 use Rattle.std.proofs.Common.{◌++◌, ap, ◌∙◌, arith}
-use Rattle.fs_replay.proofs.Flow.{gained_as_front, gained_front_more, gained_more, gained_whole, gained_front_whole, nothing_behind, nothing_between, on_err_anyhow, on_true, on_false}
+use Rattle.fs_path.proofs.Results.{at_err}
+use Rattle.fs_replay.proofs.Flow.{gained_as_front, gained_front_more, gained_more, gained_whole, gained_front_whole, nothing_behind, nothing_between, on_true, on_false}
 use Rattle.fs_replay.proofs.Written.{told_line, told_given}
 use Rattle.fs_replay.proofs.play.play_on.Goals as goal
 
 pub returns-in_err-carry_out-clause-err : goal.returns-in_err-carry_out-clause-err
 returns-in_err-carry_out-clause-err g c =
     let inv = c.lines.invariant in
-    on_err_anyhow _ (gained_as_front _ _ inv.0 _ _ inv.1.gained inv.1.told)
+    at_err _ (gained_as_front _ _ inv.0 _ _ inv.1.gained inv.1.told)
 
 pub returns-in_err-carry_last-clause-err : goal.returns-in_err-carry_last-clause-err
 returns-in_err-carry_last-clause-err g c =
     let inv = c.lines.invariant in
-    on_err_anyhow _ (gained_as_front _ _ inv.0 _ _ inv.1.gained inv.1.told)
+    at_err _ (gained_as_front _ _ inv.0 _ _ inv.1.gained inv.1.told)
 
 pub returns-then-not-pass_on-clause-failed : goal.returns-then-not-pass_on-clause-failed
 returns-then-not-pass_on-clause-failed g c =

@@ -7,7 +7,7 @@ use Rattle.fs_replay.specs.Gathering.{status_of}
 use Rattle.fs_replay.specs.Moved.{Gained, GainedFront}
 use Rattle.fs_replay.specs.Transcript.{played, transcript}
 use Rattle.fs_replay.specs.Limits.{longest_input}
-use Rattle.fs_replay.proofs.Flow.{on_err_anyhow}
+use Rattle.fs_path.proofs.Results.{at_err}
 use Rattle.fs_replay.proofs.Ending.{if_taken, if_all_taken, front_of_transcript, wrote_here, ended_whole, ended_full}
 use Rattle.fs_replay.proofs.Written.{played_nothing}
 use Rattle.fs_replay.proofs.script.replay_all.Goals as goal
@@ -18,7 +18,7 @@ returns-in_err-play-clause-err g c =
     let b = g.K.Sink.given c.play.new.sink in
     let bytes = c.in_ok-input.input.bytes.items in
     let part = front_of_transcript c.args.config c.args.limits a b c.is_whole.result c.deref.result.now c.in_err-play.ensures.err in
-    on_err_anyhow _ (if_taken _ _ bytes (λ taken. GainedFront a b (transcript c.args.config c.args.limits taken)) c.in_ok-input.ensures.taken (subst (λ s. GainedFront a b (transcript c.args.config c.args.limits s)) c.deref.ensures.value part))
+    at_err _ (if_taken _ _ bytes (λ taken. GainedFront a b (transcript c.args.config c.args.limits taken)) c.in_ok-input.ensures.taken (subst (λ s. GainedFront a b (transcript c.args.config c.args.limits s)) c.deref.ensures.value part))
 
 pub returns-then-not-branch-clause-written : goal.returns-then-not-branch-clause-written
 returns-then-not-branch-clause-written g c =

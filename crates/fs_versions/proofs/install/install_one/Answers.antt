@@ -2,11 +2,12 @@ use Rattle.std.proofs.Common.{rules, ◌≡◌, ◌++◌, ◌∷◌, [], sym, ap
 use Rattle.std.specs.Prelude.{unwrap_or}
 use Rattle.fs_history.specs.declared.version.Version.{Version}
 use Rattle.std.specs.Prelude.{List}
+use Rattle.fs_path.proofs.Results.{at_err}
 use Rattle.fs_path.specs.declared.name.DocName.{DocName}
 use Rattle.fs_versions.specs.Chained.{Chained}
 use Rattle.fs_versions.specs.Rising.{AreBefore}
 use Rattle.fs_versions.specs.Sound.{Puts, chain_in, found}
-use Rattle.fs_versions.proofs.TreeLaws.{at_err, chain_or, one_changed, same_chains}
+use Rattle.fs_versions.proofs.TreeLaws.{chain_or, one_changed, same_chains}
 use Rattle.fs_versions.proofs.install.install_one.Goals as goal
 
 pub returns-in_err-reserve-clause-err : goal.returns-in_err-reserve-clause-err

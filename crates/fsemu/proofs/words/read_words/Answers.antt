@@ -1,19 +1,16 @@
-use Rattle.std.proofs.Common.{◌∙◌, map, string_bytes, Result, Ok, Err, OnErr, sym, subst}
+use Rattle.std.proofs.Common.{◌∙◌, map, string_bytes, sym, subst}
+use Rattle.fs_path.proofs.Results.{at_err}
 use Rattle.fsemu.specs.Words.{AreAllowed, IsCommand, IsReplay}
 use Rattle.fsemu.specs.Reader.{found_by, options_by}
 use Rattle.fsemu.proofs.Allowed.{all_allowed}
 use Rattle.fsemu.proofs.Readings.{sound, only, refused}
 use Rattle.fsemu.proofs.words.read_words.Goals as goal
 
-whatever : {A E : Type 0} (r : Result A E) (P : Type 0) → P → OnErr r P
-whatever (Ok a) P p = tt
-whatever (Err e) P p = p
-
 pub returns-in_err-options-in-Some-clause-err : goal.returns-in_err-options-in-Some-clause-err
 returns-in_err-options-in-Some-clause-err c =
     let is : IsCommand (map string_bytes c.args.words.now) =
     record { options = options_by (found_by c.in-Some.given); asks = sound _ _ (sym c.in-Some.ensures) } in
-    whatever _ _ is
+    at_err _ is
 
 pub returns-in_ok-options-in-Some-clause-some : goal.returns-in_ok-options-in-Some-clause-some
 returns-in_ok-options-in-Some-clause-some c =
