@@ -13,6 +13,6 @@ pub use batch::Batch;
 pub use journal::Journal;
 pub use laws::histories_are_lawful;
 pub use read::{Read, Reads};
-pub use sizes::{batch_size, commit_size};
+pub use sizes::{all_shown, batch_size, commit_size, shown_size};
 pub use touch::touches;
 pub use version::Version;

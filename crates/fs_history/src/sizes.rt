@@ -41,7 +41,8 @@ fn documents_size(documents: &Documents) -> u128
     all
 }
 
-fn shown_size(read: &Read) -> u128
+/// What the documents count that a read showed, in bytes. A number that no `u128` holds is told as the greatest.
+pub fn shown_size(read: &Read) -> u128
     ensures { result ≡ min (shown_size_of read.now) (2 ^ 128 - 1) }
 {
     match read {
@@ -54,7 +55,8 @@ fn shown_size(read: &Read) -> u128
     }
 }
 
-fn all_shown(reads: &Reads) -> u128
+/// What the documents count that these reads showed, in bytes. A number that no `u128` holds is told as the greatest.
+pub fn all_shown(reads: &Reads) -> u128
     ensures { result ≡ min (sum_by shown_size_of reads.now) (2 ^ 128 - 1) }
 {
     let mut size: u128 = 0;

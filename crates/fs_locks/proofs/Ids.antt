@@ -58,7 +58,7 @@ rest_next ids rest id by r same = record {
   others = λ j apart h. later j id (has j rest) (is_at (nat_cmp j) id) refl (λ is. apart (is ∙ same)) (r.others j apart h);
 }
 
-itself : (id : ℕ) → is_at (nat_cmp id) id ≡ true
+pub itself : (id : ℕ) → is_at (nat_cmp id) id ≡ true
 itself id = (Equal-is _).1 (tied_itself nat_cmp_total id)
 
 below : (id j : ℕ) → nat_cmp id j ≡ Less → id ≤ j
@@ -120,7 +120,7 @@ module _ (P Q R : ℕ → Type 0) (from_first : (j : ℕ) → P j → R j) (from
   both_least x y a b true le = of_first x a (λ j q apart. let far = b.least j q apart in let near = leb-true x y le in omega arith)
   both_least x y a b false le = of_second y b (λ j p apart. let far = a.least j p apart in let near = leb-false x y le in omega arith)
 
-  least_both : (a b : Option ℕ) → IsLeastOther P by a → IsLeastOther Q by b → IsLeastOther R by (lesser_of a b)
+  pub least_both : (a b : Option ℕ) → IsLeastOther P by a → IsLeastOther Q by b → IsLeastOther R by (lesser_of a b)
   least_both None None first second = λ j r. parts j (j ≡ by) r (first j) (second j)
   least_both None (Some y) first second = of_second y second (λ j p apart. absurd (apart (first j p)))
   least_both (Some x) None first second = of_first x first (λ j q apart. absurd (apart (second j q)))

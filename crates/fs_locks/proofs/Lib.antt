@@ -1,5 +1,12 @@
+pub mod Above
+pub mod Conflicts
+pub mod Cuts
+pub mod Entries
 pub mod Holding
 pub mod Ids
+pub mod Indexed
 pub mod Searching
+pub mod TextMaps
+pub mod Touches
 pub mod Trees
 pub mod Views

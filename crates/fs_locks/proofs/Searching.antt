@@ -14,21 +14,21 @@ use Rattle.fs_path.specs.Scope.{covers}
 use Rattle.fs_path.specs.declared.name.DocName.{DocName}
 use Rattle.fs_path.specs.declared.scope.Scope.{Scope}
 use Rattle.fs_locks.specs.Holds.{IsLeastOther, lesser_of}
-use Rattle.fs_locks.specs.Tree.{Tree, has, held, found, HoldsIn}
+use Rattle.fs_locks.specs.Tree.{Tree, has, found, HoldsIn}
 use Rattle.fs_locks.proofs.Ids.{either, least_or}
 
 -- ---- one of several names
 
-pub among_more : (tree : Tree) (names : List DocName) (k : ℕ) (name : DocName) (by : ℕ) (a b : Option ℕ) → k < length names → name ≡ get_or names k name
-    → IsLeastOther (λ i. IsTrue (list_any (held tree i) (take k names))) by a → IsLeastOther (λ i. IsTrue (held tree i name)) by b
-    → IsLeastOther (λ i. IsTrue (list_any (held tree i) (take (k + 1) names))) by (lesser_of a b)
-among_more tree names k name by a b within is =
-    least_or (λ i. list_any (held tree i) (take k names)) (λ i. held tree i name) (λ i. list_any (held tree i) (take (k + 1) names)) by a b
-    (λ i. list_any_more (held tree i) names k name within ∙ ap (λ (x : DocName). list_any (held tree i) (take k names) || held tree i x) (sym is))
+pub among_more : (test : ℕ → DocName → Bool) (names : List DocName) (k : ℕ) (name : DocName) (by : ℕ) (a b : Option ℕ) → k < length names → name ≡ get_or names k name
+    → IsLeastOther (λ i. IsTrue (list_any (test i) (take k names))) by a → IsLeastOther (λ i. IsTrue (test i name)) by b
+    → IsLeastOther (λ i. IsTrue (list_any (test i) (take (k + 1) names))) by (lesser_of a b)
+among_more test names k name by a b within is =
+    least_or (λ i. list_any (test i) (take k names)) (λ i. test i name) (λ i. list_any (test i) (take (k + 1) names)) by a b
+    (λ i. list_any_more (test i) names k name within ∙ ap (λ (x : DocName). list_any (test i) (take k names) || test i x) (sym is))
 
-pub among_all : (tree : Tree) (names : List DocName) (k : ℕ) (by : ℕ) (a : Option ℕ) → length names ≤ k → IsLeastOther (λ i. IsTrue (list_any (held tree i) (take k names))) by a
-    → IsLeastOther (λ i. IsTrue (list_any (held tree i) names)) by a
-among_all tree names k by a over h = subst (λ ns. IsLeastOther (λ i. IsTrue (list_any (held tree i) ns)) by a) (take_all k names over) h
+pub among_all : (test : ℕ → DocName → Bool) (names : List DocName) (k : ℕ) (by : ℕ) (a : Option ℕ) → length names ≤ k → IsLeastOther (λ i. IsTrue (list_any (test i) (take k names))) by a
+    → IsLeastOther (λ i. IsTrue (list_any (test i) names)) by a
+among_all test names k by a over h = subst (λ ns. IsLeastOther (λ i. IsTrue (list_any (test i) ns)) by a) (take_all k names over) h
 
 -- ---- a name in a scope
 
@@ -95,7 +95,7 @@ out_scope scope tree (e ∷ es) i all h =
     (e.0, first_so (covers scope e.0) (has i e.1) so, ap (λ o. has i (unwrap_or o [])) (all 0 e (omega arith)) ∙ second_so (covers scope e.0) (has i e.1) so))
     (out_scope scope tree es i (All-tail (λ e. found e.0 tree ≡ Some e.1) e es all))
 
-same_property : (P Q : ℕ → Type 0) (by : ℕ) (a : Option ℕ) → ((i : ℕ) → P i → Q i) → ((i : ℕ) → Q i → P i) → IsLeastOther P by a → IsLeastOther Q by a
+pub same_property : (P Q : ℕ → Type 0) (by : ℕ) (a : Option ℕ) → ((i : ℕ) → P i → Q i) → ((i : ℕ) → Q i → P i) → IsLeastOther P by a → IsLeastOther Q by a
 same_property P Q by None to from h = λ j q. h j (from j q)
 same_property P Q by (Some x) to from h = record { other = h.other; has = to x h.has; least = λ j q apart. h.least j (from j q) apart }
 

@@ -12,7 +12,7 @@ use std::alloc::{AllocError, Global};
 use std::collections::BTreeMap;
 
 // Puts in a hold. Where memory runs out, the name may stand there with nobody that holds it.
-fn put(
+pub(crate) fn put(
     alloc: Global,
     tree: &mut BTreeMap<DocName, Holders>,
     name: &DocName,
@@ -45,7 +45,7 @@ pub(crate) fn put_all(
 }
 
 // Takes out a hold, and the name with it where nobody holds it any more.
-fn take(tree: &mut BTreeMap<DocName, Holders>, name: &DocName, id: Id)
+pub(crate) fn take(tree: &mut BTreeMap<DocName, Holders>, name: &DocName, id: Id)
     ensures { HasLess tree.old.entries tree.new.entries id (name.now ∷ []) }
 {
     let Some(holders) = tree.get_mut(name) else {

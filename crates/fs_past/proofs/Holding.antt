@@ -60,8 +60,8 @@ less_late true late w = refl
 less_late false late w = refl
 
 -- what is held of what other commits write
-held_less : (old new : Holds) (id i : ℕ) (n : DocName) (was is : Bool) → HoldLess old new id → (not (i == id) && was) ≡ is → is_held old.locks i n ≡ (not (is_late old.late i) && was)
-    → is_held new.locks i n ≡ (not (is_late new.late i) && is)
+held_less : (old new : Holds) (id i : ℕ) (n : DocName) (was is : Bool) → HoldLess old new id → (not (i == id) && was) ≡ is → is_held old.locks.exclusive i n ≡ (not (is_late old.late i) && was)
+    → is_held new.locks.exclusive i n ≡ (not (is_late new.late i) && is)
 held_less old new id i n was is less left held =
     less.locks i n
     ∙ ap (λ b. not (i == id) && b) held
@@ -156,7 +156,7 @@ none_at_all (x ∷ xs) = none_at_all xs
 
 module _ (holds : Holds) (cs : List Posted1) (held : AreHeld holds cs) (ws : List Write) (i : ℕ) where
   covered_by : (late : Bool) → is_late holds.late i ≡ late
-      → list_any (λ w. writes_name i (written_name w) cs) ws ≡ (list_any (λ w. is_held holds.locks i (written_name w)) ws || (late && list_any (λ w. writes_name i (written_name w) cs) ws))
+      → list_any (λ w. writes_name i (written_name w) cs) ws ≡ (list_any (λ w. is_held holds.locks.exclusive i (written_name w)) ws || (late && list_any (λ w. writes_name i (written_name w) cs) ws))
   covered_by true is =
       sym (ap (λ b. b || list_any (λ w. writes_name i (written_name w) cs) ws)
       (ap (λ p. list_any p ws) (λ k w. (held i (written_name w) ∙ ap (λ b. not b && writes_name i (written_name w) cs) is) k) ∙ none_at_all ws))
@@ -165,7 +165,7 @@ module _ (holds : Holds) (cs : List Posted1) (held : AreHeld holds cs) (ws : Lis
       ∙ or-false (list_any (λ w. writes_name i (written_name w) cs) ws))
 
   pub covered : list_any (λ w. writes_name i (written_name w) cs) ws
-      ≡ (list_any (λ w. is_held holds.locks i (written_name w)) ws || (is_late holds.late i && list_any (λ w. writes_name i (written_name w) cs) ws))
+      ≡ (list_any (λ w. is_held holds.locks.exclusive i (written_name w)) ws || (is_late holds.late i && list_any (λ w. writes_name i (written_name w) cs) ws))
   covered = covered_by (is_late holds.late i) refl
 
 -- the one that is late is none of them, where it writes none of the names

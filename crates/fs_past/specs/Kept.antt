@@ -79,11 +79,11 @@ is_late (Some id) i = i == id
 
 -- each holds the names that it writes, but for one that is late, and nothing else is held
 abbrev pub AreHeld : Holds → List (Commit Unreleased Accepted) → Type 0
-AreHeld holds cs = (i : ℕ) (n : DocName) → is_held holds.locks i n ≡ (not (is_late holds.late i) && writes_name i n cs)
+AreHeld holds cs = (i : ℕ) (n : DocName) → is_held holds.locks.exclusive i n ≡ (not (is_late holds.late i) && writes_name i n cs)
 
 -- an id holds nothing any more, and isn't late
 pub record HoldLess (old new : Holds) (id : ℕ) : Type 0 where
-  pub locks : (i : ℕ) (n : DocName) → is_held new.locks i n ≡ (not (i == id) && is_held old.locks i n)
+  pub locks : (i : ℕ) (n : DocName) → is_held new.locks.exclusive i n ≡ (not (i == id) && is_held old.locks.exclusive i n)
   pub late : (i : ℕ) → is_late new.late i ≡ (not (i == id) && is_late old.late i)
 
 -- an id holds a name that one of these writes

@@ -41,7 +41,7 @@ impl Holds {
 
     /// Nothing is held. The allocator serves the holds that come.
     pub(crate) fn new(alloc: Global) -> Holds
-        ensures held { result.locks ≡ [] }
+        ensures held { result.locks.exclusive ≡ [] }
         ensures late { result.late ≡ None }
     {
         Holds {
@@ -155,7 +155,7 @@ fn hold_written(
     id: Id,
     writes: &[Write],
 ) -> Result<(), AllocError>
-    ensures ok { OnOk result ((i : ℕ) (n : DocName) → is_held locks.new i n ≡ (is_held locks.old i n || (i == id && is_written n writes.now))) }
+    ensures ok { OnOk result ((i : ℕ) (n : DocName) → is_held locks.new.exclusive i n ≡ (is_held locks.old.exclusive i n || (i == id && is_written n writes.now))) }
     ensures err { OnErr result (locks.new ≡ locks.old) }
 {
     let names = names_of(alloc, writes)?;
@@ -170,7 +170,7 @@ fn hold(
     id: Id,
 ) -> Result<(), AllocError>
     requires { Differ board.now.commits }
-    ensures ok { OnOk result ((i : ℕ) (n : DocName) → is_held locks.new i n ≡ (is_held locks.old i n || (i == id && writes_name id n board.now.commits))) }
+    ensures ok { OnOk result ((i : ℕ) (n : DocName) → is_held locks.new.exclusive i n ≡ (is_held locks.old.exclusive i n || (i == id && writes_name id n board.now.commits))) }
     ensures err { OnErr result (locks.new ≡ locks.old) }
 {
     match board.asked(id) {
@@ -181,7 +181,7 @@ fn hold(
 
 // The least id other than `by` that holds a name which one of these writes.
 fn first_holder(locks: &Locks, writes: &[Write], by: Id) -> Option<Id>
-    ensures { IsLeastOther (HoldsWritten locks.now writes.now) by result }
+    ensures { IsLeastOther (HoldsWritten locks.now.exclusive writes.now) by result }
 {
     let mut first = None;
     for write in writes {

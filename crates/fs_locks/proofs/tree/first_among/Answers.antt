@@ -9,8 +9,8 @@ use Rattle.fs_locks.proofs.tree.first_among.Goals as goal
 pub loop-name-preserved : goal.loop-name-preserved
 loop-name-preserved c =
     subst (λ (first : Option ℕ). IsLeastOther (λ i. IsTrue (list_any (held c.args.tree.now.entries i) (take (c.loop-name.name-index + 1) c.args.names.now))) c.args.by first) (sym c.lesser-first.ensures)
-    (among_more c.args.tree.now.entries c.args.names.now c.loop-name.name-index c.name-item.result c.args.by c.loop-name.first c.first_at.result (omega arith) c.name-item.is
+    (among_more (held c.args.tree.now.entries) c.args.names.now c.loop-name.name-index c.name-item.result c.args.by c.loop-name.first c.first_at.result (omega arith) c.name-item.is
     c.loop-name.invariant c.first_at.ensures)
 
 pub returns : goal.returns
-returns c = among_all c.args.tree.now.entries c.args.names.now c.loop-name.name-index c.args.by c.loop-name.first (omega arith) c.loop-name.invariant
+returns c = among_all (held c.args.tree.now.entries) c.args.names.now c.loop-name.name-index c.args.by c.loop-name.first (omega arith) c.loop-name.invariant

@@ -7,5 +7,5 @@ use Rattle.fs_past.proofs.holds.first_holder.Goals as goal
 
 pub returns : goal.returns
 returns c =
-    subst (λ (ws : List Write). IsLeastOther (HoldsWritten c.args.locks.now ws) c.args.by c.loop-write.first)
+    subst (λ (ws : List Write). IsLeastOther (HoldsWritten c.args.locks.now.exclusive ws) c.args.by c.loop-write.first)
     (take_all c.loop-write.write-index c.args.writes.now c.loop-write-test.false) c.loop-write.invariant

@@ -15,7 +15,7 @@ returns-in-Some-clause-ok c =
     let at : asked_in c.args.id cs ≡ Some c.in-Some.commit.now = sym c.asked.ensures ∙ ap option_copied c.in-Some.is in
     on_ok_weaker c.hold_written.result
     (λ more i n.
-    more i n ∙ ap (λ b. is_held c.args.locks.now i n || (i == c.args.id && b))
+    more i n ∙ ap (λ b. is_held c.args.locks.now.exclusive i n || (i == c.args.id && b))
     (ap (is_written n) c.as_slice.ensures ∙ sym (writes_own cs c.args.id c.in-Some.commit.now n c.requires at)))
     c.hold_written.ensures.ok
 
@@ -23,6 +23,6 @@ pub returns-in-None-clause-ok : goal.returns-in-None-clause-ok
 returns-in-None-clause-ok c = λ i n.
     let cs = c.args.board.now.commits in
     let none : asked_in c.args.id cs ≡ None = sym c.asked.ensures ∙ ap option_copied c.in-None.is in
-    sym (ap (λ b. is_held c.args.locks.now i n || (i == c.args.id && b)) (writes_nothing cs c.args.id n none)
-    ∙ ap (λ b. is_held c.args.locks.now i n || b) (and-false (i == c.args.id))
-    ∙ or-false (is_held c.args.locks.now i n))
+    sym (ap (λ b. is_held c.args.locks.now.exclusive i n || (i == c.args.id && b)) (writes_nothing cs c.args.id n none)
+    ∙ ap (λ b. is_held c.args.locks.now.exclusive i n || b) (and-false (i == c.args.id))
+    ∙ or-false (is_held c.args.locks.now.exclusive i n))

@@ -9,6 +9,6 @@ pub returns-clause-ok : goal.returns-clause-ok
 returns-clause-ok c =
     on_ok_weaker c.hold_exclusive.result
     (λ more i n.
-    more i n ∙ ap (λ b. is_held c.args.locks.now i n || (i == c.args.id && b))
+    more i n ∙ ap (λ b. is_held c.args.locks.now.exclusive i n || (i == c.args.id && b))
     (ap (is_in n) c.in_ok-names.ensures ∙ in_written n c.args.writes.now))
     c.hold_exclusive.ensures.ok

@@ -14,6 +14,6 @@ returns c =
     let ws = c.args.writes.now in
     let holds = c.args.self.now in
     subst (IsLeastOther (λ i. IsTrue (list_any (λ w. writes_name i (written_name w) cs) ws)) c.args.by) (sym c.lesser.ensures)
-    (least_or (λ i. list_any (λ w. is_held holds.locks i (written_name w)) ws) (λ i. is_late holds.late i && list_any (λ w. writes_name i (written_name w) cs) ws)
+    (least_or (λ i. list_any (λ w. is_held holds.locks.exclusive i (written_name w)) ws) (λ i. is_late holds.late i && list_any (λ w. writes_name i (written_name w) cs) ws)
     (λ i. list_any (λ w. writes_name i (written_name w) cs) ws) c.args.by c.first_holder.result c.late_behind.result (covered holds cs c.requires.held ws)
     c.first_holder.ensures c.late_behind.ensures)
