@@ -1,3 +1,4 @@
+pub mod Batches
 pub mod Behind
 pub mod FloorIsReleased
 pub mod Grows
@@ -12,6 +13,7 @@ pub mod Refused
 pub mod ReleasedOnce
 pub mod Reordered
 pub mod Replies
+pub mod ReadsHold
 pub mod ResultsHold
 pub mod Retried
 pub mod Runs

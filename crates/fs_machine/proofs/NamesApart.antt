@@ -1,7 +1,6 @@
 -- No two commits that aren't released write one name, still, after each event.
 use Rattle.std.proofs.Common.{ℕ, Bool, true, false, cond, List, [], ◌∷◌, ◌++◌, Result, Ok, Err, sym, subst}
 use Rattle.std.specs.List.{AllByRecursion}
-use Rattle.fs_history.specs.declared.batch.Batch.{Batch}
 use Rattle.fs_status.specs.declared.refusal.Refusal.{Refusal}
 use Rattle.fs_write.specs.Batch.{Docs}
 use Rattle.fs_write.specs.declared.write_result.WriteResult.{WriteResult}
@@ -12,32 +11,19 @@ use Rattle.fs_machine.specs.Release.{past_released}
 use Rattle.fs_machine.specs.Settle.{dropped_from, is_it, past_decided}
 use Rattle.fs_machine.specs.UnreleasedRise.{UnreleasedRise}
 use Rattle.fs_machine.specs.declared.unreleased.Unreleased.{Unreleased}
+use Rattle.fs_machine.proofs.Batches.{all_dropped, all_more}
 use Rattle.fs_machine.proofs.Behind.{IsFree}
 use Rattle.fs_machine.proofs.Moved.{moved}
 use Rattle.fs_machine.proofs.Pending.{same_batches}
 
--- one that comes behind
-all_more : (b : Batch) (us : List Unreleased) (u : Unreleased) → AllByRecursion (IsApartFrom b) (batches us) → IsApartFrom b u.batch → AllByRecursion (IsApartFrom b) (batches (us ++ u ∷ []))
-all_more b [] u all is = (is, tt)
-all_more b (v ∷ us) u all is = (all.0, all_more b us u all.1 is)
-
 apart_more : (us : List Unreleased) (u : Unreleased) → AreApart (batches us) → AllByRecursion (IsFree u.batch.writes) (batches us) → AreApart (batches (us ++ u ∷ []))
 apart_more [] u apart free = (tt, tt)
-apart_more (v ∷ us) u apart free = (all_more v.batch us u apart.0 free.0, apart_more us u apart.1 free.1)
+apart_more (v ∷ us) u apart free = (all_more (IsApartFrom v.batch) us u apart.0 free.0, apart_more us u apart.1 free.1)
 
 pub names_prepared : (p : Past) (u : Unreleased) → AllByRecursion (IsFree u.batch.writes) (batches p.unreleased) → NamesApart p → NamesApart (past_prepared p u)
 names_prepared p u free apart = apart_more p.unreleased u apart free
 
 -- one that is dropped
-all_dropped_next : (P : Batch → Type 0) (v : Unreleased) (us : List Unreleased) (id : ℕ) (b : Bool) → P v.batch → AllByRecursion P (batches us) → AllByRecursion P (batches (dropped_from id us))
-    → AllByRecursion P (batches (cond b us (v ∷ dropped_from id us)))
-all_dropped_next P v us id true here all more = all
-all_dropped_next P v us id false here all more = (here, more)
-
-all_dropped : (P : Batch → Type 0) (us : List Unreleased) (id : ℕ) → AllByRecursion P (batches us) → AllByRecursion P (batches (dropped_from id us))
-all_dropped P [] id all = tt
-all_dropped P (v ∷ us) id all = all_dropped_next P v us id (is_it id v) all.0 all.1 (all_dropped P us id all.1)
-
 apart_dropped_next : (v : Unreleased) (us : List Unreleased) (id : ℕ) (b : Bool) → AllByRecursion (IsApartFrom v.batch) (batches us) → AreApart (batches us) → AreApart (batches (dropped_from id us))
     → AreApart (batches (cond b us (v ∷ dropped_from id us)))
 apart_dropped_next v us id true all apart more = apart

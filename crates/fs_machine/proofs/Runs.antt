@@ -36,6 +36,7 @@ use Rattle.fs_machine.proofs.Grows.{grows_on, grows_released, grows_same}
 use Rattle.fs_machine.proofs.HistoryRises.{history_released}
 use Rattle.fs_machine.proofs.IdsAreDrawn.{fewer_decided, fewer_departed, fewer_released, fewer_retried, fewer_unparked, ids_fewer, ids_parked, ids_prepared, ids_unused}
 use Rattle.fs_machine.proofs.NamesApart.{names_decided, names_prepared, names_released}
+use Rattle.fs_machine.proofs.ReadsHold.{nothing_read, reads_decided, reads_prepared, reads_released}
 use Rattle.fs_machine.proofs.ResultsHold.{results_decided, results_prepared, results_released}
 use Rattle.fs_machine.proofs.SessionsNumbered.{sessions_changed, sessions_departed, sessions_opened, sessions_told}
 use Rattle.fs_machine.proofs.UnreleasedRise.{unreleased_advanced, unreleased_decided, unreleased_prepared, unreleased_released}
@@ -43,7 +44,7 @@ use Rattle.fs_machine.proofs.UnreleasedRise.{unreleased_advanced, unreleased_dec
 -- ---- the start
 
 at_start : (start : ℤ) → PastFacts (past_from start)
-at_start start = record { history = record { rising = tt; ends = tt }; unreleased = omega (arith, ints); floor = omega (arith, ints); names = tt; results = tt }
+at_start start = record { history = record { rising = tt; ends = tt }; unreleased = omega (arith, ints); floor = omega (arith, ints); names = tt; results = tt; reads = record { serial = tt; shown = tt; spared = tt } }
 
 pub begins : (config : Config) (limits : Limits) (start : ℤ) → Facts (started config limits start)
 begins config limits start = record { past = at_start start; ids = λ id. (omega arith, λ above. refl); sessions = omega arith }
@@ -57,6 +58,7 @@ past_kept_at_release p facts = record {
   floor = floor_released p facts.unreleased facts.floor;
   names = names_released p facts.unreleased facts.names;
   results = results_released p facts.unreleased facts.names facts.results;
+  reads = reads_released p facts.unreleased facts.reads;
 }
 
 pub past_kept_at_deciding : (p : Past) (id : ℕ) (u : Unreleased) (r : Result (Docs × List WriteResult) Refusal) → pending_of p id ≡ Some u → outcome_of p u ≡ r → PastFacts p → PastFacts (past_decided p u r)
@@ -66,6 +68,7 @@ past_kept_at_deciding p id u (Ok done) is comes facts = record {
   floor = facts.floor;
   names = names_decided p u (Ok done) facts.names;
   results = results_decided p id u (Ok done) is comes facts.unreleased facts.names facts.results;
+  reads = reads_decided p u (Ok done) facts.reads;
 }
 past_kept_at_deciding p id u (Err refusal) is comes facts = record {
   history = facts.history;
@@ -73,6 +76,7 @@ past_kept_at_deciding p id u (Err refusal) is comes facts = record {
   floor = facts.floor;
   names = names_decided p u (Err refusal) facts.names;
   results = results_decided p id u (Err refusal) is comes facts.unreleased facts.names facts.results;
+  reads = reads_decided p u (Err refusal) facts.reads;
 }
 
 after_last : (t : ℤ) → t <ℤ (t +ℤ pos 1)
@@ -87,6 +91,7 @@ past_kept_prepared p r writes free facts =
       floor = facts.floor;
       names = names_prepared p u (free_behind_none p.unreleased writes free) facts.names;
       results = results_prepared p u refl facts.results;
+      reads = reads_prepared p u (nothing_read p [] refl) facts.reads;
     }
 
 pub past_kept_advanced : (p : Past) (now : ℤ) → PastFacts p → PastFacts (past_advanced p now)
@@ -96,6 +101,7 @@ past_kept_advanced p now facts = record {
   floor = facts.floor;
   names = facts.names;
   results = facts.results;
+  reads = facts.reads;
 }
 
 pub past_kept_compacted : (p : Past) (to : ℤ) → PastFacts p → PastFacts (past_compacted p to)
@@ -105,6 +111,7 @@ past_kept_compacted p to facts = record {
   floor = floor_compacted p to facts.floor;
   names = facts.names;
   results = facts.results;
+  reads = facts.reads;
 }
 
 -- ---- a commit comes, or is tried again

@@ -4,6 +4,7 @@ use Rattle.fs_machine.specs.HistoryRises.{HistoryRises}
 use Rattle.fs_machine.specs.IdsAreDrawn.{IdsAreDrawn}
 use Rattle.fs_machine.specs.NamesApart.{NamesApart}
 use Rattle.fs_machine.specs.Past.{Past}
+use Rattle.fs_machine.specs.ReadsHold.{ReadsHold}
 use Rattle.fs_machine.specs.ResultsHold.{ResultsHold}
 use Rattle.fs_machine.specs.SessionsNumbered.{SessionsNumbered}
 use Rattle.fs_machine.specs.State.{Machine}
@@ -16,6 +17,7 @@ pub record PastFacts (p : Past) : Type 0 where
   pub floor : FloorIsReleased p
   pub names : NamesApart p
   pub results : ResultsHold p
+  pub reads : ReadsHold p
 
 -- of a server
 pub record Facts (m : Machine) : Type 0 where

@@ -23,6 +23,7 @@ pub mod FloorIsReleased
 pub mod IdsAreDrawn
 pub mod NamesApart
 pub mod ResultsHold
+pub mod ReadsHold
 pub mod SessionsNumbered
 pub mod Facts
 pub mod Grows

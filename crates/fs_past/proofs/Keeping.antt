@@ -33,12 +33,14 @@ use Rattle.fs_machine.specs.Commit.{next_time, past_prepared}
 use Rattle.fs_machine.specs.Facts.{PastFacts}
 use Rattle.fs_machine.specs.IdsAreDrawn.{times_in}
 use Rattle.fs_machine.specs.Past.{Past, batches}
+use Rattle.fs_machine.specs.ReadsHold.{MayRead}
 use Rattle.fs_machine.specs.Release.{free_to, let_out, past_released}
 use Rattle.fs_machine.specs.Settle.{ComesTo, IsOutcomeOf, IsOutcomeOfPending, IsOutcomeOn, accepted_in, docs_for, dropped_from, pending_of}
 use Rattle.fs_machine.proofs.Behind.{free_behind_none}
 use Rattle.fs_machine.proofs.NamesApart.{apart_dropped, names_prepared}
 use Rattle.fs_machine.proofs.OutcomesStay.{found_of, outcome_alike}
 use Rattle.fs_machine.proofs.Pending.{number_found}
+use Rattle.fs_machine.proofs.ReadsHold.{reads_dropped, reads_prepared}
 use Rattle.fs_machine.proofs.ResultsHold.{docs_agree, results_dropped, results_prepared}
 use Rattle.fs_machine.proofs.Runs.{past_kept_advanced, past_kept_at_deciding, past_kept_at_release}
 use Rattle.fs_machine.proofs.UnreleasedRise.{rise_dropped, unreleased_prepared}
@@ -88,8 +90,8 @@ module _ (j : Recorded) (b : Posted Unreleased Accepted) (l : Holds) (s : Stored
     prepared_held : past_of j.history (board_prepared b u.batch.id u) s moment ≡ past_prepared held u
     prepared_held = λ i. record held { unreleased = unreleased_more more u more_is b.commits i; last = sym time_is i }
 
-    facts_prepared : behind p u.batch.writes ≡ None → PastFacts (past_prepared held u)
-    facts_prepared free =
+    facts_prepared : behind p u.batch.writes ≡ None → MayRead p u.batch.reads → PastFacts (past_prepared held u)
+    facts_prepared free reads =
         let later : b.last <ℤ u.batch.time = subst (λ t. b.last <ℤ t) (sym time_is) (omega (arith, ints)) in
         let apart = free_behind_none (all_unreleased b.commits) u.batch.writes (ap (λ q. behind q u.batch.writes) view ∙ free) in
         record {
@@ -98,14 +100,15 @@ module _ (j : Recorded) (b : Posted Unreleased Accepted) (l : Holds) (s : Stored
           floor = kept.facts.floor;
           names = names_prepared held u apart kept.facts.names;
           results = results_prepared held u (none_is u.results none) kept.facts.results;
+          reads = reads_prepared held u (subst (λ q. MayRead q u.batch.reads) (sym view) reads) kept.facts.reads;
         }
 
-    pub kept_prepared : behind p u.batch.writes ≡ None → HasNo u.batch.id b.commits → length b.commits + 1 ≤ k.room → (m : Holds) → m.late ≡ None → AreHeld m b.commits → (then : ℕ) → then ≡ bytes + batch_size u.batch
+    pub kept_prepared : behind p u.batch.writes ≡ None → MayRead p u.batch.reads → HasNo u.batch.id b.commits → length b.commits + 1 ≤ k.room → (m : Holds) → m.late ≡ None → AreHeld m b.commits → (then : ℕ) → then ≡ bytes + batch_size u.batch
         → IsKept k (board_prepared b u.batch.id u) (record m { late = Some u.batch.id }) s moment then
-    kept_prepared free fresh room m late holds then is =
+    kept_prepared free reads fresh room m late holds then is =
         let shape = length_more more u more_is b.commits in
         record {
-          facts = subst (λ h. PastFacts (past_of h (board_prepared b u.batch.id u) s moment)) (sym same) (subst PastFacts (sym prepared_held) (facts_prepared free));
+          facts = subst (λ h. PastFacts (past_of h (board_prepared b u.batch.id u) s moment)) (sym same) (subst PastFacts (sym prepared_held) (facts_prepared free reads));
           shows = subst (λ h. Shows h s) (sym same) kept.shows;
           stand = subst (λ h. AllByRecursion (Stands (whole h)) (b.commits ++ more ∷ [])) (sym same)
               (all_more (Stands (whole j.history)) b.commits more kept.stand (record { time = time_is; id = refl; pending = none_is u.results none; effects = tt }));
@@ -212,6 +215,7 @@ module _ (j : Recorded) (b : Posted Unreleased Accepted) (l : Holds) (s : Stored
         floor = kept.facts.floor;
         names = apart_dropped held.unreleased id kept.facts.names;
         results = results_dropped held.unreleased id (whole j.history) kept.facts.results;
+        reads = reads_dropped held id kept.facts.reads;
       }
 
       pub kept_dropped : (m : Holds) → HoldLess l m id → Differ b.commits → (left : ℕ) → left ≡ bytes_of (without id b.commits) → IsKept j dropped m s moment left

@@ -81,6 +81,7 @@ impl Past {
     ghost use Rattle.fs_machine.specs.Limits.{greatest};
     ghost use Rattle.fs_machine.specs.Past.{batches, past_from};
     ghost use Rattle.fs_machine.specs.Pending.{next_pending as next_in};
+    ghost use Rattle.fs_machine.specs.ReadsHold.{MayRead};
     ghost use Rattle.fs_machine.specs.Release.{let_out, past_released, reply_of};
     ghost use Rattle.fs_machine.specs.Settle.{ComesTo, accepted_in, dropped_from, pending_of};
     ghost use Rattle.fs_machine.specs.Tick.{past_advanced};
@@ -192,13 +193,14 @@ impl Past {
         self.holds.hold_all(alloc, &self.board)
     }
 
-    /// A commit is pending from now on, at the next time. It writes no name that a commit writes which isn't released. Where memory
-    /// runs out, nothing is changed.
+    /// A commit is pending from now on, at the next time. It writes no name that a commit writes which isn't released, and what its
+    /// transaction had read is released and written by none of those. Where memory runs out, nothing is changed.
     pub fn prepare(&mut self, alloc: Global, commit: Unreleased) -> Result<(), AllocError>
         requires pending { IsNone commit.results }
         requires time { commit.batch.time ≡ time_after self.old }
         requires fresh { times_in commit.batch.id (batches self.old.unreleased) ≡ 0 }
         requires free { behind self.old commit.batch.writes ≡ None }
+        requires reads { MayRead self.old commit.batch.reads }
         requires room { size_of self.old + bytes_of_batch commit.batch ≤ greatest.journal }
         ensures ok { OnOk result (self.new ≡ past_prepared self.old commit) }
         ensures err { OnErr result (self.new ≡ self.old) }

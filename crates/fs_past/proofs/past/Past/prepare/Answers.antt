@@ -21,7 +21,7 @@ invariant_of-self-2 c =
     subst (λ (h : Holds). IsKept c.reserve.new.self c.prepare.new.self h s.store.stored s.moment (s.waiting + c.bytes_in.result)) (sym (c.add.ensures ∙ ap (λ id. record c.hold_all.new.self { late = Some id }) c.id_of-id.ensures))
     (subst (λ b. IsKept c.reserve.new.self b (record c.hold_all.new.self { late = Some c.args.commit.batch.id }) s.store.stored s.moment (s.waiting + c.bytes_in.result))
     (sym (c.in_default-prepare.ensures.ok ∙ ap (λ id. prepared s.board id c.args.commit) c.id_of-id.ensures))
-    (kept_prepared s.journal s.board s.holds s.store.stored s.moment s.waiting c.self.invariant c.args.self.now c.self.view_is c.reserve.new.self c.in_ok-reserve.ensures.same c.args.commit c.requires.pending c.requires.time c.requires.free
+    (kept_prepared s.journal s.board s.holds s.store.stored s.moment s.waiting c.self.invariant c.args.self.now c.self.view_is c.reserve.new.self c.in_ok-reserve.ensures.same c.args.commit c.requires.pending c.requires.time c.requires.free c.requires.reads
     fresh room c.hold_all.new.self c.in_ok-hold_all.ensures.none c.in_ok-hold_all.ensures.held (s.waiting + c.bytes_in.result) exact))
 
 pub invariant_of-self-in-Err : goal.invariant_of-self-in-Err

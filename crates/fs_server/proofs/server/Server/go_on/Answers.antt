@@ -6,6 +6,7 @@ use Rattle.fs_machine.specs.Past.{batches}
 use Rattle.fs_machine.specs.State.{Machine}
 use Rattle.fs_machine.specs.declared.unreleased.Unreleased.{Unreleased}
 use Rattle.fs_machine.proofs.IdsAreDrawn.{fewer_retried, ids_fewer}
+use Rattle.fs_machine.proofs.ReadsHold.{nothing_read}
 use Rattle.fs_server.proofs.Numbers.{none_has}
 use Rattle.fs_server.proofs.server.Server.go_on.Goals as goal
 
@@ -16,6 +17,12 @@ prepare-requires-clause-fresh c =
     let here = ap (λ (m : Machine). slice_get m.parked c.args.place) (sym c.self.view_is) ∙ c.at.ensures in
     let number = ap (λ (u : Unreleased). u.batch.id) (c.in_ok-commit.ensures r here) in
     subst (λ n. times_in n (batches s.past.unreleased) ≡ 0) (sym number) (none_has s.past s.waiting c.args.place r s.numbers.ids c.self.invariant.drawn c.at.ensures)
+
+pub prepare-requires-clause-reads : goal.prepare-requires-clause-reads
+prepare-requires-clause-reads c =
+    let r = c.at.result.now in
+    let here = ap (λ (m : Machine). slice_get m.parked c.args.place) (sym c.self.view_is) ∙ c.at.ensures in
+    nothing_read c.self.inside.past c.in_ok-commit.commit.batch.reads (ap (λ (u : Unreleased). u.batch.reads) (c.in_ok-commit.ensures r here))
 
 pub invariant_of-self-2 : goal.invariant_of-self-2
 invariant_of-self-2 c =

@@ -2,7 +2,11 @@ use Rattle.std.proofs.Common.{◌≡◌, ◌+◌, sym, ap, ◌∙◌, subst}
 use Rattle.fs_machine.specs.IdsAreDrawn.{IdsAreDrawn}
 use Rattle.fs_machine.specs.declared.unreleased.Unreleased.{Unreleased}
 use Rattle.fs_machine.proofs.IdsAreDrawn.{ids_prepared}
+use Rattle.fs_machine.proofs.ReadsHold.{nothing_read}
 use Rattle.fs_server.proofs.server.Server.prepare.Goals as goal
+
+pub prepare-requires-clause-reads : goal.prepare-requires-clause-reads
+prepare-requires-clause-reads c = nothing_read c.self.inside.past c.in_ok-commit.commit.batch.reads (ap (λ (v : Unreleased). v.batch.reads) c.in_ok-commit.ensures)
 
 pub invariant_of-self-2 : goal.invariant_of-self-2
 invariant_of-self-2 c =
