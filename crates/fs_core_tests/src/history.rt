@@ -49,7 +49,7 @@ fn read_of_name(rt: &impl Abort, alloc: Global, text: &str) -> Read {
 }
 
 // `c/a=1` shows a document, `c/a=-` none, and `?c c/a c/b` is a query and the documents that it showed.
-fn read(rt: &impl Abort, alloc: Global, text: &str) -> Read {
+pub(crate) fn read(rt: &impl Abort, alloc: Global, text: &str) -> Read {
     match text.strip_prefix("?") {
         Some(text) => read_of_query(rt, alloc, text),
         None => read_of_name(rt, alloc, text),

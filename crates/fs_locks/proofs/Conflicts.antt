@@ -2,6 +2,7 @@
 use Rattle.std.proofs.Common.{◌≡◌, ℕ, ◌<◌, Bool, true, false, List, [], ◌∷◌, length, Option, inl, inr, refl, sym, ap, ◌∙◌}
 use Rattle.std.specs.Prelude.{◌||◌, IsTrue}
 use Rattle.std.specs.List.{list_any}
+use Rattle.std.proofs.Math.Bool.{or_assoc, or_comm}
 use Rattle.std.proofs.lemmas.Bool.{or_left, or_right}
 use Rattle.fs_path.specs.declared.name.DocName.{DocName}
 use Rattle.fs_locks.specs.Holds.{IsLeastOther, lesser_of}
@@ -18,13 +19,13 @@ use Rattle.fs_locks.proofs.Touches.{any_collection, any_group_above, any_group_h
 -- one of two tests passes for one of these, just where the one or the other passes for one
 any_or : (p q : Held → Bool) (hs : List Held) → list_any (λ h. p h || q h) hs ≡ (list_any p hs || list_any q hs)
 any_or p q [] = refl
-any_or p q (h ∷ hs) = ap (λ b. (p h || q h) || b) (any_or p q hs) ∙ mixed (p h) (q h) (list_any p hs) (list_any q hs)
-  where
-    mixed : (a b x y : Bool) → ((a || b) || (x || y)) ≡ ((a || x) || (b || y))
-    mixed true b x y = refl
-    mixed false true true y = refl
-    mixed false true false y = refl
-    mixed false false x y = refl
+any_or p q (h ∷ hs) =
+    let x = list_any p hs in
+    let y = list_any q hs in
+    ap (λ b. (p h || q h) || b) (any_or p q hs)
+    ∙ or_assoc (p h) (q h) (x || y)
+    ∙ ap (λ b. p h || b) (sym (or_assoc (q h) x y) ∙ ap (λ b. b || y) (or_comm (q h) x) ∙ or_assoc x (q h) y)
+    ∙ sym (or_assoc (p h) x (q h || y))
 
 module _ (index : Index) (shares : Shares) (n : DocName) (by : ℕ) (is : IsIndex index shares) where
   -- an id holds the name, or a collection, or a group

@@ -10,6 +10,7 @@ use Rattle.std.specs.Ordering.{nat_cmp, is_lt, ordering_reverse}
 use Rattle.std.specs.declared.cmp.Ordering.TheVariants.{Less}
 use Rattle.std.proofs.lemmas.Cmp.{eq_by_cmp_equiv, nat_cmp_total, tied_itself}
 use Rattle.std.proofs.lemmas.Bool.{eqb-false, eqb-true, leb-true, leb-false, not-false, not-true, or_left, or_right}
+use Rattle.std.proofs.lemmas.Bool.Decides.{nat_tests}
 use Rattle.std.proofs.lemmas.Map.Keys.{ge_from_not_lt}
 use Rattle.fs_locks.specs.Holds.{IsLeast, IsLeastOther, lesser_of}
 use Rattle.fs_locks.specs.Tree.{has}
@@ -139,3 +140,11 @@ least_or p q r by a b is first second =
     (λ i h. is i ∙ or_right (p i) (q i) h)
     (λ i Z h f g. either (p i) (q i) Z (sym (is i) ∙ h) f g)
     by a b first second
+
+-- ---- tests of two ids
+
+pub same_id : (a b : ℕ) → (a == b) ≡ (b == a)
+same_id a b = grind (arith, nat_tests)
+
+pub apart_from : (a b i : ℕ) → (a == b) ≡ false → (i == b) ≡ true → (a == i) ≡ false
+apart_from a b i apart is = grind (arith, nat_tests)

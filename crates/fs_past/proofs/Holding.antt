@@ -1,14 +1,14 @@
 -- The names that the commits on the board hold, as commits come, are accepted, and leave.
-use Rattle.std.proofs.Common.{◌≡◌, ℕ, Bool, true, false, cond, List, [], ◌∷◌, ◌++◌, map, Option, Some, None, refl, sym, ap, ◌∙◌, subst, arith}
+use Rattle.std.proofs.Common.{◌≡◌, ℕ, Bool, true, false, cond, List, [], ◌∷◌, ◌++◌, map, Option, Some, None, refl, sym, ap, ◌∙◌, subst}
 use Rattle.std.specs.Prelude.{◌==◌, ◌&&◌, ◌||◌, IsTrue, not}
 use Rattle.std.specs.List.{AllByRecursion, list_any}
 use Rattle.std.proofs.Math.Bool.{and-false, or-false}
 use Rattle.std.proofs.lemmas.Bool.{eqb-true}
-use Rattle.std.proofs.lemmas.Bool.Decides.{nat_tests}
 use Rattle.std.proofs.lemmas.List.Folds.{list_any-append}
 use Rattle.std.proofs.lemmas.Option.{same_Some}
 use Rattle.fs_board.specs.Board.{HasNo, accepted_with, asked_in, time_in, without}
 use Rattle.fs_board.specs.Rising.{Differ}
+use Rattle.fs_locks.proofs.Ids.{apart_from, same_id}
 use Rattle.fs_locks.specs.Holds.{is_held, is_in}
 use Rattle.fs_path.specs.NameOrder.{name_eq}
 use Rattle.fs_path.specs.declared.name.DocName.{DocName}
@@ -27,12 +27,6 @@ use Rattle.fs_past.proofs.OnBoard.{Posted1}
 pub in_written : (n : DocName) (ws : List Write) → is_in n (map written_name ws) ≡ is_written n ws
 in_written n [] = refl
 in_written n (w ∷ ws) = ap (λ b. b || is_in n (map written_name ws)) (turned n (written_name w)) ∙ ap (λ b. name_eq (written_name w) n || b) (in_written n ws)
-
-same_id : (a b : ℕ) → (a == b) ≡ (b == a)
-same_id a b = grind (arith, nat_tests)
-
-apart_from : (a b i : ℕ) → (a == b) ≡ false → (i == b) ≡ true → (a == i) ≡ false
-apart_from a b i apart is = grind (arith, nat_tests)
 
 -- this commit has an id and writes a name
 abbrev writes_it : ℕ → DocName → Posted1 → Bool

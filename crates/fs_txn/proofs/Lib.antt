@@ -1,0 +1,6 @@
+pub mod Entries
+pub mod Keeping
+pub mod Quiet
+pub mod Readers
+pub mod Shown
+pub mod Times

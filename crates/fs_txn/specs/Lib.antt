@@ -1,0 +1,5 @@
+pub mod Transactions
+pub mod Expiry
+pub mod Reading
+pub mod Rising
+pub mod Kept
