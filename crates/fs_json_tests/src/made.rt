@@ -3,7 +3,7 @@ use crate::json::{read, scalar_written};
 use crate::query::tests::kept;
 use crate::queryjson::tests::{Ask, filtered_again, query_told};
 use crate::rpc::messages::{error, message_again, missing, refused};
-use crate::rpc::requests::{request_again, request_on};
+use crate::rpc::requests::{request_again, request_on, transaction};
 use crate::valjson::{array_len, document_again, value_again};
 use crate::writejson::tests::{draft_told, list_again, mask_again, result_written, write_again};
 use fs_json::{Bad, read_time};
@@ -32,6 +32,8 @@ pub(crate) enum Make {
     Request,
     /// A request is read, written on the session `s`, and read and written again.
     RequestOn,
+    /// The number of a transaction is written.
+    Transaction,
     /// A refusal of this name is written with the id 7.
     Refusal,
     /// An error of this message is written.
@@ -78,6 +80,7 @@ pub(crate) fn made(rt: &impl Abort, alloc: Global, make: Make, text: &str) -> Re
         Make::Message => message_again(rt, alloc, text),
         Make::Request => request_again(rt, alloc, text),
         Make::RequestOn => Ok(request_on(rt, alloc, text)),
+        Make::Transaction => Ok(transaction(rt, alloc, text)),
         Make::Refusal => Ok(refused(rt, alloc, text)),
         Make::Error => Ok(error(rt, alloc, text)),
         Make::Missing => Ok(missing(rt, alloc, text)),

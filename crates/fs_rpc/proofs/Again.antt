@@ -3,7 +3,7 @@ use Rattle.std.proofs.Common.{◌≡◌, ℕ, ℤ, ◌+◌, true, false, List, [
 use Rattle.std.proofs.lemmas.Cmp.{int_eq_equiv}
 use Rattle.std.specs.List.{AllByRecursion, list_all}
 use Rattle.std.specs.Ordering.{int_eq}
-use Rattle.serde_json.specs.Data.{Data, Items, item, member, array, object}
+use Rattle.serde_json.specs.Data.{Data, Items, item, no_members, member, array, object}
 use Rattle.serde_json.specs.Find.{as_array}
 use Rattle.serde_json.specs.View.{items_of}
 use Rattle.fs_path.specs.Document.{document_of, document_text, IsDocumentOf}
@@ -25,15 +25,16 @@ use Rattle.fs_value.specs.declared.document.Document.{Document}
 use Rattle.fs_write.specs.declared.write_result.WriteResult.{WriteResult}
 use Rattle.fs_writejson.specs.Results.{result_json, IsResultHeld, write_result_at}
 use Rattle.fs_json.specs.Walk.{each_at}
-use Rattle.fs_rpc.specs.MessageJson.{batch_answer_json, commit_json, error_json, error_members, message_json, query_answer_json, query_answers_json, read_at, result_members}
+use Rattle.fs_rpc.specs.MessageJson.{batch_answer_json, begin_json, commit_json, error_json, error_members, message_json, query_answer_json, query_answers_json, read_at, result_members}
 use Rattle.fs_rpc.specs.MessageSteps.{IsAnswerHeld, IsDocumentHeld, IsMessageHeld}
-use Rattle.fs_rpc.specs.ReadMessage.{answers_commit, answers_names, commit_result_at, error_at, message_at, query_result_at, result_at}
+use Rattle.fs_rpc.specs.ReadMessage.{answers_begin, answers_commit, answers_names, answers_rollback, begin_result_at, commit_result_at, error_at, message_at, query_result_at, result_at}
 use Rattle.fs_rpc.specs.ReadResults.{answered, batch_answer_at, query_answer_at}
+use Rattle.fs_rpc.specs.Transaction.{IsTransactionHeld}
 use Rattle.fs_rpc.specs.ValidMessage.{IsAnswerOf, IsMessageOf}
 use Rattle.fs_rpc.specs.declared.message.BatchAnswer.{BatchAnswer}
 use Rattle.fs_rpc.specs.declared.message.BatchAnswer.TheVariants.{Found, Missing}
 use Rattle.fs_rpc.specs.declared.message.Message.{Message}
-use Rattle.fs_rpc.specs.declared.message.Message.TheVariants.{Commit, GetDocument, BatchGetDocuments, RunQuery, Error}
+use Rattle.fs_rpc.specs.declared.message.Message.TheVariants.{Commit, GetDocument, BatchGetDocuments, RunQuery, BeginTransaction, Rollback, Error}
 use Rattle.fs_writejson.proofs.WriteResults.{write_result_again}
 use Rattle.fs_writejson.specs.Valid.{ResultHasNames}
 
@@ -145,23 +146,38 @@ no_list : (d : Document) → as_array (document_json d) ≡ None
 unfolding document_json
 no_list d = refl
 
-no_commit_at : (name : DocName) (fields : List (List ℕ × value.Data)) (created updated : ℤ)
-    → answers_commit (document_json (record { name = name; fields = fields; created = created; updated = updated })) ≡ false
-unfolding document_json
-no_commit_at name [] created updated = refl
-no_commit_at name (f ∷ fs) created updated = refl
+-- a document doesn't answer a commit, a begin or a rollback
+record IsNoOther (d : Data) : Type 0 where
+  commit : answers_commit d ≡ false
+  begin : answers_begin d ≡ false
+  rollback : answers_rollback d ≡ false
 
-no_commit : (d : Document) → answers_commit (document_json d) ≡ false
-no_commit d = no_commit_at d.name d.fields d.created d.updated
+no_other_at : (name : DocName) (fields : List (List ℕ × value.Data)) (created updated : ℤ)
+    → IsNoOther (document_json (record { name = name; fields = fields; created = created; updated = updated }))
+unfolding document_json
+no_other_at name [] created updated = record { commit = refl; begin = refl; rollback = refl }
+no_other_at name (f ∷ fs) created updated = record { commit = refl; begin = refl; rollback = refl }
+
+no_other : (d : Document) → IsNoOther (document_json d)
+no_other d = no_other_at d.name d.fields d.created d.updated
 
 document_result : (root : Root) (id : Option (List ℕ)) (d : Document) (place : List ℕ) → IsDocumentHeld d → IsValid root d → result_at root id (document_json d) place ≡ Ok (GetDocument id d)
 unfolding result_at
-document_result root id d place held valid = rw (no_list d, no_commit d, held root place valid) refl
+document_result root id d place held valid =
+    let other = no_other d in rw (no_list d, other.commit, other.begin, other.rollback, held root place valid) refl
 
 commit_result : (root : Root) (id : Option (List ℕ)) (time : ℤ) (rs : List WriteResult) (place : List ℕ) → IsTimeHeld time → AllByRecursion IsResultHeld rs → AllByRecursion ResultHasNames rs
     → result_at root id (commit_json time rs) place ≡ Ok (Commit id time rs)
 unfolding result_at
 commit_result root id time rs place t held names = commit_again id time rs place t (results_again rs 0 (member_place place (codes "writeResults")) held names)
+
+begin_result : (root : Root) (id : Option (List ℕ)) (n : ℕ) (place : List ℕ) → IsTransactionHeld n → result_at root id (begin_json n) place ≡ Ok (BeginTransaction id n)
+unfolding result_at begin_result_at
+begin_result root id n place held = rw (held (member_place place (codes "transaction"))) refl
+
+rollback_result : (root : Root) (id : Option (List ℕ)) (place : List ℕ) → result_at root id (object no_members) place ≡ Ok (Rollback id)
+unfolding result_at
+rollback_result root id place = refl
 
 -- what answers names is told by its first item
 tells_names : (a : BatchAnswer) (xs : Items) → answers_names (item (batch_answer_json a) xs) ≡ true
@@ -217,4 +233,7 @@ message_again root (BatchGetDocuments id answers) held valid =
     result_read root id (array (items_of (map batch_answer_json answers))) (BatchGetDocuments id answers) refl (names_result root id answers (codes "result") held valid)
 message_again root (RunQuery id documents time) held valid =
     result_read root id (array (query_answers_json documents time)) (RunQuery id documents time) refl (query_result root id documents time (codes "result") held.0 held.1 valid)
+message_again root (BeginTransaction id transaction) held valid =
+    result_read root id (begin_json transaction) (BeginTransaction id transaction) refl (begin_result root id transaction (codes "result") held)
+message_again root (Rollback id) held valid = result_read root id (object no_members) (Rollback id) refl (rollback_result root id (codes "result"))
 message_again root (Error id code message) held valid = error_read root id code message

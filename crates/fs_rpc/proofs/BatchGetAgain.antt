@@ -1,5 +1,5 @@
 -- What is written of the read of several documents is read as the same.
-use Rattle.std.proofs.Common.{◌≡◌, ℕ, ℤ, ◌+◌, false, List, [], ◌∷◌, ◌++◌, Option, Some, None, Ok, IfSome, codes, refl, ap, ◌∙◌}
+use Rattle.std.proofs.Common.{◌≡◌, ℕ, ◌+◌, false, List, [], ◌∷◌, ◌++◌, Option, Some, None, Ok, codes, refl, ap, ◌∙◌}
 use Rattle.std.specs.List.{list_any, AllByRecursion, IsDistinct}
 use Rattle.std.proofs.lemmas.List.Folds.{list_any-append}
 use Rattle.std.proofs.lemmas.Map.Keys.{IsDistinct-head, IsDistinct-tail}
@@ -15,14 +15,16 @@ use Rattle.serde_json.specs.Data.{Members, no_members, member, object}
 use Rattle.fs_json.specs.Answer.{◌>>=◌}
 use Rattle.fs_json.specs.Paths.{document_name_at as name_at, path_at}
 use Rattle.fs_json.specs.Walk.{each_at}
-use Rattle.fs_json.specs.Time.{IsTimeHeld}
 use Rattle.fs_rpc.specs.Envelope.{envelope_at}
 use Rattle.fs_rpc.specs.Id.{with_id_put}
 use Rattle.fs_rpc.specs.RequestJson.{batch_get_json, name_json, names_json}
-use Rattle.fs_rpc.specs.RequestSteps.{IsMaskHeld}
+use Rattle.fs_rpc.specs.RequestSteps.{IsMaskHeld, IsWhenHeld}
 use Rattle.fs_rpc.specs.Requests.{batch_get_at, each_once_at, once, once_after}
+use Rattle.fs_rpc.specs.When.{when_at}
 use Rattle.fs_rpc.specs.declared.request.Request.{Request}
 use Rattle.fs_rpc.specs.declared.request.Request.TheVariants.{BatchGetDocuments}
+use Rattle.fs_rpc.specs.declared.when.When.{When}
+use Rattle.fs_rpc.specs.declared.when.When.TheVariants.{Released, At, In}
 use Rattle.fs_path.proofs.Databases.{database_taken}
 
 -- ---- names, each once
@@ -62,17 +64,21 @@ names_again root ns place valid distinct =
 
 -- ---- the read
 
-pub batch_get_again : (root : Root) (ns : List DocName) (mask : Option (List FieldPath)) (time : Option ℤ) (place : List ℕ) → IsDatabase root → AllByRecursion (IsDocumentOf root) ns
-    → IsDistinct name_eq ns → IsMaskHeld mask → IfSome time IsTimeHeld → batch_get_at root (batch_get_json root ns mask time) place ≡ Ok (BatchGetDocuments root ns mask time)
-unfolding batch_get_at
-batch_get_again root ns None None place named valid distinct held told =
+pub batch_get_again : (root : Root) (ns : List DocName) (mask : Option (List FieldPath)) (when : When) (place : List ℕ) → IsDatabase root → AllByRecursion (IsDocumentOf root) ns
+    → IsDistinct name_eq ns → IsMaskHeld mask → IsWhenHeld when → batch_get_at root (batch_get_json root ns mask when) place ≡ Ok (BatchGetDocuments root ns mask when)
+unfolding batch_get_at when_at
+batch_get_again root ns None Released place named valid distinct held told =
     rw ((database_taken root (database_text root)).1 (named, refl), names_again root ns (member_place place (codes "documents")) valid distinct) refl
-batch_get_again root ns None (Some time) place named valid distinct held told =
+batch_get_again root ns None (At time) place named valid distinct held told =
     rw ((database_taken root (database_text root)).1 (named, refl), names_again root ns (member_place place (codes "documents")) valid distinct, told (member_place place (codes "readTime"))) refl
-batch_get_again root ns (Some paths) None place named valid distinct held told =
+batch_get_again root ns None (In n) place named valid distinct held told =
+    rw ((database_taken root (database_text root)).1 (named, refl), names_again root ns (member_place place (codes "documents")) valid distinct, told (member_place place (codes "transaction"))) refl
+batch_get_again root ns (Some paths) Released place named valid distinct held told =
     rw ((database_taken root (database_text root)).1 (named, refl), names_again root ns (member_place place (codes "documents")) valid distinct, held.again (member_place place (codes "mask"))) refl
-batch_get_again root ns (Some paths) (Some time) place named valid distinct held told =
+batch_get_again root ns (Some paths) (At time) place named valid distinct held told =
     rw ((database_taken root (database_text root)).1 (named, refl), names_again root ns (member_place place (codes "documents")) valid distinct, held.again (member_place place (codes "mask")), told (member_place place (codes "readTime"))) refl
+batch_get_again root ns (Some paths) (In n) place named valid distinct held told =
+    rw ((database_taken root (database_text root)).1 (named, refl), names_again root ns (member_place place (codes "documents")) valid distinct, held.again (member_place place (codes "mask")), told (member_place place (codes "transaction"))) refl
 
 -- ---- with its id
 

@@ -1,5 +1,5 @@
 -- What is written of a commit is read as the same commit.
-use Rattle.std.proofs.Common.{◌≡◌, ℕ, ◌+◌, List, [], ◌∷◌, map, Option, Some, None, Result, Ok, Err, codes, refl}
+use Rattle.std.proofs.Common.{◌≡◌, ℕ, ◌+◌, List, [], ◌∷◌, map, Option, Some, None, Result, Ok, Err, IfSome, codes, refl}
 use Rattle.std.specs.List.{AllByRecursion}
 use Rattle.fs_path.specs.Database.{database_text, IsDatabase}
 use Rattle.fs_path.specs.Place.{item_place, member_place}
@@ -19,6 +19,7 @@ use Rattle.fs_rpc.specs.Id.{with_id_put}
 use Rattle.fs_rpc.specs.RequestJson.{commit_json, writes_json}
 use Rattle.fs_rpc.specs.RequestSteps.{IsWriteHeld}
 use Rattle.fs_rpc.specs.Requests.{commit_at}
+use Rattle.fs_rpc.specs.Transaction.{IsTransactionHeld}
 use Rattle.fs_rpc.specs.declared.request.Request.{Request}
 use Rattle.fs_rpc.specs.declared.request.Request.TheVariants.{Commit}
 use Rattle.fs_path.proofs.Databases.{database_taken}
@@ -65,17 +66,24 @@ all_drafted root (w ∷ ws) i place held valid =
 judged : (root : Root) (ds : Items) (place : List ℕ) (ws : List Write) → (all : AllDrafted root ds 0 place ws) → judged_at all.drafts place ≡ Ok ws
 judged root ds place ws all = rw (all.allowed, all.writes) refl
 
-some_again : (root : Root) (w : Write) (ws : List Write) (place : List ℕ) → IsDatabase root → AllDrafted root (writes_json (w ∷ ws)) 0 (member_place place (codes "writes")) (w ∷ ws)
-    → commit_at root (commit_json root (w ∷ ws)) place ≡ Ok (Commit root (w ∷ ws))
+some_again : (root : Root) (w : Write) (ws : List Write) (transaction : Option ℕ) (place : List ℕ) → IsDatabase root → AllDrafted root (writes_json (w ∷ ws)) 0 (member_place place (codes "writes")) (w ∷ ws)
+    → IfSome transaction IsTransactionHeld → commit_at root (commit_json root (w ∷ ws) transaction) place ≡ Ok (Commit root (w ∷ ws) transaction)
 unfolding commit_at
-some_again root w ws place named all =
+some_again root w ws None place named all told =
     rw ((database_taken root (database_text root)).1 (named, refl), all.read, judged root (writes_json (w ∷ ws)) (member_place place (codes "writes")) (w ∷ ws) all) refl
+some_again root w ws (Some n) place named all told =
+    rw ((database_taken root (database_text root)).1 (named, refl), all.read, told (member_place place (codes "transaction")), judged root (writes_json (w ∷ ws)) (member_place place (codes "writes")) (w ∷ ws) all) refl
 
-pub commit_again : (root : Root) (ws : List Write) (place : List ℕ) → IsDatabase root → AllByRecursion IsWriteHeld ws → AllByRecursion (IsWriteOf root) ws
-    → commit_at root (commit_json root ws) place ≡ Ok (Commit root ws)
+none_again : (root : Root) (transaction : Option ℕ) (place : List ℕ) → IsDatabase root → IfSome transaction IsTransactionHeld → commit_at root (commit_json root [] transaction) place ≡ Ok (Commit root [] transaction)
 unfolding commit_at
-commit_again root [] place named held valid = rw ((database_taken root (database_text root)).1 (named, refl)) refl
-commit_again root (w ∷ ws) place named held valid = some_again root w ws place named (all_drafted root (w ∷ ws) 0 (member_place place (codes "writes")) held valid)
+none_again root None place named told = rw ((database_taken root (database_text root)).1 (named, refl)) refl
+none_again root (Some n) place named told = rw ((database_taken root (database_text root)).1 (named, refl), told (member_place place (codes "transaction"))) refl
+
+pub commit_again : (root : Root) (ws : List Write) (transaction : Option ℕ) (place : List ℕ) → IsDatabase root → AllByRecursion IsWriteHeld ws → AllByRecursion (IsWriteOf root) ws
+    → IfSome transaction IsTransactionHeld → commit_at root (commit_json root ws transaction) place ≡ Ok (Commit root ws transaction)
+commit_again root [] transaction place named held valid told = none_again root transaction place named told
+commit_again root (w ∷ ws) transaction place named held valid told =
+    some_again root w ws transaction place named (all_drafted root (w ∷ ws) 0 (member_place place (codes "writes")) held valid) told
 
 -- ---- with its id
 

@@ -1,6 +1,6 @@
 -- What is written of a message has no float, so its text is told byte for byte.
 use Rattle.std.proofs.Common.{◌≡◌, ℕ, ℤ, false, List, [], ◌∷◌, map, Option, Some, None, refl}
-use Rattle.serde_json.specs.Data.{Data}
+use Rattle.serde_json.specs.Data.{Data, no_members, object}
 use Rattle.serde_json.specs.View.{items_of}
 use Rattle.serde_json.specs.Written.{has_float, items_have_float, members_have_float}
 use Rattle.fs_status.specs.declared.code.Code.{Code}
@@ -10,11 +10,11 @@ use Rattle.fs_value.specs.declared.document.Document.{Document}
 use Rattle.fs_write.specs.declared.write_result.WriteResult.{WriteResult}
 use Rattle.fs_writejson.proofs.WriteResults.{result_float}
 use Rattle.fs_writejson.specs.Results.{result_json}
-use Rattle.fs_rpc.specs.MessageJson.{batch_answer_json, commit_json, error_json, error_members, message_json, query_answer_json, query_answers_json, result_members}
+use Rattle.fs_rpc.specs.MessageJson.{batch_answer_json, begin_json, commit_json, error_json, error_members, message_json, query_answer_json, query_answers_json, result_members}
 use Rattle.fs_rpc.specs.declared.message.BatchAnswer.{BatchAnswer}
 use Rattle.fs_rpc.specs.declared.message.BatchAnswer.TheVariants.{Found, Missing}
 use Rattle.fs_rpc.specs.declared.message.Message.{Message}
-use Rattle.fs_rpc.specs.declared.message.Message.TheVariants.{Commit, GetDocument, BatchGetDocuments, RunQuery, Error}
+use Rattle.fs_rpc.specs.declared.message.Message.TheVariants.{Commit, GetDocument, BatchGetDocuments, RunQuery, BeginTransaction, Rollback, Error}
 
 -- ---- the parts of a message
 
@@ -63,4 +63,6 @@ message_float (Commit id time results) = with_result id (commit_json time result
 message_float (GetDocument id document) = with_result id (document_json document) (no_float document)
 message_float (BatchGetDocuments id answers) = with_result id _ (answers_float answers)
 message_float (RunQuery id documents time) = with_result id _ (query_float time documents)
+message_float (BeginTransaction id transaction) = with_result id (begin_json transaction) refl
+message_float (Rollback id) = with_result id (object no_members) refl
 message_float (Error id code message) = with_error id (error_json code message) refl

@@ -4,10 +4,12 @@ pub mod Named
 pub mod Put
 pub mod Once
 pub mod Structured
+pub mod Numbers
 pub mod CommitAgain
 pub mod GetAgain
 pub mod BatchGetAgain
 pub mod RunQueryAgain
+pub mod TransactionAgain
 pub mod RequestAgain
 pub mod RequestFloats
 pub mod RequestValid

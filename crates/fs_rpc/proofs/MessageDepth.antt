@@ -2,7 +2,7 @@
 use Rattle.std.proofs.Common.{ℕ, ◌+◌, ◌≤◌, ◌<◌, ℤ, List, [], ◌∷◌, map, filter_map, Option, Some, None, option_map, Ok, IfOk, IfSome, codes, bytes_eq, arith}
 use Rattle.std.proofs.lemmas.Result.{IfOk-weaker}
 use Rattle.std.specs.List.{AllByRecursion}
-use Rattle.serde_json.specs.Data.{Data, null, boolean, number, string, array, object, Items, depth, items_depth, members_depth}
+use Rattle.serde_json.specs.Data.{Data, null, boolean, number, string, array, object, Items, no_members, depth, items_depth, members_depth}
 use Rattle.serde_json.specs.View.{items_of}
 use Rattle.fs_path.specs.Place.{member_place}
 use Rattle.fs_path.specs.declared.name.Root.{Root}
@@ -22,10 +22,11 @@ use Rattle.fs_valjson.specs.Document.{document_at, document_json}
 use Rattle.fs_write.specs.declared.write_result.WriteResult.{WriteResult}
 use Rattle.fs_writejson.specs.Results.{result_json, write_result_at}
 use Rattle.fs_rpc.specs.Id.{id_at}
-use Rattle.fs_rpc.specs.MessageJson.{batch_answer_json, commit_json, error_json, error_members, message_json, query_answer_json, query_answers_json, result_members}
-use Rattle.fs_rpc.specs.ReadMessage.{answers_commit, answers_names, code_named, commit_result_at, commit_result_members, documents_result_at, error_at, if_numbered, list_result_at, message_at, message_members, object_result_at, outcome_at, outcomes, query_result_at, required_integer_at, result_at}
+use Rattle.fs_rpc.specs.MessageJson.{batch_answer_json, begin_json, commit_json, error_json, error_members, message_json, query_answer_json, query_answers_json, result_members}
+use Rattle.fs_rpc.specs.ReadMessage.{answers_begin, answers_commit, answers_names, answers_rollback, begin_result_at, begin_result_members, code_named, commit_result_at, commit_result_members, documents_result_at, error_at, if_numbered, list_result_at, message_at, message_members, object_result_at, outcome_at, outcomes, query_result_at, required_integer_at, result_at}
 use Rattle.fs_rpc.specs.ReadMessage as read
 use Rattle.fs_rpc.specs.ReadResults.{answered, batch_answer_at, batch_answer_members, document_in, found_or_missing, query_answer_at, query_answer_members, results_in, answers_time}
+use Rattle.fs_rpc.specs.Transaction.{transaction_at}
 use Rattle.fs_rpc.specs.declared.message.BatchAnswer.{BatchAnswer}
 use Rattle.fs_rpc.specs.declared.message.Message.{Message}
 use Rattle.fs_writejson.proofs.WriteResults.{write_result_within}
@@ -147,12 +148,25 @@ list_result_within : (root : Root) (id : Option (List ℕ)) (items : Items) (pla
 list_result_within root id items place n h some =
     either (IsWithin (n + 1)) (answers_names items) _ _ (documents_within root id items place n h some) (query_within root id items place n h some)
 
+begin_within : (id : Option (List ℕ)) (d : Data) (place : List ℕ) (n : ℕ) → IfOk (begin_result_at id d place) (IsWithin (n + 3))
+unfolding begin_result_at
+begin_within id d place n =
+    let P = IsWithin (n + 3) in
+    at_last_holds P (only_at begin_result_members d place) _
+    (λ u. at_last_holds P (required_as transaction_at (codes "transaction") d place) _
+    (λ transaction. omega (arith, with_result id (begin_json transaction) (n + 3) (omega arith))))
+
+rollback_within : (id : Option (List ℕ)) (n : ℕ) → depth (object (result_members id (object no_members))) ≤ n + 3 + 1
+rollback_within id n = omega (arith, with_result id (object no_members) (n + 3) (omega arith))
+
 object_within : (root : Root) (id : Option (List ℕ)) (d : Data) (place : List ℕ) (n : ℕ) → depth d ≤ n + 3 → 0 < n → IfOk (object_result_at root id d place) (IsWithin (n + 3))
 object_within root id d place n h some =
     let P = IsWithin (n + 3) in
     either P (answers_commit d) _ _ (commit_within id d place n h some)
+    (either P (answers_begin d) _ _ (begin_within id d place n)
+    (either P (answers_rollback d) _ _ (rollback_within id n)
     (in_turn_holds (λ x. depth (document_json x) ≤ depth d) P (document_at root d place) _ (document_within root d place)
-    (λ x is. let low : depth (document_json x) ≤ n + 3 = omega (arith, is, h) in omega (arith, with_result id (document_json x) (n + 3) low)))
+    (λ x is. let low : depth (document_json x) ≤ n + 3 = omega (arith, is, h) in omega (arith, with_result id (document_json x) (n + 3) low)))))
 
 result_at_within : (root : Root) (id : Option (List ℕ)) (d : Data) (place : List ℕ) (n : ℕ) → depth d ≤ n + 3 → 0 < n → IfOk (result_at root id d place) (IsWithin (n + 3))
 unfolding result_at

@@ -21,9 +21,10 @@ use Rattle.fs_valjson.specs.Document.{document_at}
 use Rattle.fs_valjson.specs.Valid.{IsValid}
 use Rattle.fs_valjson.proofs.Valid.{document_valid}
 use Rattle.fs_rpc.specs.Id.{id_at}
-use Rattle.fs_rpc.specs.ReadMessage.{answers_commit, answers_names, code_named, commit_result_at, commit_result_members, documents_result_at, error_at, if_numbered, list_result_at, message_at, message_members, object_result_at, outcome_at, outcomes, query_result_at, required_integer_at, result_at}
+use Rattle.fs_rpc.specs.ReadMessage.{answers_begin, answers_commit, answers_names, answers_rollback, begin_result_at, begin_result_members, code_named, commit_result_at, commit_result_members, documents_result_at, error_at, if_numbered, list_result_at, message_at, message_members, object_result_at, outcome_at, outcomes, query_result_at, required_integer_at, result_at}
 use Rattle.fs_rpc.specs.ReadMessage as read
 use Rattle.fs_rpc.specs.ReadResults.{answered, batch_answer_at, batch_answer_members, document_in, found_at, found_or_missing, missing_at, query_answer_at, query_answer_members, results_in, answers_time}
+use Rattle.fs_rpc.specs.Transaction.{transaction_at}
 use Rattle.fs_rpc.specs.ValidMessage.{IsAnswerOf, IsMessageOf}
 use Rattle.fs_writejson.proofs.WriteResults.{write_result_valid}
 use Rattle.fs_writejson.specs.Results.{write_result_at}
@@ -96,10 +97,18 @@ commit_valid root id d place =
     (λ u. at_last_holds (IsMessageOf root) (required_time_at (codes "commitTime") d place) _
     (λ time. in_turn_holds (AllByRecursion ResultHasNames) (IsMessageOf root) (results_in d place) _ (results_valid d place) (λ results are. are)))
 
+begin_valid : (root : Root) (id : Option (List ℕ)) (d : Data) (place : List ℕ) → IfOk (begin_result_at id d place) (IsMessageOf root)
+unfolding begin_result_at
+begin_valid root id d place =
+    at_last_holds (IsMessageOf root) (only_at begin_result_members d place) _
+    (λ u. at_last_holds (IsMessageOf root) (required_as transaction_at (codes "transaction") d place) _ (λ transaction. tt))
+
 object_valid : (root : Root) (id : Option (List ℕ)) (d : Data) (place : List ℕ) → IfOk (object_result_at root id d place) (IsMessageOf root)
 object_valid root id d place =
     either (IsMessageOf root) (answers_commit d) _ _ (commit_valid root id d place)
-    (in_turn_holds (IsValid root) (IsMessageOf root) (document_at root d place) _ (document_valid root d place) (λ document is. is))
+    (either (IsMessageOf root) (answers_begin d) _ _ (begin_valid root id d place)
+    (either (IsMessageOf root) (answers_rollback d) _ _ tt
+    (in_turn_holds (IsValid root) (IsMessageOf root) (document_at root d place) _ (document_valid root d place) (λ document is. is))))
 
 documents_valid : (root : Root) (id : Option (List ℕ)) (items : Items) (place : List ℕ) → IfOk (documents_result_at root id items place) (IsMessageOf root)
 documents_valid root id items place =

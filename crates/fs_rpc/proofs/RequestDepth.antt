@@ -6,7 +6,7 @@ use Rattle.fs_path.specs.Place.{member_place}
 use Rattle.fs_path.specs.declared.field.FieldPath.{FieldPath}
 use Rattle.fs_path.specs.declared.name.DocName.{DocName}
 use Rattle.fs_path.specs.declared.name.Root.{Root}
-use Rattle.fs_json.specs.Members.{one_of_at, only_at, required_at, unbuilt_at}
+use Rattle.fs_json.specs.Members.{one_of_at, only_at, required_as, required_at}
 use Rattle.fs_json.specs.Paths.{document_name_at as name_at}
 use Rattle.fs_query.specs.Asked.{Asked}
 use Rattle.fs_queryjson.proofs.QueryDepth.{permitted_within, walked_within}
@@ -24,15 +24,38 @@ use Rattle.fs_writejson.specs.declared.draft.Draft.{Draft}
 use Rattle.fs_rpc.specs.Envelope.{envelope_at}
 use Rattle.fs_rpc.specs.Id.{id_at}
 use Rattle.fs_rpc.specs.Methods.{envelope_head, methods}
-use Rattle.fs_rpc.specs.RequestJson.{envelope_json, name_json, names_json, request_json, with_mask, with_read_time, writes_json}
-use Rattle.fs_rpc.specs.Requests.{batch_get_at, batch_get_members, commit_at, commit_members, database_at, drafts_in, get_at, get_members, mask_in, names_at, parent_at, request_at, run_query_at, run_query_members, structured_at, when_at}
+use Rattle.fs_rpc.specs.Options.{options_in}
+use Rattle.fs_rpc.specs.RequestJson.{envelope_json, name_json, names_json, request_json, with_mask, writes_json, writes_member}
+use Rattle.fs_rpc.specs.Requests.{batch_get_at, batch_get_members, begin_at, begin_members, commit_at, commit_members, database_at, drafts_in, get_at, get_members, mask_in, names_at, parent_at, request_at, rollback_at, rollback_members, run_query_at, run_query_members, structured_at}
+use Rattle.fs_rpc.specs.Transaction.{optional_transaction_at, transaction_at, with_transaction}
+use Rattle.fs_rpc.specs.When.{time_of, transaction_of, when_at, with_read_time, with_when}
+use Rattle.fs_rpc.specs.declared.options.TransactionOptions.{TransactionOptions}
+use Rattle.fs_rpc.specs.declared.options.TransactionOptions.TheVariants.{ReadWrite, ReadOnly}
 use Rattle.fs_rpc.specs.declared.request.Envelope.{Envelope}
 use Rattle.fs_rpc.specs.declared.request.Request.{Request}
-use Rattle.fs_rpc.specs.declared.request.Request.TheVariants.{Commit, GetDocument, BatchGetDocuments, RunQuery}
+use Rattle.fs_rpc.specs.declared.request.Request.TheVariants.{Commit, GetDocument, BatchGetDocuments, RunQuery, BeginTransaction, Rollback}
+use Rattle.fs_rpc.specs.declared.when.When.{When}
 
 -- what is written under the method
 abbrev IsWithin : ℕ → Request → Type 0
 IsWithin n r = depth (request_json r) ≤ n
+
+-- ---- members in front of others
+
+time_fits : (time : Option ℤ) (rest : Members) (n : ℕ) → members_depth rest ≤ n → members_depth (with_read_time time rest) ≤ n
+time_fits None rest n h = h
+time_fits (Some time) rest n h = omega (arith, h)
+
+transaction_fits : (transaction : Option ℕ) (rest : Members) (n : ℕ) → members_depth rest ≤ n → members_depth (with_transaction transaction rest) ≤ n
+transaction_fits None rest n h = h
+transaction_fits (Some transaction) rest n h = omega (arith, h)
+
+when_fits : (when : When) (rest : Members) (n : ℕ) → members_depth rest ≤ n → members_depth (with_when when rest) ≤ n
+when_fits when rest n h = time_fits (time_of when) (with_transaction (transaction_of when) rest) n (transaction_fits (transaction_of when) rest n h)
+
+mask_fits : (mask : Option (List FieldPath)) (rest : Members) (n : ℕ) → members_depth rest ≤ n + 2 → members_depth (with_mask mask rest) ≤ n + 2
+mask_fits None rest n h = h
+mask_fits (Some paths) rest n h = omega (arith, mask_depth paths, h)
 
 -- ---- commits
 
@@ -40,9 +63,12 @@ writes_fit : (ws : List Write) (n : ℕ) → AllByRecursion (λ w. depth (write_
 writes_fit [] n each = omega arith
 writes_fit (w ∷ ws) n each = omega (arith, each.0, writes_fit ws n each.1)
 
-commit_fits : (root : Root) (ws : List Write) (n : ℕ) → AllByRecursion (λ w. depth (write_json w) ≤ n) ws → IsWithin (n + 2) (Commit root ws)
-commit_fits root [] n each = omega arith
-commit_fits root (w ∷ ws) n each = omega (arith, each.0, writes_fit ws n each.1)
+member_fits : (ws : List Write) (n : ℕ) → AllByRecursion (λ w. depth (write_json w) ≤ n) ws → members_depth (writes_member ws) ≤ n + 1
+member_fits [] n each = omega arith
+member_fits (w ∷ ws) n each = omega (arith, each.0, writes_fit ws n each.1)
+
+commit_fits : (root : Root) (ws : List Write) (transaction : Option ℕ) (n : ℕ) → AllByRecursion (λ w. depth (write_json w) ≤ n) ws → IsWithin (n + 2) (Commit root ws transaction)
+commit_fits root ws transaction n each = omega (arith, transaction_fits transaction (writes_member ws) (n + 1) (member_fits ws n each))
 
 commit_within : (root : Root) (d : Data) (place : List ℕ) (n : ℕ) → depth d ≤ n + 5 → 0 < n → IfOk (commit_at root d place) (IsWithin (n + 5))
 unfolding commit_at
@@ -54,33 +80,25 @@ commit_within root d place n h some =
     (λ u. at_last_holds P (database_at root d place) _
     (λ v. in_turn_holds D P (drafts_in root d place) _
     (inside_or D (codes "writes") d place (λ x. drafts_at root x inner) (Ok []) (λ x falls. drafts_within root x inner n (omega (arith, falls, h)) some) tt)
-    (λ drafts are. at_last_holds P (unbuilt_at (codes "transaction" ∷ []) d place) _
-    (λ w. in_turn_holds (AllByRecursion (λ x. depth (write_json x) ≤ n + 3)) P (judged_at drafts inner) _ (judged_within drafts inner (n + 3) are)
-    (λ writes each. omega (arith, commit_fits root writes (n + 3) each))))))
+    (λ drafts are. at_last_holds P (optional_transaction_at (codes "transaction") d place) _
+    (λ transaction. in_turn_holds (AllByRecursion (λ x. depth (write_json x) ≤ n + 3)) P (judged_at drafts inner) _ (judged_within drafts inner (n + 3) are)
+    (λ writes each. omega (arith, commit_fits root writes transaction (n + 3) each))))))
 
 -- ---- reads
 
-mask_fits : (mask : Option (List FieldPath)) (rest : Members) (n : ℕ) → members_depth rest ≤ n + 2 → members_depth (with_mask mask rest) ≤ n + 2
-mask_fits None rest n h = h
-mask_fits (Some paths) rest n h = omega (arith, mask_depth paths, h)
-
-time_fits : (time : Option ℤ) (rest : Members) (n : ℕ) → members_depth rest ≤ n → members_depth (with_read_time time rest) ≤ n
-time_fits None rest n h = h
-time_fits (Some time) rest n h = omega (arith, h)
-
-get_fits : (name : DocName) (mask : Option (List FieldPath)) (time : Option ℤ) (n : ℕ) → IsWithin (n + 3) (GetDocument name mask time)
-get_fits name mask time n =
-    let rest = member (codes "name") (name_json name) (with_read_time time no_members) in
-    let all : members_depth rest ≤ n + 2 = omega (arith, time_fits time no_members (n + 2) (omega arith)) in
+get_fits : (name : DocName) (mask : Option (List FieldPath)) (when : When) (n : ℕ) → IsWithin (n + 3) (GetDocument name mask when)
+get_fits name mask when n =
+    let rest = member (codes "name") (name_json name) (with_when when no_members) in
+    let all : members_depth rest ≤ n + 2 = omega (arith, when_fits when no_members (n + 2) (omega arith)) in
     omega (arith, mask_fits mask rest n all)
 
 names_flat : (ns : List DocName) → items_depth (names_json ns) ≤ 0
 names_flat [] = omega arith
 names_flat (n ∷ ns) = omega (arith, names_flat ns)
 
-batch_get_fits : (root : Root) (names : List DocName) (mask : Option (List FieldPath)) (time : Option ℤ) (n : ℕ) → IsWithin (n + 3) (BatchGetDocuments root names mask time)
-batch_get_fits root names mask time n =
-    omega (arith, names_flat names, mask_fits mask (with_read_time time no_members) n (time_fits time no_members (n + 2) (omega arith)))
+batch_get_fits : (root : Root) (names : List DocName) (mask : Option (List FieldPath)) (when : When) (n : ℕ) → IsWithin (n + 3) (BatchGetDocuments root names mask when)
+batch_get_fits root names mask when n =
+    omega (arith, names_flat names, mask_fits mask (with_when when no_members) n (when_fits when no_members (n + 2) (omega arith)))
 
 get_within : (root : Root) (d : Data) (place : List ℕ) (n : ℕ) → IfOk (get_at root d place) (IsWithin (n + 5))
 unfolding get_at
@@ -89,7 +107,7 @@ get_within root d place n =
     at_last_holds P (only_at get_members d place) _
     (λ u. at_last_holds P (required_at (codes "name") d place) _
     (λ text. at_last_holds P (name_at root text (member_place place (codes "name"))) _
-    (λ name. at_last_holds P (mask_in d place) _ (λ mask. at_last_holds P (when_at d place) _ (λ time. omega (arith, get_fits name mask time n))))))
+    (λ name. at_last_holds P (mask_in d place) _ (λ mask. at_last_holds P (when_at d place) _ (λ when. omega (arith, get_fits name mask when n))))))
 
 batch_get_within : (root : Root) (d : Data) (place : List ℕ) (n : ℕ) → IfOk (batch_get_at root d place) (IsWithin (n + 5))
 unfolding batch_get_at
@@ -99,26 +117,27 @@ batch_get_within root d place n =
     (λ u. at_last_holds P (database_at root d place) _
     (λ v. at_last_holds P (required_at (codes "documents") d place) _
     (λ list. at_last_holds P (names_at root list (member_place place (codes "documents"))) _
-    (λ names. at_last_holds P (mask_in d place) _ (λ mask. at_last_holds P (when_at d place) _ (λ time. omega (arith, batch_get_fits root names mask time n)))))))
+    (λ names. at_last_holds P (mask_in d place) _ (λ mask. at_last_holds P (when_at d place) _ (λ when. omega (arith, batch_get_fits root names mask when n)))))))
 
 -- ---- queries
 
-query_fits : (root : Root) (q : Asked) (time : Option ℤ) (n : ℕ) → depth (query_json q) ≤ n → IsWithin (n + 1) (RunQuery root q time)
-query_fits root q time n h =
-    let rest = member (codes "structuredQuery") (query_json q) no_members in
-    let all : members_depth rest ≤ n = omega (arith, h) in
-    omega (arith, time_fits time rest n all)
+query_fits : (root : Root) (q : Asked) (when : When) (n : ℕ) → depth (query_json q) ≤ n → IsWithin (n + 1) (RunQuery root q when)
+query_fits root q when n h =
+    let behind = with_transaction (transaction_of when) no_members in
+    let rest = member (codes "structuredQuery") (query_json q) behind in
+    let all : members_depth rest ≤ n = omega (arith, h, transaction_fits (transaction_of when) no_members n (omega arith)) in
+    omega (arith, time_fits (time_of when) rest n all)
 
 structured_within : (parent : List (List ℕ)) (d : Data) (place : List ℕ) (n : ℕ) → depth d ≤ n + 5 → IfOk (structured_at parent d place) (λ asked. depth (query_json asked.0) ≤ n + 4)
 unfolding structured_at
 structured_within parent d place n h =
     let inner = member_place place (codes "structuredQuery") in
-    let P : Asked × Option ℤ → Type 0 = λ asked. depth (query_json asked.0) ≤ n + 4 in
+    let P : Asked × When → Type 0 = λ asked. depth (query_json asked.0) ≤ n + 4 in
     let Q : Asked → Type 0 = λ q. depth (query_json q) ≤ n + 4 in
     inside P (codes "structuredQuery") d place _
     (λ s falls. in_turn_holds Q P (walked_at parent s inner) _ (walked_within parent s inner n (omega (arith, falls, h)))
     (λ walked is. at_last_holds P (when_at d place) _
-    (λ time. in_turn_holds Q P (permitted_at walked inner) _ (permitted_within walked inner (n + 4) is) (λ q fits. fits))))
+    (λ when. in_turn_holds Q P (permitted_at walked inner) _ (permitted_within walked inner (n + 4) is) (λ q fits. fits))))
 
 run_query_within : (root : Root) (d : Data) (place : List ℕ) (n : ℕ) → depth d ≤ n + 5 → IfOk (run_query_at root d place) (IsWithin (n + 5))
 unfolding run_query_at
@@ -130,6 +149,28 @@ run_query_within root d place n h =
     (λ parent. in_turn_holds (λ asked. depth (query_json asked.0) ≤ n + 4) P (structured_at parent d place) _ (structured_within parent d place n h)
     (λ asked fits. omega (arith, query_fits root asked.0 asked.1 (n + 4) fits)))))
 
+-- ---- transactions
+
+begin_fits : (root : Root) (options : TransactionOptions) (n : ℕ) → IsWithin (n + 3) (BeginTransaction root options)
+begin_fits root ReadWrite n = omega arith
+begin_fits root (ReadOnly time) n = omega (arith, time_fits time no_members 0 (omega arith))
+
+begin_within : (root : Root) (d : Data) (place : List ℕ) (n : ℕ) → IfOk (begin_at root d place) (IsWithin (n + 5))
+unfolding begin_at
+begin_within root d place n =
+    let P = IsWithin (n + 5) in
+    at_last_holds P (only_at begin_members d place) _
+    (λ u. at_last_holds P (database_at root d place) _
+    (λ v. at_last_holds P (options_in d place) _ (λ options. omega (arith, begin_fits root options n))))
+
+rollback_within : (root : Root) (d : Data) (place : List ℕ) (n : ℕ) → IfOk (rollback_at root d place) (IsWithin (n + 5))
+unfolding rollback_at
+rollback_within root d place n =
+    let P = IsWithin (n + 5) in
+    at_last_holds P (only_at rollback_members d place) _
+    (λ u. at_last_holds P (database_at root d place) _
+    (λ v. at_last_holds P (required_as transaction_at (codes "transaction") d place) _ (λ transaction. omega arith)))
+
 -- ---- requests with their ids
 
 request_within : (root : Root) (method : List ℕ) (d : Data) (n : ℕ) → depth d ≤ n + 5 → 0 < n → IfOk (request_at root method d) (IsWithin (n + 5))
@@ -138,14 +179,18 @@ request_within root method d n h some =
     either P (bytes_eq method (codes "commit")) _ _ (commit_within root d method n h some)
     (either P (bytes_eq method (codes "getDocument")) _ _ (get_within root d method n)
     (either P (bytes_eq method (codes "batchGetDocuments")) _ _ (batch_get_within root d method n)
-    (either P (bytes_eq method (codes "runQuery")) _ _ (run_query_within root d method n h) (record {}))))
+    (either P (bytes_eq method (codes "runQuery")) _ _ (run_query_within root d method n h)
+    (either P (bytes_eq method (codes "beginTransaction")) _ _ (begin_within root d method n)
+    (either P (bytes_eq method (codes "rollback")) _ _ (rollback_within root d method n) (record {}))))))
 
 envelope_fits : (id : Option (List ℕ)) (r : Request) (n : ℕ) → IsWithin n r → depth (envelope_json (record { id = id; request = r })) ≤ n + 1
 envelope_fits None r n h = omega (arith, h)
-envelope_fits (Some id) (Commit root writes) n h = omega (arith, h)
-envelope_fits (Some id) (GetDocument name mask time) n h = omega (arith, h)
-envelope_fits (Some id) (BatchGetDocuments root names mask time) n h = omega (arith, h)
-envelope_fits (Some id) (RunQuery root q time) n h = omega (arith, h)
+envelope_fits (Some id) (Commit root writes transaction) n h = omega (arith, h)
+envelope_fits (Some id) (GetDocument name mask when) n h = omega (arith, h)
+envelope_fits (Some id) (BatchGetDocuments root names mask when) n h = omega (arith, h)
+envelope_fits (Some id) (RunQuery root q when) n h = omega (arith, h)
+envelope_fits (Some id) (BeginTransaction root options) n h = omega (arith, h)
+envelope_fits (Some id) (Rollback root transaction) n h = omega (arith, h)
 
 pub envelope_within : (root : Root) (d : Data) (n : ℕ) → depth d ≤ n + 6 → 0 < n → IfOk (envelope_at root d) (λ e. depth (envelope_json e) ≤ n + 6)
 unfolding envelope_at

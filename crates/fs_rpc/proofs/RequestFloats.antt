@@ -12,11 +12,15 @@ use Rattle.fs_path.specs.declared.field.FieldPath.{FieldPath}
 use Rattle.fs_path.specs.declared.name.DocName.{DocName}
 use Rattle.fs_write.specs.declared.write.Write.{Write}
 use Rattle.fs_rpc.specs.Id.{with_id_put}
-use Rattle.fs_rpc.specs.RequestJson.{envelope_json, envelope_members, method_of, names_json, request_json, with_mask, with_read_time, writes_json, writes_member}
+use Rattle.fs_rpc.specs.RequestJson.{envelope_json, envelope_members, method_of, names_json, request_json, with_mask, writes_json, writes_member}
 use Rattle.fs_rpc.specs.RequestSteps.{IsMaskHeld, IsRequestHeld, IsWriteHeld}
+use Rattle.fs_rpc.specs.Transaction.{with_transaction}
+use Rattle.fs_rpc.specs.When.{time_of, transaction_of, with_read_time, with_when}
+use Rattle.fs_rpc.specs.declared.options.TransactionOptions.TheVariants.{ReadWrite, ReadOnly}
 use Rattle.fs_rpc.specs.declared.request.Envelope.{Envelope}
 use Rattle.fs_rpc.specs.declared.request.Request.{Request}
-use Rattle.fs_rpc.specs.declared.request.Request.TheVariants.{Commit, GetDocument, BatchGetDocuments, RunQuery}
+use Rattle.fs_rpc.specs.declared.request.Request.TheVariants.{Commit, GetDocument, BatchGetDocuments, RunQuery, BeginTransaction, Rollback}
+use Rattle.fs_rpc.specs.declared.when.When.{When}
 
 -- ---- the parts of a request
 
@@ -24,9 +28,9 @@ writes_float : (ws : List Write) → AllByRecursion IsWriteHeld ws → items_hav
 writes_float [] held = refl
 writes_float (w ∷ ws) held = rw (held.0.float, writes_float ws held.1) refl
 
-commit_float : (ws : List Write) → AllByRecursion IsWriteHeld ws → members_have_float (writes_member ws) ≡ false
-commit_float [] held = refl
-commit_float (w ∷ ws) held = rw (held.0.float, writes_float ws held.1) refl
+member_float : (ws : List Write) → AllByRecursion IsWriteHeld ws → members_have_float (writes_member ws) ≡ false
+member_float [] held = refl
+member_float (w ∷ ws) held = rw (held.0.float, writes_float ws held.1) refl
 
 names_float : (ns : List DocName) → items_have_float (names_json ns) ≡ false
 names_float [] = refl
@@ -40,12 +44,23 @@ time_float : (time : Option ℤ) (rest : Members) → members_have_float rest �
 time_float None rest h = h
 time_float (Some time) rest h = h
 
+transaction_float : (transaction : Option ℕ) (rest : Members) → members_have_float rest ≡ false → members_have_float (with_transaction transaction rest) ≡ false
+transaction_float None rest h = h
+transaction_float (Some n) rest h = h
+
+when_float : (when : When) (rest : Members) → members_have_float rest ≡ false → members_have_float (with_when when rest) ≡ false
+when_float when rest h = time_float (time_of when) (with_transaction (transaction_of when) rest) (transaction_float (transaction_of when) rest h)
+
 content_float : (r : Request) → IsRequestHeld r → has_float (request_json r) ≡ false
-content_float (Commit database writes) held = commit_float writes held
-content_float (GetDocument name mask time) held = mask_float mask _ held.0 (time_float time no_members refl)
-content_float (BatchGetDocuments database documents mask time) held =
-    rw (names_float documents, mask_float mask (with_read_time time no_members) held.0 (time_float time no_members refl)) refl
-content_float (RunQuery database query time) held = time_float time _ (rw held.0.float refl)
+content_float (Commit database writes transaction) held = transaction_float transaction (writes_member writes) (member_float writes held.0)
+content_float (GetDocument name mask when) held = mask_float mask _ held.0 (when_float when no_members refl)
+content_float (BatchGetDocuments database documents mask when) held =
+    rw (names_float documents, mask_float mask (with_when when no_members) held.0 (when_float when no_members refl)) refl
+content_float (RunQuery database query when) held =
+    time_float (time_of when) _ (rw (held.0.float, transaction_float (transaction_of when) no_members refl) refl)
+content_float (BeginTransaction database ReadWrite) held = refl
+content_float (BeginTransaction database (ReadOnly time)) held = rw (time_float time no_members refl) refl
+content_float (Rollback database transaction) held = refl
 
 -- ---- members that are put in
 

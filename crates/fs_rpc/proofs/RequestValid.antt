@@ -1,5 +1,5 @@
 -- What is read as a request is a request of the root's documents.
-use Rattle.std.proofs.Common.{◌≡◌, ℕ, ℤ, List, [], ◌∷◌, ◌++◌, Bool, true, false, Option, IfOk, codes, cond, bytes_eq, refl, sym, subst, ◌∙◌}
+use Rattle.std.proofs.Common.{◌≡◌, ℕ, List, [], ◌∷◌, ◌++◌, Bool, true, false, IfOk, codes, cond, bytes_eq, refl, sym, subst, ◌∙◌}
 use Rattle.std.proofs.lemmas.Bool.{or_parts}
 use Rattle.std.proofs.lemmas.List.Folds.{list_any-append}
 use Rattle.std.proofs.lemmas.Map.Keys.{IsDistinct-cons}
@@ -14,7 +14,7 @@ use Rattle.fs_path.specs.declared.name.DocName.{DocName}
 use Rattle.fs_path.specs.declared.name.Root.{Root}
 use Rattle.fs_path.specs.declared.place.Rule.TheVariants.{G}
 use Rattle.fs_json.specs.Answer.{or_fault}
-use Rattle.fs_json.specs.Members.{only_at, required_at, unbuilt_at}
+use Rattle.fs_json.specs.Members.{only_at, required_as, required_at}
 use Rattle.fs_json.specs.Scalars.{text_at}
 use Rattle.fs_json.specs.Paths.{document_name_at as name_at}
 use Rattle.fs_json.specs.Walk.{each_at}
@@ -30,8 +30,12 @@ use Rattle.fs_writejson.specs.Rules.{judged_at}
 use Rattle.fs_writejson.specs.Valid.{IsDraftOf, IsWriteOf}
 use Rattle.fs_writejson.proofs.RulesValid.{judged_valid}
 use Rattle.fs_writejson.proofs.WriteValid.{drafts_valid}
-use Rattle.fs_rpc.specs.Requests.{batch_get_at, batch_get_members, commit_at, commit_members, database_at, drafts_in, get_at, get_members, mask_in, names_at, once_after, parent_at, request_at, run_query_at, run_query_members, structured_at, when_at}
+use Rattle.fs_rpc.specs.Options.{options_in}
+use Rattle.fs_rpc.specs.Requests.{batch_get_at, batch_get_members, begin_at, begin_members, commit_at, commit_members, database_at, drafts_in, get_at, get_members, mask_in, names_at, once_after, parent_at, request_at, rollback_at, rollback_members, run_query_at, run_query_members, structured_at}
+use Rattle.fs_rpc.specs.Transaction.{optional_transaction_at, transaction_at}
 use Rattle.fs_rpc.specs.ValidRequest.{IsRequestOf}
+use Rattle.fs_rpc.specs.When.{when_at}
+use Rattle.fs_rpc.specs.declared.when.When.{When}
 
 -- ---- names, each once
 
@@ -111,8 +115,8 @@ commit_valid root d place =
     at_last_holds (IsRequestOf root) (only_at commit_members d place) _
     (λ u. in_turn_holds (λ v. IsDatabase root) (IsRequestOf root) (database_at root d place) _ (database_valid root d place)
     (λ v named. in_turn_holds (AllByRecursion (IsDraftOf root)) (IsRequestOf root) (drafts_in root d place) _ (drafts_in_valid root d place)
-    (λ drafts are. at_last_holds (IsRequestOf root) (unbuilt_at (codes "transaction" ∷ []) d place) _
-    (λ w. in_turn_holds (AllByRecursion (IsWriteOf root)) (IsRequestOf root) (judged_at drafts (member_place place (codes "writes"))) _
+    (λ drafts are. at_last_holds (IsRequestOf root) (optional_transaction_at (codes "transaction") d place) _
+    (λ transaction. in_turn_holds (AllByRecursion (IsWriteOf root)) (IsRequestOf root) (judged_at drafts (member_place place (codes "writes"))) _
     (judged_valid root drafts (member_place place (codes "writes")) are) (λ writes allowed. record { same = refl; named = named; allowed = allowed })))))
 
 get_valid : (root : Root) (d : Data) (place : List ℕ) → IfOk (get_at root d place) (IsRequestOf root)
@@ -121,7 +125,7 @@ get_valid root d place =
     at_last_holds (IsRequestOf root) (only_at get_members d place) _
     (λ u. at_last_holds (IsRequestOf root) (required_at (codes "name") d place) _
     (λ text. in_turn_holds (IsDocumentOf root) (IsRequestOf root) (name_at root text (member_place place (codes "name"))) _ (document_name_is root text (member_place place (codes "name")))
-    (λ name is. at_last_holds (IsRequestOf root) (mask_in d place) _ (λ mask. at_last_holds (IsRequestOf root) (when_at d place) _ (λ time. is)))))
+    (λ name is. at_last_holds (IsRequestOf root) (mask_in d place) _ (λ mask. at_last_holds (IsRequestOf root) (when_at d place) _ (λ when. is)))))
 
 batch_get_valid : (root : Root) (d : Data) (place : List ℕ) → IfOk (batch_get_at root d place) (IsRequestOf root)
 unfolding batch_get_at
@@ -131,17 +135,17 @@ batch_get_valid root d place =
     (λ v named. at_last_holds (IsRequestOf root) (required_at (codes "documents") d place) _
     (λ list. in_turn_holds (AreNames root) (IsRequestOf root) (names_at root list (member_place place (codes "documents"))) _ (names_valid root list (member_place place (codes "documents")))
     (λ names are. at_last_holds (IsRequestOf root) (mask_in d place) _
-    (λ mask. at_last_holds (IsRequestOf root) (when_at d place) _ (λ time. record { same = refl; named = named; each = are.each; once = are.once }))))))
+    (λ mask. at_last_holds (IsRequestOf root) (when_at d place) _ (λ when. record { same = refl; named = named; each = are.each; once = are.once }))))))
 
 structured_valid : (parent : List (List ℕ)) (d : Data) (place : List ℕ) → IfOk (structured_at parent d place) (λ asked. IsReadBelow parent asked.0)
 unfolding structured_at
 structured_valid parent d place =
     let inside = member_place place (codes "structuredQuery") in
-    let asks : Asked × Option ℤ → Type 0 = λ asked. IsReadBelow parent asked.0 in
+    let asks : Asked × When → Type 0 = λ asked. IsReadBelow parent asked.0 in
     at_last_holds asks (required_at (codes "structuredQuery") d place) _
     (λ s. in_turn_holds (IsWalked parent) asks (walked_at parent s inside) _ (walked_valid parent s inside)
     (λ walked is. at_last_holds asks (when_at d place) _
-    (λ time. in_turn_holds (IsReadBelow parent) asks (permitted_at walked inside) _ (permitted_valid parent walked inside is) (λ q read. read))))
+    (λ when. in_turn_holds (IsReadBelow parent) asks (permitted_at walked inside) _ (permitted_valid parent walked inside is) (λ q read. read))))
 
 run_query_valid : (root : Root) (d : Data) (place : List ℕ) → IfOk (run_query_at root d place) (IsRequestOf root)
 unfolding run_query_at
@@ -154,10 +158,26 @@ run_query_valid root d place =
     (λ parent is. in_turn_holds (λ asked. IsReadBelow parent asked.0) (IsRequestOf root) (structured_at parent d place) _ (structured_valid parent d place)
     (λ asked read. record { same = refl; parent = subst (IsParentOf root) (sym read.below) is; valid = read.valid }))))
 
+begin_valid : (root : Root) (d : Data) (place : List ℕ) → IfOk (begin_at root d place) (IsRequestOf root)
+unfolding begin_at
+begin_valid root d place =
+    at_last_holds (IsRequestOf root) (only_at begin_members d place) _
+    (λ u. in_turn_holds (λ v. IsDatabase root) (IsRequestOf root) (database_at root d place) _ (database_valid root d place)
+    (λ v named. at_last_holds (IsRequestOf root) (options_in d place) _ (λ options. record { same = refl; named = named })))
+
+rollback_valid : (root : Root) (d : Data) (place : List ℕ) → IfOk (rollback_at root d place) (IsRequestOf root)
+unfolding rollback_at
+rollback_valid root d place =
+    at_last_holds (IsRequestOf root) (only_at rollback_members d place) _
+    (λ u. in_turn_holds (λ v. IsDatabase root) (IsRequestOf root) (database_at root d place) _ (database_valid root d place)
+    (λ v named. at_last_holds (IsRequestOf root) (required_as transaction_at (codes "transaction") d place) _ (λ transaction. record { same = refl; named = named })))
+
 -- what stands under a method
 pub request_valid : (root : Root) (method : List ℕ) (d : Data) → IfOk (request_at root method d) (IsRequestOf root)
 request_valid root method d =
     either (IsRequestOf root) (bytes_eq method (codes "commit")) _ _ (commit_valid root d method)
     (either (IsRequestOf root) (bytes_eq method (codes "getDocument")) _ _ (get_valid root d method)
     (either (IsRequestOf root) (bytes_eq method (codes "batchGetDocuments")) _ _ (batch_get_valid root d method)
-    (either (IsRequestOf root) (bytes_eq method (codes "runQuery")) _ _ (run_query_valid root d method) (record {}))))
+    (either (IsRequestOf root) (bytes_eq method (codes "runQuery")) _ _ (run_query_valid root d method)
+    (either (IsRequestOf root) (bytes_eq method (codes "beginTransaction")) _ _ (begin_valid root d method)
+    (either (IsRequestOf root) (bytes_eq method (codes "rollback")) _ _ (rollback_valid root d method) (record {}))))))

@@ -1,5 +1,8 @@
 pub mod Methods
 pub mod Id
+pub mod Transaction
+pub mod When
+pub mod Options
 pub mod Requests
 pub mod Envelope
 pub mod MessageJson

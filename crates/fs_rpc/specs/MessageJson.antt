@@ -1,9 +1,13 @@
 -- The JSON of messages. On a line of a transcript each has its session too, at its place in the order of names.
--- (v1 reference: `CommitResponse`, "WriteResult", "Document", `BatchGetDocumentsResponse`, `RunQueryResponse`, and
--- `google.rpc.Status` as REST prints it.)
+-- (v1 reference: `CommitResponse`, "WriteResult", "Document", `BatchGetDocumentsResponse`, `RunQueryResponse`,
+-- `BeginTransactionResponse`, and `google.rpc.Status` as REST prints it; a rollback is answered by an empty object.)
+--
+--     transaction 2 was begun    {"id":"1","result":{"transaction":"AAAAAAAAAAI="}}
+--     it was rolled back         {"id":"2","result":{}}
 use Rattle.std.specs.Prelude.{ℕ, ℤ, List, [], ◌∷◌, Option, Some, None, map, codes}
 use Rattle.serde_json.specs.Data.{Data, unsigned, number, string, array, object, Items, no_items, item, Members, no_members, member, put}
 use Rattle.serde_json.specs.View.{items_of}
+use Rattle.fs_json.specs.Members.{with_one}
 use Rattle.fs_json.specs.Time.{time_json}
 use Rattle.fs_path.specs.Document.{document_text}
 use Rattle.fs_status.specs.Message.{message_text}
@@ -14,10 +18,11 @@ use Rattle.fs_valjson.specs.Document.{document_json}
 use Rattle.fs_value.specs.declared.document.Document.{Document}
 use Rattle.fs_write.specs.declared.write_result.WriteResult.{WriteResult}
 use Rattle.fs_writejson.specs.Results.{result_json}
+use Rattle.fs_rpc.specs.Transaction.{transaction_json}
 use Rattle.fs_rpc.specs.declared.message.BatchAnswer.{BatchAnswer}
 use Rattle.fs_rpc.specs.declared.message.BatchAnswer.TheVariants.{Found, Missing}
 use Rattle.fs_rpc.specs.declared.message.Message.{Message}
-use Rattle.fs_rpc.specs.declared.message.Message.TheVariants.{Commit, GetDocument, BatchGetDocuments, RunQuery, Error}
+use Rattle.fs_rpc.specs.declared.message.Message.TheVariants.{Commit, GetDocument, BatchGetDocuments, RunQuery, BeginTransaction, Rollback, Error}
 
 -- ---- errors
 
@@ -56,6 +61,10 @@ abbrev pub query_answers_json : List Document → ℤ → Items
 query_answers_json [] time = item (object (read_at time)) no_items
 query_answers_json (d ∷ ds) time = items_of (map (query_answer_json time) (d ∷ ds))
 
+-- `{"transaction":".."}`
+abbrev pub begin_json : ℕ → Data
+begin_json transaction = with_one (codes "transaction") (transaction_json transaction)
+
 -- ---- messages
 
 abbrev pub with_id : Option (List ℕ) → Members → Members
@@ -75,6 +84,8 @@ message_members (Commit id time results) = result_members id (commit_json time r
 message_members (GetDocument id document) = result_members id (document_json document)
 message_members (BatchGetDocuments id answers) = result_members id (array (items_of (map batch_answer_json answers)))
 message_members (RunQuery id documents time) = result_members id (array (query_answers_json documents time))
+message_members (BeginTransaction id transaction) = result_members id (begin_json transaction)
+message_members (Rollback id) = result_members id (object no_members)
 message_members (Error id code message) = error_members id (error_json code message)
 
 abbrev pub message_json : Message → Data

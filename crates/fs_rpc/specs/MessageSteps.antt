@@ -9,10 +9,11 @@ use Rattle.fs_value.specs.declared.document.Document.{Document}
 use Rattle.fs_valjson.specs.Document.{document_at, document_json}
 use Rattle.fs_valjson.specs.Valid.{IsValid}
 use Rattle.fs_writejson.specs.Results.{IsResultHeld}
+use Rattle.fs_rpc.specs.Transaction.{IsTransactionHeld}
 use Rattle.fs_rpc.specs.declared.message.BatchAnswer.{BatchAnswer}
 use Rattle.fs_rpc.specs.declared.message.BatchAnswer.TheVariants.{Found, Missing}
 use Rattle.fs_rpc.specs.declared.message.Message.{Message}
-use Rattle.fs_rpc.specs.declared.message.Message.TheVariants.{Commit, GetDocument, BatchGetDocuments, RunQuery, Error}
+use Rattle.fs_rpc.specs.declared.message.Message.TheVariants.{Commit, GetDocument, BatchGetDocuments, RunQuery, BeginTransaction, Rollback, Error}
 
 -- an object of this member and the time of the read
 abbrev pub timed_put : List ℕ → Data → ℤ → Data
@@ -29,10 +30,12 @@ abbrev pub IsAnswerHeld : BatchAnswer → Type 0
 IsAnswerHeld (Found document time) = IsDocumentHeld document × IsTimeHeld time
 IsAnswerHeld (Missing name time) = IsTimeHeld time
 
--- the documents, the times and the results of a message
+-- the documents, the times, the results and the transaction of a message
 abbrev pub IsMessageHeld : Message → Type 0
 IsMessageHeld (Commit id time results) = IsTimeHeld time × AllByRecursion IsResultHeld results
 IsMessageHeld (GetDocument id document) = IsDocumentHeld document
 IsMessageHeld (BatchGetDocuments id answers) = AllByRecursion IsAnswerHeld answers
 IsMessageHeld (RunQuery id documents time) = AllByRecursion IsDocumentHeld documents × IsTimeHeld time
+IsMessageHeld (BeginTransaction id transaction) = IsTransactionHeld transaction
+IsMessageHeld (Rollback id) = Unit {0}
 IsMessageHeld (Error id code message) = Unit {0}

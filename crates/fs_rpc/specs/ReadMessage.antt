@@ -1,12 +1,15 @@
 -- Which message a text is, or the first place in the walk where it is at fault.
--- (v1 reference: `CommitResponse`, "Document", `BatchGetDocumentsResponse`, `RunQueryResponse`, and `google.rpc.Status` as
--- REST prints it.)
-use Rattle.std.specs.Prelude.{ℕ, ℤ, pos, Bool, true, ◌||◌, List, [], ◌∷◌, Option, Some, None, Result, Ok, codes, find, if◌then◌else◌, option_and_then}
+-- (v1 reference: `CommitResponse`, "Document", `BatchGetDocumentsResponse`, `RunQueryResponse`, `BeginTransactionResponse`, and
+-- `google.rpc.Status` as REST prints it.)
+--
+--     {"id":"1","result":{"transaction":"AAAAAAAAAAI="}}    transaction 2 was begun
+--     {"id":"2","result":{}}                                a transaction was rolled back
+use Rattle.std.specs.Prelude.{ℕ, ℤ, pos, Bool, true, false, ◌||◌, List, [], ◌∷◌, Option, Some, None, Result, Ok, codes, find, if◌then◌else◌, option_and_then}
 use Rattle.std.specs.Option.{option_map_or}
 use Rattle.std.specs.Ordering.{int_eq}
 use Rattle.std.specs.Str.{bytes_eq}
-use Rattle.serde_json.specs.Data.{Data, Items, no_items, item}
-use Rattle.serde_json.specs.Find.{as_array, as_i64, as_number}
+use Rattle.serde_json.specs.Data.{Data, Items, no_items, item, Members, no_members, member}
+use Rattle.serde_json.specs.Find.{as_array, as_i64, as_number, as_object}
 use Rattle.serde_json.specs.Read.{read}
 use Rattle.fs_path.specs.Place.{member_place}
 use Rattle.fs_path.specs.declared.name.Root.{Root}
@@ -23,8 +26,9 @@ use Rattle.fs_json.specs.Walk.{each_at}
 use Rattle.fs_rpc.specs.Id.{id_at}
 use Rattle.fs_rpc.specs.ReadResults.{results_in, batch_answer_at, query_answer_at, answered}
 use Rattle.fs_json.specs.Time.{required_time_at}
+use Rattle.fs_rpc.specs.Transaction.{transaction_at}
 use Rattle.fs_rpc.specs.declared.message.Message.{Message}
-use Rattle.fs_rpc.specs.declared.message.Message.TheVariants.{Commit, GetDocument, BatchGetDocuments, RunQuery, Error}
+use Rattle.fs_rpc.specs.declared.message.Message.TheVariants.{Commit, GetDocument, BatchGetDocuments, RunQuery, BeginTransaction, Rollback, Error}
 
 -- ---- errors
 
@@ -77,6 +81,17 @@ commit_result_at id d place = do
   results ← results_in d place
   Ok (Commit id time results)
 
+-- the member of a begin's answer
+abbrev pub begin_result_members : List (List ℕ)
+begin_result_members = codes "transaction" ∷ []
+
+-- what a begin is answered
+unfoldable pub begin_result_at : Option (List ℕ) → Data → List ℕ → Result Message Bad
+begin_result_at id d place = do
+  _ ← only_at begin_result_members d place
+  transaction ← required_as transaction_at (codes "transaction") d place
+  Ok (BeginTransaction id transaction)
+
 -- what is told of the names that were asked for
 abbrev pub documents_result_at : Root → Option (List ℕ) → Items → List ℕ → Result Message Bad
 documents_result_at root id items place = each_at (batch_answer_at root) items 0 place >>= λ answers. Ok (BatchGetDocuments id answers)
@@ -101,9 +116,25 @@ list_result_at root id items place = if answers_names items then documents_resul
 abbrev pub answers_commit : Data → Bool
 answers_commit d = is_there (codes "commitTime") d || is_there (codes "commit_time") d
 
--- an object, as what it answers: a commit, or a read of the document that it is
+-- whether an object is what a begin is answered
+abbrev pub answers_begin : Data → Bool
+answers_begin d = is_there (codes "transaction") d
+
+abbrev pub has_none : Members → Bool
+has_none no_members = true
+has_none (member k d ms) = false
+
+-- whether an object is what a rollback is answered: it has no members
+abbrev pub answers_rollback : Data → Bool
+answers_rollback d = option_map_or has_none (as_object d) false
+
+-- an object, as what it answers: a commit, a begin, a rollback, or a read of the document that it is
 abbrev pub object_result_at : Root → Option (List ℕ) → Data → List ℕ → Result Message Bad
-object_result_at root id d place = if answers_commit d then commit_result_at id d place else document_at root d place >>= λ document. Ok (GetDocument id document)
+object_result_at root id d place =
+    if answers_commit d then commit_result_at id d place
+    else if answers_begin d then begin_result_at id d place
+    else if answers_rollback d then Ok (Rollback id)
+    else document_at root d place >>= λ document. Ok (GetDocument id document)
 
 -- A result has no name for its method, so it is told by its shape.
 unfoldable pub result_at : Root → Option (List ℕ) → Data → List ℕ → Result Message Bad

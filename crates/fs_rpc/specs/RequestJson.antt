@@ -1,7 +1,8 @@
 -- The JSON of requests, as it is written. The members of each object stand in byte order of their names, and what is absent is
 -- left out. So are writes where there are none; documents that are none are an empty list, since they have to be there. A
 -- query's parent, the root's documents or one of them, stands beside it. (v1 reference: `CommitRequest`,
--- `GetDocumentRequest`, `BatchGetDocumentsRequest`, `RunQueryRequest`; proto3 JSON.)
+-- `GetDocumentRequest`, `BatchGetDocumentsRequest`, `RunQueryRequest`, `BeginTransactionRequest`, `RollbackRequest`; proto3
+-- JSON.)
 --
 --     a commit of a delete            {"commit":{"database":"projects/p/databases/d","writes":[{"delete":".."}]},"id":"1"}
 --     a read, without an id           {"getDocument":{"name":"projects/p/databases/d/documents/c/a"}}
@@ -9,7 +10,10 @@
 --                                      "readTime":"2024-01-01T00:00:00Z"}}
 --     the collection c of the root    {"id":"2","runQuery":{"parent":"projects/p/databases/d/documents",
 --                                      "structuredQuery":{"from":[{"collectionId":"c"}]}}}
-use Rattle.std.specs.Prelude.{ℕ, ℤ, List, [], ◌∷◌, Option, Some, None, map, codes}
+--     a begin, which has no id        {"beginTransaction":{"database":"projects/p/databases/d","options":{"readWrite":{}}}}
+--     a rollback of transaction 2     {"id":"3","rollback":{"database":"projects/p/databases/d",
+--                                      "transaction":"AAAAAAAAAAI="}}
+use Rattle.std.specs.Prelude.{ℕ, List, [], ◌∷◌, Option, Some, None, map, codes}
 use Rattle.fs_path.specs.Database.{database_text}
 use Rattle.fs_path.specs.Document.{document_text, under}
 use Rattle.fs_path.specs.declared.field.FieldPath.{FieldPath}
@@ -18,7 +22,6 @@ use Rattle.fs_path.specs.declared.name.Root.{Root}
 use Rattle.fs_path.specs.declared.scope.Scope.{Scope}
 use Rattle.serde_json.specs.Data.{Data, string, array, object, Items, Members, no_members, member}
 use Rattle.serde_json.specs.View.{items_of}
-use Rattle.fs_json.specs.Time.{time_json}
 use Rattle.fs_query.specs.Asked.{Asked}
 use Rattle.fs_path.specs.Scope.{scope_parent}
 use Rattle.fs_queryjson.specs.Written.{query_json}
@@ -26,9 +29,14 @@ use Rattle.fs_write.specs.declared.write.Write.{Write}
 use Rattle.fs_writejson.specs.Mask.{mask_json}
 use Rattle.fs_writejson.specs.Written.{write_json}
 use Rattle.fs_rpc.specs.Id.{with_id_put}
+use Rattle.fs_rpc.specs.Options.{options_json}
+use Rattle.fs_rpc.specs.Transaction.{transaction_json, with_transaction}
+use Rattle.fs_rpc.specs.When.{time_of, transaction_of, with_read_time, with_when}
+use Rattle.fs_rpc.specs.declared.options.TransactionOptions.{TransactionOptions}
 use Rattle.fs_rpc.specs.declared.request.Envelope.{Envelope}
 use Rattle.fs_rpc.specs.declared.request.Request.{Request}
-use Rattle.fs_rpc.specs.declared.request.Request.TheVariants.{Commit, GetDocument, BatchGetDocuments, RunQuery}
+use Rattle.fs_rpc.specs.declared.request.Request.TheVariants.{Commit, GetDocument, BatchGetDocuments, RunQuery, BeginTransaction, Rollback}
+use Rattle.fs_rpc.specs.declared.when.When.{When}
 
 -- ---- parts
 
@@ -54,43 +62,53 @@ abbrev pub with_mask : Option (List FieldPath) → Members → Members
 with_mask None rest = rest
 with_mask (Some paths) rest = member (codes "mask") (mask_json paths) rest
 
--- the time of a read, where there is one, in front of what follows
-abbrev pub with_read_time : Option ℤ → Members → Members
-with_read_time None rest = rest
-with_read_time (Some time) rest = member (codes "readTime") (time_json time) rest
-
 -- what the collections of a query stand below: the root's documents, or one of them
 abbrev pub parent_json : Root → Scope → Data
 parent_json database scope = string (document_text (under database (scope_parent scope)))
 
 -- ---- methods
 
-abbrev pub commit_json : Root → List Write → Data
-commit_json database writes = object (member (codes "database") (database_json database) (writes_member writes))
+abbrev pub commit_json : Root → List Write → Option ℕ → Data
+commit_json database writes transaction =
+    object (member (codes "database") (database_json database) (with_transaction transaction (writes_member writes)))
 
-abbrev pub get_json : DocName → Option (List FieldPath) → Option ℤ → Data
-get_json name mask time = object (with_mask mask (member (codes "name") (name_json name) (with_read_time time no_members)))
+abbrev pub get_json : DocName → Option (List FieldPath) → When → Data
+get_json name mask when = object (with_mask mask (member (codes "name") (name_json name) (with_when when no_members)))
 
-abbrev pub batch_get_json : Root → List DocName → Option (List FieldPath) → Option ℤ → Data
-batch_get_json database documents mask time =
-    object (member (codes "database") (database_json database) (member (codes "documents") (array (names_json documents)) (with_mask mask (with_read_time time no_members))))
+abbrev pub batch_get_json : Root → List DocName → Option (List FieldPath) → When → Data
+batch_get_json database documents mask when =
+    object (member (codes "database") (database_json database) (member (codes "documents") (array (names_json documents)) (with_mask mask (with_when when no_members))))
 
-abbrev pub run_query_json : Root → Asked → Option ℤ → Data
-run_query_json database query time =
-    object (member (codes "parent") (parent_json database query.scope) (with_read_time time (member (codes "structuredQuery") (query_json query) no_members)))
+-- the query stands between the time and the transaction
+abbrev pub run_query_json : Root → Asked → When → Data
+run_query_json database query when =
+    object (member (codes "parent") (parent_json database query.scope)
+    (with_read_time (time_of when) (member (codes "structuredQuery") (query_json query) (with_transaction (transaction_of when) no_members))))
+
+-- options are written also where they are what is meant without them
+abbrev pub begin_json : Root → TransactionOptions → Data
+begin_json database options = object (member (codes "database") (database_json database) (member (codes "options") (options_json options) no_members))
+
+abbrev pub rollback_json : Root → ℕ → Data
+rollback_json database transaction =
+    object (member (codes "database") (database_json database) (member (codes "transaction") (transaction_json transaction) no_members))
 
 -- what stands under the method
 abbrev pub request_json : Request → Data
-request_json (Commit database writes) = commit_json database writes
-request_json (GetDocument name mask time) = get_json name mask time
-request_json (BatchGetDocuments database documents mask time) = batch_get_json database documents mask time
-request_json (RunQuery database query time) = run_query_json database query time
+request_json (Commit database writes transaction) = commit_json database writes transaction
+request_json (GetDocument name mask when) = get_json name mask when
+request_json (BatchGetDocuments database documents mask when) = batch_get_json database documents mask when
+request_json (RunQuery database query when) = run_query_json database query when
+request_json (BeginTransaction database options) = begin_json database options
+request_json (Rollback database transaction) = rollback_json database transaction
 
 abbrev pub method_of : Request → List ℕ
-method_of (Commit database writes) = codes "commit"
-method_of (GetDocument name mask time) = codes "getDocument"
-method_of (BatchGetDocuments database documents mask time) = codes "batchGetDocuments"
-method_of (RunQuery database query time) = codes "runQuery"
+method_of (Commit database writes transaction) = codes "commit"
+method_of (GetDocument name mask when) = codes "getDocument"
+method_of (BatchGetDocuments database documents mask when) = codes "batchGetDocuments"
+method_of (RunQuery database query when) = codes "runQuery"
+method_of (BeginTransaction database options) = codes "beginTransaction"
+method_of (Rollback database transaction) = codes "rollback"
 
 -- ---- requests with their ids
 

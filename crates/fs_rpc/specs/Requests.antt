@@ -1,6 +1,10 @@
 -- The requests that are built, as proto3 JSON: what each reads as, or the first place in the walk where it is at fault.
--- (v1 reference: `CommitRequest`, `GetDocumentRequest`, `BatchGetDocumentsRequest`, `RunQueryRequest`.)
-use Rattle.std.specs.Prelude.{ℕ, ℤ, List, [], ◌∷◌, ◌++◌, Option, Some, None, Result, Ok, Err, codes, if◌then◌else◌, ⊤}
+-- (v1 reference: `CommitRequest`, `GetDocumentRequest`, `BatchGetDocumentsRequest`, `RunQueryRequest`,
+-- `BeginTransactionRequest`, `RollbackRequest`.)
+--
+--     under "beginTransaction"    {"database":"projects/p/databases/d"}                                  begins one that reads and writes
+--     under "rollback"            {"database":"projects/p/databases/d","transaction":"AAAAAAAAAAI="}     ends transaction 2
+use Rattle.std.specs.Prelude.{ℕ, List, [], ◌∷◌, ◌++◌, Option, Some, None, Result, Ok, Err, codes, if◌then◌else◌, ⊤}
 use Rattle.std.specs.List.{list_any}
 use Rattle.std.specs.Str.{bytes_eq}
 use Rattle.serde_json.specs.Data.{Data, Items}
@@ -14,7 +18,7 @@ use Rattle.fs_path.specs.declared.name.DocName.{DocName}
 use Rattle.fs_path.specs.declared.name.Root.{Root}
 use Rattle.fs_path.specs.declared.place.Rule.TheVariants.{G}
 use Rattle.fs_json.specs.Answer.{made, or_fault, ◌>>=◌}
-use Rattle.fs_json.specs.Members.{member_or, required_at, only_at, at_most_one_at, unbuilt_at}
+use Rattle.fs_json.specs.Members.{member_or, required_as, required_at, only_at}
 use Rattle.fs_json.specs.Paths.{path_at, document_name_at as name_at}
 use Rattle.fs_json.specs.Scalars.{text_at}
 use Rattle.fs_json.specs.declared.bad.Bad.{Bad}
@@ -26,9 +30,12 @@ use Rattle.fs_writejson.specs.Mask.{mask_at}
 use Rattle.fs_writejson.specs.Rules.{judged_at}
 use Rattle.fs_json.specs.Walk.{each_at}
 use Rattle.fs_writejson.specs.declared.draft.Draft.{Draft}
-use Rattle.fs_json.specs.Time.{optional_time_at}
+use Rattle.fs_rpc.specs.Options.{options_in}
+use Rattle.fs_rpc.specs.Transaction.{optional_transaction_at, transaction_at}
+use Rattle.fs_rpc.specs.When.{when_at, when_members}
 use Rattle.fs_rpc.specs.declared.request.Request.{Request}
-use Rattle.fs_rpc.specs.declared.request.Request.TheVariants.{Commit, GetDocument, BatchGetDocuments, RunQuery}
+use Rattle.fs_rpc.specs.declared.request.Request.TheVariants.{Commit, GetDocument, BatchGetDocuments, RunQuery, BeginTransaction, Rollback}
+use Rattle.fs_rpc.specs.declared.when.When.{When}
 
 -- ---- members
 
@@ -44,14 +51,6 @@ drafts_in root d place = member_or [] (drafts_at root) (codes "writes") d place
 -- without a mask all fields are shown
 abbrev pub mask_in : Data → List ℕ → Result (Option (List FieldPath)) Bad
 mask_in d place = member_or None (λ x p. made Some (mask_at x p)) (codes "mask") d place
-
--- when documents are read, of which at most one way is given
-abbrev pub when_members : List (List ℕ)
-when_members = codes "transaction" ∷ codes "readTime" ∷ []
-
--- the time at which they are read, or none: as they are now; a transaction isn't built
-abbrev pub when_at : Data → List ℕ → Result (Option ℤ) Bad
-when_at d place = at_most_one_at when_members d place >>= λ _. unbuilt_at (codes "transaction" ∷ []) d place >>= λ _. optional_time_at (codes "readTime") d place
 
 -- what has collections: the root's documents, or one of them, by its ids
 abbrev pub parent_at : Root → Data → List ℕ → Result (List (List ℕ)) Bad
@@ -82,9 +81,9 @@ commit_at root d place = do
   _ ← only_at commit_members d place
   _ ← database_at root d place
   drafts ← drafts_in root d place
-  _ ← unbuilt_at (codes "transaction" ∷ []) d place
+  transaction ← optional_transaction_at (codes "transaction") d place
   writes ← judged_at drafts (member_place place (codes "writes"))
-  Ok (Commit root writes)
+  Ok (Commit root writes transaction)
 
 abbrev pub get_members : List (List ℕ)
 get_members = codes "name" ∷ codes "mask" ∷ when_members
@@ -95,8 +94,8 @@ get_at root d place = do
   text ← required_at (codes "name") d place
   name ← name_at root text (member_place place (codes "name"))
   mask ← mask_in d place
-  time ← when_at d place
-  Ok (GetDocument name mask time)
+  when ← when_at d place
+  Ok (GetDocument name mask when)
 
 abbrev pub batch_get_members : List (List ℕ)
 batch_get_members = codes "database" ∷ codes "documents" ∷ codes "mask" ∷ when_members
@@ -108,20 +107,20 @@ batch_get_at root d place = do
   list ← required_at (codes "documents") d place
   names ← names_at root list (member_place place (codes "documents"))
   mask ← mask_in d place
-  time ← when_at d place
-  Ok (BatchGetDocuments root names mask time)
+  when ← when_at d place
+  Ok (BatchGetDocuments root names mask when)
 
 abbrev pub run_query_members : List (List ℕ)
 run_query_members = codes "parent" ∷ codes "structuredQuery" ∷ when_members
 
 -- a query below a parent, and when it is asked; its rules are tested after the walk of the whole request
-unfoldable pub structured_at : List (List ℕ) → Data → List ℕ → Result (Asked × Option ℤ) Bad
+unfoldable pub structured_at : List (List ℕ) → Data → List ℕ → Result (Asked × When) Bad
 structured_at parent d place = do
   structured ← required_at (codes "structuredQuery") d place
   walked ← walked_at parent structured (member_place place (codes "structuredQuery"))
-  time ← when_at d place
+  when ← when_at d place
   query ← permitted_at walked (member_place place (codes "structuredQuery"))
-  Ok (query, time)
+  Ok (query, when)
 
 unfoldable pub run_query_at : Root → Data → List ℕ → Result Request Bad
 run_query_at root d place = do
@@ -131,6 +130,26 @@ run_query_at root d place = do
   asked ← structured_at parent d place
   Ok (RunQuery root asked.0 asked.1)
 
+abbrev pub begin_members : List (List ℕ)
+begin_members = codes "database" ∷ codes "options" ∷ []
+
+unfoldable pub begin_at : Root → Data → List ℕ → Result Request Bad
+begin_at root d place = do
+  _ ← only_at begin_members d place
+  _ ← database_at root d place
+  options ← options_in d place
+  Ok (BeginTransaction root options)
+
+abbrev pub rollback_members : List (List ℕ)
+rollback_members = codes "database" ∷ codes "transaction" ∷ []
+
+unfoldable pub rollback_at : Root → Data → List ℕ → Result Request Bad
+rollback_at root d place = do
+  _ ← only_at rollback_members d place
+  _ ← database_at root d place
+  transaction ← required_as transaction_at (codes "transaction") d place
+  Ok (Rollback root transaction)
+
 -- what a method asks for
 abbrev pub request_at : Root → List ℕ → Data → Result Request Bad
 request_at root method d =
@@ -138,4 +157,6 @@ request_at root method d =
     else if bytes_eq method (codes "getDocument") then get_at root d method
     else if bytes_eq method (codes "batchGetDocuments") then batch_get_at root d method
     else if bytes_eq method (codes "runQuery") then run_query_at root d method
+    else if bytes_eq method (codes "beginTransaction") then begin_at root d method
+    else if bytes_eq method (codes "rollback") then rollback_at root d method
     else Err (Method method)

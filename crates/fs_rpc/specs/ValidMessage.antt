@@ -6,7 +6,7 @@ use Rattle.fs_valjson.specs.Valid.{IsValid}
 use Rattle.fs_rpc.specs.declared.message.BatchAnswer.{BatchAnswer}
 use Rattle.fs_rpc.specs.declared.message.BatchAnswer.TheVariants.{Found, Missing}
 use Rattle.fs_rpc.specs.declared.message.Message.{Message}
-use Rattle.fs_rpc.specs.declared.message.Message.TheVariants.{Commit, GetDocument, BatchGetDocuments, RunQuery, Error}
+use Rattle.fs_rpc.specs.declared.message.Message.TheVariants.{Commit, GetDocument, BatchGetDocuments, RunQuery, BeginTransaction, Rollback, Error}
 use Rattle.fs_writejson.specs.Valid.{ResultHasNames}
 
 -- what is told of a name of the root
@@ -20,4 +20,6 @@ IsMessageOf root (Commit id time results) = AllByRecursion ResultHasNames result
 IsMessageOf root (GetDocument id document) = IsValid root document
 IsMessageOf root (BatchGetDocuments id answers) = AllByRecursion (IsAnswerOf root) answers
 IsMessageOf root (RunQuery id documents time) = AllByRecursion (IsValid root) documents
+IsMessageOf root (BeginTransaction id transaction) = Unit {0}
+IsMessageOf root (Rollback id) = Unit {0}
 IsMessageOf root (Error id code message) = Unit {0}

@@ -13,7 +13,7 @@ use Rattle.fs_queryjson.specs.Valid.{IsValid}
 use Rattle.fs_write.specs.declared.write.Write.{Write}
 use Rattle.fs_writejson.specs.Valid.{IsWriteOf}
 use Rattle.fs_rpc.specs.declared.request.Request.{Request}
-use Rattle.fs_rpc.specs.declared.request.Request.TheVariants.{Commit, GetDocument, BatchGetDocuments, RunQuery}
+use Rattle.fs_rpc.specs.declared.request.Request.TheVariants.{Commit, GetDocument, BatchGetDocuments, RunQuery, BeginTransaction, Rollback}
 
 -- writes of the root's documents, none of which breaks a rule of writes
 pub record IsCommitOf (root : Root) (database : Root) (writes : List Write) : Type 0 where
@@ -34,9 +34,16 @@ pub record IsQueryOf (root : Root) (database : Root) (query : Asked) : Type 0 wh
   pub parent : IsParentOf root (scope_parent query.scope)
   pub valid : IsValid query
 
--- a request of the root's documents; any mask and any time of a read may be given
+-- a database that is the root's
+pub record IsOfRoot (root : Root) (database : Root) : Type 0 where
+  pub same : database ≡ root
+  pub named : IsDatabase root
+
+-- a request of the root's documents; any mask, any time, any transaction and any options may be given
 abbrev pub IsRequestOf : Root → Request → Type 0
-IsRequestOf root (Commit database writes) = IsCommitOf root database writes
-IsRequestOf root (GetDocument name mask time) = IsDocumentOf root name
-IsRequestOf root (BatchGetDocuments database documents mask time) = IsBatchOf root database documents
-IsRequestOf root (RunQuery database query time) = IsQueryOf root database query
+IsRequestOf root (Commit database writes transaction) = IsCommitOf root database writes
+IsRequestOf root (GetDocument name mask when) = IsDocumentOf root name
+IsRequestOf root (BatchGetDocuments database documents mask when) = IsBatchOf root database documents
+IsRequestOf root (RunQuery database query when) = IsQueryOf root database query
+IsRequestOf root (BeginTransaction database options) = IsOfRoot root database
+IsRequestOf root (Rollback database transaction) = IsOfRoot root database

@@ -1,7 +1,7 @@
 //! Messages: the answers to requests.
 use crate::id::copy_id;
 use fs_path::{Copied, DocName, List, Text};
-use fs_status::{Code, Refusal, message};
+use fs_status::{Code, Id, Refusal, message};
 use fs_time::Micros;
 use fs_value::{Document, Documents};
 use fs_write::WriteResults;
@@ -31,6 +31,15 @@ pub enum Message {
         id: Option<Text>,
         documents: Documents,
         time: Micros,
+    },
+    /// A transaction of this number was begun. (`BeginTransactionResponse`.)
+    BeginTransaction {
+        id: Option<Text>,
+        transaction: Id,
+    },
+    /// A transaction was rolled back.
+    Rollback {
+        id: Option<Text>,
     },
     /// The request was refused. (`google.rpc.Status`.)
     Error {
@@ -84,6 +93,13 @@ impl Message {
                 id: copy_id(alloc, id)?,
                 documents: documents.copy(alloc)?,
                 time: *time,
+            },
+            Message::BeginTransaction { id, transaction } => Message::BeginTransaction {
+                id: copy_id(alloc, id)?,
+                transaction: *transaction,
+            },
+            Message::Rollback { id } => Message::Rollback {
+                id: copy_id(alloc, id)?,
             },
             Message::Error { id, code, message } => Message::Error {
                 id: copy_id(alloc, id)?,

@@ -2,34 +2,35 @@
 ghost use Rattle.std.specs.Prelude.{◌≡◌, ◌↔◌, ◌≤◌, Some, IfOk, []};
 ghost use Rattle.serde_json.specs.Data.{depth};
 ghost use Rattle.serde_json.specs.Read.{max_depth, read};
-ghost use Rattle.serde_json.specs.View.{items_view, view as json};
+ghost use Rattle.serde_json.specs.View.{items_view, members_view, view as json};
 ghost use Rattle.fs_path.specs.Way.{place_of};
 ghost use Rattle.fs_path.specs.declared.place.Rule.TheVariants.{G};
 ghost use Rattle.fs_json.specs.Answer.{Gives, or_fault};
 ghost use Rattle.fs_status.specs.Status.{status_text};
 ghost use Rattle.fs_status.specs.declared.code.Code.{Code};
 ghost use Rattle.fs_rpc.specs.MessageJson.{message_json};
-ghost use Rattle.fs_rpc.specs.ReadMessage.{answers_commit, answers_names, code_named, commit_result_at, documents_result_at, error_at, if_numbered, list_result_at, message_at, message_of, object_result_at, outcome_at, query_result_at, required_integer_at, result_at};
+ghost use Rattle.fs_rpc.specs.ReadMessage.{answers_begin, answers_commit, answers_names, answers_rollback, begin_result_at, code_named, commit_result_at, documents_result_at, error_at, has_none, if_numbered, list_result_at, message_at, message_of, object_result_at, outcome_at, query_result_at, required_integer_at, result_at};
 ghost use Rattle.fs_rpc.specs.ValidMessage.{IsMessageOf};
 
 use crate::answers::{answered, read_answers, read_query_answers};
 use crate::id::read_id;
 use crate::message::Message;
 use crate::names::{
-    CODE, COMMIT_RESULT_MEMBERS, COMMIT_TIME, ERROR_MEMBERS, FOUND, MESSAGE, MESSAGE_MEMBERS,
-    MISSING, OUTCOMES, RESULT, STATUS,
+    BEGIN_RESULT_MEMBERS, CODE, COMMIT_RESULT_MEMBERS, COMMIT_TIME, ERROR_MEMBERS, FOUND, MESSAGE,
+    MESSAGE_MEMBERS, MISSING, OUTCOMES, RESULT, STATUS, TRANSACTION,
 };
 use crate::results::read_results;
+use crate::transaction::read_transaction;
 use fs_json::{Bad, is_there, one_of, only, read_required_text, read_required_time, required};
 use fs_path::{Root, Rule, Text, Way};
 use fs_status::Code;
 use fs_valjson::read_document;
-use serde_json::Value;
+use serde_json::{Map, Value};
 use std::alloc::{AllocError, Global};
 
 /// Reads a message of this root's documents from its JSON. It is told by its shape what was asked for: a list whose first
 /// item has `found` or `missing`, and an empty one, answers names; any other list a query; an object with `commitTime` a
-/// commit; and any other is a document.
+/// commit, one with `transaction` a begin, and an empty one a rollback; and any other is a document.
 ///
 /// A text that is no JSON object is refused at the empty place, and a query's items that have different times at `result`.
 pub fn read_message(alloc: Global, root: &Root, text: &str) -> Result<Message, Bad>
@@ -227,6 +228,10 @@ fn read_object(
 {
     if answers_commit(v) {
         read_commit(alloc, id, v, way)
+    } else if answers_begin(v) {
+        read_begin(alloc, id, v, way)
+    } else if answers_rollback(v) {
+        Ok(Message::Rollback { id })
     } else {
         let document = read_document(alloc, root, v, way)?;
         Ok(Message::GetDocument { id, document })
@@ -244,6 +249,17 @@ fn read_commit(alloc: Global, id: Option<Text>, v: &Value, way: &Way<'_>) -> Res
     Ok(Message::Commit { id, time, results })
 }
 
+/// Reads what a begin is answered. (v1 reference, `BeginTransactionResponse`.)
+#[tactic(auto, unfolding(crate::specs::ReadMessage::begin_result_at))]
+fn read_begin(alloc: Global, id: Option<Text>, v: &Value, way: &Way<'_>) -> Result<Message, Bad>
+    ensures { Gives (λ m. m) result (begin_result_at id (json v.now) (place_of way.now)) }
+{
+    only(alloc, v, &BEGIN_RESULT_MEMBERS, way)?;
+    let transaction = required(alloc, v, TRANSACTION, way)?;
+    let transaction = read_transaction(alloc, transaction, &way.member(TRANSACTION))?;
+    Ok(Message::BeginTransaction { id, transaction })
+}
+
 /// Whether a list answers names that were asked for, which is told by its first item.
 fn answers_names(items: &[Value]) -> bool
     ensures { result ≡ answers_names (items_view items.now) }
@@ -259,4 +275,27 @@ fn answers_commit(v: &Value) -> bool
     ensures { result ≡ answers_commit (json v.now) }
 {
     is_there(v, COMMIT_TIME) || is_there(v, "commit_time")
+}
+
+/// Whether an object is what a begin is answered.
+fn answers_begin(v: &Value) -> bool
+    ensures { result ≡ answers_begin (json v.now) }
+{
+    is_there(v, TRANSACTION)
+}
+
+/// Whether an object is what a rollback is answered.
+fn answers_rollback(v: &Value) -> bool
+    ensures { result ≡ answers_rollback (json v.now) }
+{
+    match v {
+        Value::Object(members) => is_empty(members),
+        _ => false,
+    }
+}
+
+fn is_empty(members: &Map<String, Value>) -> bool
+    ensures { result ≡ has_none (members_view members.now.entries) }
+{
+    members.is_empty()
 }

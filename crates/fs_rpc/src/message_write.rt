@@ -9,20 +9,22 @@ ghost use Rattle.fs_path.specs.declared.name.Root.{Root};
 ghost use Rattle.fs_valjson.specs.Document.{document_json};
 ghost use Rattle.fs_json.specs.Time.{IsTimeHeld};
 ghost use Rattle.fs_writejson.specs.Results.{result_json, IsResultHeld};
-ghost use Rattle.fs_rpc.specs.MessageJson.{batch_answer_json, commit_json, error_json, error_members, message_json, message_members, query_answer_json, query_answers_json, result_members};
+ghost use Rattle.fs_rpc.specs.MessageJson.{batch_answer_json, begin_json, commit_json, error_json, error_members, message_json, message_members, query_answer_json, query_answers_json, result_members};
 ghost use Rattle.fs_rpc.specs.MessageSteps.{IsAnswerHeld, IsDocumentHeld, IsMessageHeld, timed_put};
 ghost use Rattle.fs_rpc.specs.ReadMessage.{message_of};
+ghost use Rattle.fs_rpc.specs.Transaction.{IsTransactionHeld};
 ghost use Rattle.fs_rpc.specs.ValidMessage.{IsMessageOf};
 
 use crate::id::put_id;
 use crate::list::put_list;
 use crate::message::{BatchAnswer, Message};
 use crate::names::{
-    COMMIT_TIME, DOCUMENT, ERROR, FOUND, MISSING, READ_TIME, RESULT, WRITE_RESULTS,
+    COMMIT_TIME, DOCUMENT, ERROR, FOUND, MISSING, READ_TIME, RESULT, TRANSACTION, WRITE_RESULTS,
 };
-use fs_json::write_time;
+use crate::transaction::write_transaction;
+use fs_json::{with_one, write_time};
 use fs_path::{Text, print_document};
-use fs_status::Code;
+use fs_status::{Code, Id};
 use fs_time::Micros;
 use fs_valjson::write_document;
 use fs_value::Document;
@@ -80,6 +82,11 @@ fn write_members(alloc: Global, m: &Message) -> Result<Map<String, Value>, Alloc
             let written = write_query_answers(alloc, documents.as_slice(), *time)?;
             with_result(alloc, id, Value::Array(written))
         }
+        Message::BeginTransaction { id, transaction } => {
+            let written = write_begin(alloc, *transaction)?;
+            with_result(alloc, id, written)
+        }
+        Message::Rollback { id } => with_result(alloc, id, Value::Object(Map::new(alloc))),
         Message::Error { id, code, message } => {
             let written = error_json(alloc, *code, message.as_str())?;
             with_error(alloc, id, written)
@@ -123,6 +130,14 @@ fn write_commit(alloc: Global, time: Micros, results: &[WriteResult]) -> Result<
     let written = write_results(alloc, results)?;
     put_list(alloc, &mut members, WRITE_RESULTS, written)?;
     Ok(Value::Object(members))
+}
+
+/// What a begin is answered. (v1 reference, `BeginTransactionResponse`.)
+fn write_begin(alloc: Global, transaction: Id) -> Result<Value, AllocError>
+    ensures value { IfOk result (λ j. json j ≡ begin_json transaction) }
+    ensures held { OnOk result (IsTransactionHeld transaction) }
+{
+    with_one(alloc, TRANSACTION, write_transaction(alloc, transaction)?)
 }
 
 fn write_results(alloc: Global, results: &[WriteResult]) -> Result<Vec<Value>, AllocError>

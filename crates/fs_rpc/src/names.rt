@@ -1,13 +1,13 @@
 //! The names of methods and members.
 
-/// The method of each request, in the order of the walk. The first four are built.
+/// The method of each request, in the order of the walk. The first six are built.
 pub const METHODS: [&str; 17] = [
     COMMIT,
     GET_DOCUMENT,
     BATCH_GET_DOCUMENTS,
     RUN_QUERY,
-    "beginTransaction",
-    "rollback",
+    BEGIN_TRANSACTION,
+    ROLLBACK,
     "listen",
     "write",
     "createIndex",
@@ -29,6 +29,10 @@ pub const BATCH_GET_DOCUMENTS: &str = "batchGetDocuments";
 
 pub const RUN_QUERY: &str = "runQuery";
 
+pub const BEGIN_TRANSACTION: &str = "beginTransaction";
+
+pub const ROLLBACK: &str = "rollback";
+
 /// The members of an envelope beside its method.
 pub const ENVELOPE_HEAD: [&str; 1] = [ID];
 
@@ -47,8 +51,9 @@ pub const BATCH_GET_MEMBERS: [&str; 5] = [DATABASE, DOCUMENTS, MASK, TRANSACTION
 
 pub const RUN_QUERY_MEMBERS: [&str; 4] = [PARENT, STRUCTURED_QUERY, TRANSACTION, READ_TIME];
 
-/// The member of commits and reads that isn't built.
-pub const UNBUILT_MEMBERS: [&str; 1] = [TRANSACTION];
+pub const BEGIN_MEMBERS: [&str; 2] = [DATABASE, OPTIONS];
+
+pub const ROLLBACK_MEMBERS: [&str; 2] = [DATABASE, TRANSACTION];
 
 /// When documents are read, of which at most one way is given.
 pub const WHEN_MEMBERS: [&str; 2] = [TRANSACTION, READ_TIME];
@@ -70,6 +75,21 @@ pub const STRUCTURED_QUERY: &str = "structuredQuery";
 pub const TRANSACTION: &str = "transaction";
 
 pub const READ_TIME: &str = "readTime";
+
+pub const OPTIONS: &str = "options";
+
+/// The options of a transaction, of which at most one is given.
+pub const OPTIONS_MEMBERS: [&str; 2] = [READ_ONLY, READ_WRITE];
+
+pub const READ_ONLY: &str = "readOnly";
+
+pub const READ_ONLY_MEMBERS: [&str; 1] = [READ_TIME];
+
+pub const READ_WRITE: &str = "readWrite";
+
+pub const READ_WRITE_MEMBERS: [&str; 1] = [RETRY_TRANSACTION];
+
+pub const RETRY_TRANSACTION: &str = "retryTransaction";
 
 /// The members of a message.
 pub const MESSAGE_MEMBERS: [&str; 3] = [ERROR, ID, RESULT];
@@ -93,6 +113,8 @@ pub const COMMIT_RESULT_MEMBERS: [&str; 2] = [COMMIT_TIME, WRITE_RESULTS];
 pub const COMMIT_TIME: &str = "commitTime";
 
 pub const WRITE_RESULTS: &str = "writeResults";
+
+pub const BEGIN_RESULT_MEMBERS: [&str; 1] = [TRANSACTION];
 
 pub const BATCH_ANSWER_MEMBERS: [&str; 3] = [FOUND, MISSING, READ_TIME];
 

@@ -1,26 +1,26 @@
 //! Reading what stands under the method of a request.
-ghost use Rattle.std.specs.Prelude.{◌≡◌, ℤ, Option};
 ghost use Rattle.fs_query.specs.Asked.{Asked};
 ghost use Rattle.fs_path.specs.Way.{place_of};
 ghost use Rattle.serde_json.specs.View.{view as json};
 ghost use Rattle.fs_json.specs.Answer.{Gives};
-ghost use Rattle.fs_rpc.specs.Requests.{batch_get_at, commit_at, database_at, drafts_in, get_at, mask_in, parent_at, request_at, run_query_at, structured_at, when_at};
+ghost use Rattle.fs_rpc.specs.Options.{options_in};
+ghost use Rattle.fs_rpc.specs.Requests.{batch_get_at, begin_at, commit_at, database_at, drafts_in, get_at, mask_in, parent_at, request_at, rollback_at, run_query_at, structured_at};
+ghost use Rattle.fs_rpc.specs.declared.when.When.{When};
 
 use crate::distinct::read_names;
 use crate::names::{
-    BATCH_GET_DOCUMENTS, BATCH_GET_MEMBERS, COMMIT, COMMIT_MEMBERS, DATABASE, DOCUMENTS,
-    GET_DOCUMENT, GET_MEMBERS, MASK, NAME, PARENT, READ_TIME, RUN_QUERY, RUN_QUERY_MEMBERS,
-    STRUCTURED_QUERY, UNBUILT_MEMBERS, WHEN_MEMBERS, WRITES,
+    BATCH_GET_DOCUMENTS, BATCH_GET_MEMBERS, BEGIN_MEMBERS, BEGIN_TRANSACTION, COMMIT,
+    COMMIT_MEMBERS, DATABASE, DOCUMENTS, GET_DOCUMENT, GET_MEMBERS, MASK, NAME, PARENT, ROLLBACK,
+    ROLLBACK_MEMBERS, RUN_QUERY, RUN_QUERY_MEMBERS, STRUCTURED_QUERY, TRANSACTION, WRITES,
 };
+use crate::options::read_options_of;
 use crate::request::Request;
-use fs_json::{
-    Bad, at_most_one_of, member, only, read_document_name, read_optional_time, refuse_unbuilt,
-    required, unless_refused,
-};
+use crate::transaction::{read_optional_transaction, read_transaction};
+use crate::when::{When, read_when};
+use fs_json::{Bad, member, only, read_document_name, required, unless_refused};
 use fs_path::{Ids, Paths, Root, Rule, Text, Way, check_database, parse_parent};
 use fs_query::Query;
 use fs_queryjson::{judge_query, walk_query};
-use fs_time::Micros;
 use fs_writejson::{Drafts, judge, read_drafts, read_mask};
 use serde_json::Value;
 use std::alloc::Global;
@@ -35,6 +35,8 @@ pub fn read_method(alloc: Global, root: &Root, method: &str, v: &Value) -> Resul
         GET_DOCUMENT => read_get(alloc, root, v, &place),
         BATCH_GET_DOCUMENTS => read_batch_get(alloc, root, v, &place),
         RUN_QUERY => read_run_query(alloc, root, v, &place),
+        BEGIN_TRANSACTION => read_begin(alloc, root, v, &place),
+        ROLLBACK => read_rollback(alloc, root, v, &place),
         _ => Err(Bad::Method(Text::from_str(alloc, method)?)),
     }
 }
@@ -47,11 +49,12 @@ fn read_commit(alloc: Global, root: &Root, v: &Value, way: &Way<'_>) -> Result<R
     only(alloc, v, &COMMIT_MEMBERS, way)?;
     read_database(alloc, root, v, way)?;
     let drafts = read_drafts_of(alloc, root, v, way)?;
-    refuse_unbuilt(alloc, v, &UNBUILT_MEMBERS, way)?;
+    let transaction = read_optional_transaction(alloc, v, TRANSACTION, way)?;
     let writes = judge(alloc, drafts, &way.member(WRITES))?;
     Ok(Request::Commit {
         database: root.copy(alloc)?,
         writes,
+        transaction,
     })
 }
 
@@ -64,12 +67,8 @@ fn read_get(alloc: Global, root: &Root, v: &Value, way: &Way<'_>) -> Result<Requ
     let name = required(alloc, v, NAME, way)?;
     let name = read_document_name(alloc, root, name, &way.member(NAME))?;
     let mask = read_mask_of(alloc, v, way)?;
-    let read_time = read_when(alloc, v, way)?;
-    Ok(Request::GetDocument {
-        name,
-        mask,
-        read_time,
-    })
+    let when = read_when(alloc, v, way)?;
+    Ok(Request::GetDocument { name, mask, when })
 }
 
 /// Reads a `BatchGetDocumentsRequest`. A name that stands twice is asked for once.
@@ -82,12 +81,12 @@ fn read_batch_get(alloc: Global, root: &Root, v: &Value, way: &Way<'_>) -> Resul
     let names = required(alloc, v, DOCUMENTS, way)?;
     let documents = read_names(alloc, root, names, &way.member(DOCUMENTS))?;
     let mask = read_mask_of(alloc, v, way)?;
-    let read_time = read_when(alloc, v, way)?;
+    let when = read_when(alloc, v, way)?;
     Ok(Request::BatchGetDocuments {
         database: root.copy(alloc)?,
         documents,
         mask,
-        read_time,
+        when,
     })
 }
 
@@ -100,11 +99,11 @@ fn read_run_query(alloc: Global, root: &Root, v: &Value, way: &Way<'_>) -> Resul
     let parent = required(alloc, v, PARENT, way)?;
     let parent = read_parent(alloc, root, parent, &way.member(PARENT))?;
     let database = root.copy(alloc)?;
-    let (query, read_time) = read_structured(alloc, &parent, v, way)?;
+    let (query, when) = read_structured(alloc, &parent, v, way)?;
     Ok(Request::RunQuery {
         database,
         query,
-        read_time,
+        when,
     })
 }
 
@@ -115,21 +114,50 @@ fn read_structured(
     parent: &Ids,
     v: &Value,
     way: &Way<'_>,
-) -> Result<(Query, Option<Micros>), Bad>
-    ensures { Gives {Y = Asked × Option ℤ} (λ asked. asked) result
+) -> Result<(Query, When), Bad>
+    ensures { Gives {Y = Asked × When} (λ asked. asked) result
         (structured_at parent.now (json v.now) (place_of way.now)) }
 {
     let structured = required(alloc, v, STRUCTURED_QUERY, way)?;
     let walked = walk_query(alloc, parent, structured, &way.member(STRUCTURED_QUERY))?;
-    let read_time = match read_when(alloc, v, way) {
-        Ok(read_time) => read_time,
+    let when = match read_when(alloc, v, way) {
+        Ok(when) => when,
         Err(bad) => {
             drop(walked);
             return Err(bad);
         }
     };
     let query = judge_query(alloc, walked, &way.member(STRUCTURED_QUERY))?;
-    Ok((query, read_time))
+    Ok((query, when))
+}
+
+/// Reads a `BeginTransactionRequest`.
+#[tactic(auto, unfolding(crate::specs::Requests::begin_at))]
+fn read_begin(alloc: Global, root: &Root, v: &Value, way: &Way<'_>) -> Result<Request, Bad>
+    ensures { Gives (λ r. r) result (begin_at root.now (json v.now) (place_of way.now)) }
+{
+    only(alloc, v, &BEGIN_MEMBERS, way)?;
+    read_database(alloc, root, v, way)?;
+    let options = read_options_of(alloc, v, way)?;
+    Ok(Request::BeginTransaction {
+        database: root.copy(alloc)?,
+        options,
+    })
+}
+
+/// Reads a `RollbackRequest`.
+#[tactic(auto, unfolding(crate::specs::Requests::rollback_at))]
+fn read_rollback(alloc: Global, root: &Root, v: &Value, way: &Way<'_>) -> Result<Request, Bad>
+    ensures { Gives (λ r. r) result (rollback_at root.now (json v.now) (place_of way.now)) }
+{
+    only(alloc, v, &ROLLBACK_MEMBERS, way)?;
+    read_database(alloc, root, v, way)?;
+    let transaction = required(alloc, v, TRANSACTION, way)?;
+    let transaction = read_transaction(alloc, transaction, &way.member(TRANSACTION))?;
+    Ok(Request::Rollback {
+        database: root.copy(alloc)?,
+        transaction,
+    })
 }
 
 // The database has to be the root's.
@@ -170,13 +198,4 @@ fn read_mask_of(alloc: Global, v: &Value, way: &Way<'_>) -> Result<Option<Paths>
         Some(mask) => Ok(Some(read_mask(alloc, mask, &way.member(MASK))?)),
         None => Ok(None),
     }
-}
-
-// The time at which documents are read, if it is given. A transaction can't be given yet.
-fn read_when(alloc: Global, v: &Value, way: &Way<'_>) -> Result<Option<Micros>, Bad>
-    ensures { Gives {Y = Option ℤ} (λ t. t) result (when_at (json v.now) (place_of way.now)) }
-{
-    at_most_one_of(alloc, v, &WHEN_MEMBERS, way)?;
-    refuse_unbuilt(alloc, v, &UNBUILT_MEMBERS, way)?;
-    read_optional_time(alloc, v, READ_TIME, way)
 }

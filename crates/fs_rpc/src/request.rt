@@ -2,9 +2,11 @@
 ghost use Rattle.std.specs.Prelude.{◌≡◌, IfOk};
 
 use crate::id::copy_id;
+use crate::options::TransactionOptions;
+use crate::when::When;
 use fs_path::{DocName, Names, Paths, Root, Text};
 use fs_query::Query;
-use fs_time::Micros;
+use fs_status::Id;
 use fs_write::Writes;
 use std::alloc::{AllocError, Global};
 
@@ -12,32 +14,43 @@ use std::alloc::{AllocError, Global};
 /// (docs/DECISIONS.md, "A request holds its database".)
 #[derive(Drop, Debug)]
 pub enum Request {
-    /// `commit`: writes that are all made at one time, or not at all. (v1 reference, `CommitRequest`.)
+    /// `commit`: writes that are all made at one time, or not at all, and end the transaction, where they are of one. (v1
+    /// reference, `CommitRequest`.)
     Commit {
         database: Root,
         writes: Writes,
+        transaction: Option<Id>,
     },
-    /// `getDocument`: one document, or of its fields those that the mask names, as it was at the read time, or as it is now
-    /// where there is none. (`GetDocumentRequest`.)
+    /// `getDocument`: one document, or of its fields those that the mask names. (`GetDocumentRequest`.)
     GetDocument {
         name: DocName,
         mask: Option<Paths>,
-        read_time: Option<Micros>,
+        when: When,
     },
     /// `batchGetDocuments`: several documents, each asked for once, in the order in which they were named first, all as of
-    /// one time, as above. (`BatchGetDocumentsRequest`.)
+    /// one time. (`BatchGetDocumentsRequest`.)
     BatchGetDocuments {
         database: Root,
         documents: Names,
         mask: Option<Paths>,
-        read_time: Option<Micros>,
+        when: When,
     },
-    /// `runQuery`: the documents that a query answers, as of one time, as above. The parent of its collection stands in the
-    /// query's scope. (`RunQueryRequest`.)
+    /// `runQuery`: the documents that a query answers, as of one time. The parent of its collection stands in the query's
+    /// scope. (`RunQueryRequest`.)
     RunQuery {
         database: Root,
         query: Query,
-        read_time: Option<Micros>,
+        when: When,
+    },
+    /// `beginTransaction`: a transaction begins, whose number is the answer. (`BeginTransactionRequest`.)
+    BeginTransaction {
+        database: Root,
+        options: TransactionOptions,
+    },
+    /// `rollback`: a transaction ends without writes. (`RollbackRequest`.)
+    Rollback {
+        database: Root,
+        transaction: Id,
     },
 }
 
@@ -56,38 +69,50 @@ impl Request {
     {
         // In each, what holds most comes last, so that little is given back where memory runs out.
         Ok(match self {
-            Request::Commit { database, writes } => Request::Commit {
+            Request::Commit {
+                database,
+                writes,
+                transaction,
+            } => Request::Commit {
                 database: database.copy(alloc)?,
                 writes: writes.copy(alloc)?,
+                transaction: *transaction,
             },
-            Request::GetDocument {
-                name,
-                mask,
-                read_time,
-            } => Request::GetDocument {
+            Request::GetDocument { name, mask, when } => Request::GetDocument {
                 name: name.copy(alloc)?,
                 mask: copy_mask(alloc, mask)?,
-                read_time: *read_time,
+                when: *when,
             },
             Request::BatchGetDocuments {
                 database,
                 documents,
                 mask,
-                read_time,
+                when,
             } => Request::BatchGetDocuments {
                 database: database.copy(alloc)?,
                 mask: copy_mask(alloc, mask)?,
                 documents: documents.copy(alloc)?,
-                read_time: *read_time,
+                when: *when,
             },
             Request::RunQuery {
                 database,
                 query,
-                read_time,
+                when,
             } => Request::RunQuery {
                 database: database.copy(alloc)?,
                 query: query.copy(alloc)?,
-                read_time: *read_time,
+                when: *when,
+            },
+            Request::BeginTransaction { database, options } => Request::BeginTransaction {
+                database: database.copy(alloc)?,
+                options: *options,
+            },
+            Request::Rollback {
+                database,
+                transaction,
+            } => Request::Rollback {
+                database: database.copy(alloc)?,
+                transaction: *transaction,
             },
         })
     }

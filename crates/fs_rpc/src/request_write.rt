@@ -7,26 +7,28 @@ ghost use Rattle.serde_json.specs.Read.{max_depth};
 ghost use Rattle.serde_json.specs.View.{items_view, members_view, view as json};
 ghost use Rattle.serde_json.specs.Written.{compact_text};
 ghost use Rattle.fs_queryjson.specs.Written.{query_json};
-ghost use Rattle.fs_json.specs.Time.{IsTimeHeld};
 ghost use Rattle.fs_writejson.specs.Mask.{mask_json};
 ghost use Rattle.fs_writejson.specs.Written.{write_json};
 ghost use Rattle.fs_rpc.specs.Envelope.{request_of};
-ghost use Rattle.fs_rpc.specs.RequestJson.{batch_get_json, commit_json, database_json, envelope_json, envelope_members, get_json, method_of, names_json, parent_json, request_json, run_query_json, writes_json};
-ghost use Rattle.fs_rpc.specs.RequestSteps.{ArePathsHeld, IsMaskHeld, IsQueryHeld, IsRequestHeld, IsWriteHeld, with_mask_put, with_read_time_put};
+ghost use Rattle.fs_rpc.specs.RequestJson.{batch_get_json, begin_json, commit_json, database_json, envelope_json, envelope_members, get_json, method_of, names_json, parent_json, request_json, rollback_json, run_query_json, writes_json};
+ghost use Rattle.fs_rpc.specs.RequestSteps.{AreOptionsHeld, ArePathsHeld, IsMaskHeld, IsQueryHeld, IsRequestHeld, IsWhenHeld, IsWriteHeld, with_mask_put};
+ghost use Rattle.fs_rpc.specs.Transaction.{IsTransactionHeld};
 ghost use Rattle.fs_rpc.specs.ValidRequest.{IsRequestOf};
 
 use crate::id::put_id;
 use crate::list::put_list;
 use crate::names::{
-    BATCH_GET_DOCUMENTS, COMMIT, DATABASE, DOCUMENTS, GET_DOCUMENT, MASK, NAME, PARENT, READ_TIME,
-    RUN_QUERY, STRUCTURED_QUERY, WRITES,
+    BATCH_GET_DOCUMENTS, BEGIN_TRANSACTION, COMMIT, DATABASE, DOCUMENTS, GET_DOCUMENT, MASK, NAME,
+    OPTIONS, PARENT, ROLLBACK, RUN_QUERY, STRUCTURED_QUERY, WRITES,
 };
+use crate::options::{TransactionOptions, write_options};
 use crate::request::{Envelope, Request};
-use fs_json::write_time;
+use crate::transaction::put_transaction;
+use crate::when::{When, put_when};
 use fs_path::{DocName, Paths, Root, Scope, Text, print_database, print_document, print_parent};
 use fs_query::Query;
 use fs_queryjson::write_query;
-use fs_time::Micros;
+use fs_status::Id;
 use fs_write::Write;
 use fs_writejson::{write_mask, write_write};
 use serde_json::{Map, Value};
@@ -65,6 +67,8 @@ fn method_of(request: &Request) -> &'static str
         Request::GetDocument { .. } => GET_DOCUMENT,
         Request::BatchGetDocuments { .. } => BATCH_GET_DOCUMENTS,
         Request::RunQuery { .. } => RUN_QUERY,
+        Request::BeginTransaction { .. } => BEGIN_TRANSACTION,
+        Request::Rollback { .. } => ROLLBACK,
     }
 }
 
@@ -74,30 +78,40 @@ fn write_content(alloc: Global, request: &Request) -> Result<Value, AllocError>
     ensures held { OnOk result (IsRequestHeld request.now) }
 {
     match request {
-        Request::Commit { database, writes } => write_commit(alloc, database, writes.as_slice()),
-        Request::GetDocument {
-            name,
-            mask,
-            read_time,
-        } => write_get(alloc, name, mask, *read_time),
+        Request::Commit {
+            database,
+            writes,
+            transaction,
+        } => write_commit(alloc, database, writes.as_slice(), *transaction),
+        Request::GetDocument { name, mask, when } => write_get(alloc, name, mask, *when),
         Request::BatchGetDocuments {
             database,
             documents,
             mask,
-            read_time,
-        } => write_batch_get(alloc, database, documents.as_slice(), mask, *read_time),
+            when,
+        } => write_batch_get(alloc, database, documents.as_slice(), mask, *when),
         Request::RunQuery {
             database,
             query,
-            read_time,
-        } => write_run_query(alloc, database, query, *read_time),
+            when,
+        } => write_run_query(alloc, database, query, *when),
+        Request::BeginTransaction { database, options } => write_begin(alloc, database, *options),
+        Request::Rollback {
+            database,
+            transaction,
+        } => write_rollback(alloc, database, *transaction),
     }
 }
 
 /// Writes a `CommitRequest`. Writes that are none are left out.
-fn write_commit(alloc: Global, database: &Root, writes: &[Write]) -> Result<Value, AllocError>
-    ensures value { IfOk result (λ v. json v ≡ commit_json database.now writes.now) }
-    ensures held { OnOk result (AllByRecursion IsWriteHeld writes.now) }
+fn write_commit(
+    alloc: Global,
+    database: &Root,
+    writes: &[Write],
+    transaction: Option<Id>,
+) -> Result<Value, AllocError>
+    ensures value { IfOk result (λ v. json v ≡ commit_json database.now writes.now transaction) }
+    ensures held { OnOk result (AllByRecursion IsWriteHeld writes.now × IfSome transaction IsTransactionHeld) }
 {
     let mut members = Map::new(alloc);
     serde_json::put(
@@ -106,6 +120,7 @@ fn write_commit(alloc: Global, database: &Root, writes: &[Write]) -> Result<Valu
         DATABASE,
         database_value(alloc, database)?,
     )?;
+    put_transaction(alloc, &mut members, transaction)?;
     let written = write_writes(alloc, writes)?;
     put_list(alloc, &mut members, WRITES, written)?;
     Ok(Value::Object(members))
@@ -134,16 +149,16 @@ fn write_get(
     alloc: Global,
     name: &DocName,
     mask: &Option<Paths>,
-    read_time: Option<Micros>,
+    when: When,
 ) -> Result<Value, AllocError>
-    ensures value { IfOk result (λ v. json v ≡ get_json name.now mask.now read_time) }
-    ensures held { OnOk result (IsMaskHeld mask.now × IfSome read_time IsTimeHeld) }
+    ensures value { IfOk result (λ v. json v ≡ get_json name.now mask.now when) }
+    ensures held { OnOk result (IsMaskHeld mask.now × IsWhenHeld when) }
 {
     let mut members = Map::new(alloc);
     let name = print_document(alloc, name)?.into_string();
     serde_json::put(&mut members, alloc, NAME, Value::String(name))?;
     put_mask(alloc, &mut members, mask)?;
-    put_read_time(alloc, &mut members, read_time)?;
+    put_when(alloc, &mut members, when)?;
     Ok(Value::Object(members))
 }
 
@@ -153,10 +168,10 @@ fn write_batch_get(
     database: &Root,
     documents: &[DocName],
     mask: &Option<Paths>,
-    read_time: Option<Micros>,
+    when: When,
 ) -> Result<Value, AllocError>
-    ensures value { IfOk result (λ v. json v ≡ batch_get_json database.now documents.now mask.now read_time) }
-    ensures held { OnOk result (IsMaskHeld mask.now × IfSome read_time IsTimeHeld) }
+    ensures value { IfOk result (λ v. json v ≡ batch_get_json database.now documents.now mask.now when) }
+    ensures held { OnOk result (IsMaskHeld mask.now × IsWhenHeld when) }
 {
     let mut members = Map::new(alloc);
     serde_json::put(
@@ -168,7 +183,7 @@ fn write_batch_get(
     let names = write_names(alloc, documents)?;
     serde_json::put(&mut members, alloc, DOCUMENTS, Value::Array(names))?;
     put_mask(alloc, &mut members, mask)?;
-    put_read_time(alloc, &mut members, read_time)?;
+    put_when(alloc, &mut members, when)?;
     Ok(Value::Object(members))
 }
 
@@ -206,38 +221,22 @@ fn mask_value(alloc: Global, paths: &Paths) -> Result<Value, AllocError>
     write_mask(alloc, paths)
 }
 
-/// Puts in the time of a read, where there is one.
-fn put_read_time(
-    alloc: Global,
-    members: &mut Map<String, Value>,
-    read_time: Option<Micros>,
-) -> Result<(), AllocError>
-    ensures value { OnOk result (members_view members.new.entries
-        ≡ with_read_time_put read_time (members_view members.old.entries)) }
-    ensures held { OnOk result (IfSome read_time IsTimeHeld) }
-{
-    match read_time {
-        Some(time) => serde_json::put(members, alloc, READ_TIME, write_time(alloc, time)?),
-        None => Ok(()),
-    }
-}
-
 /// Writes a `RunQueryRequest`.
 fn write_run_query(
     alloc: Global,
     database: &Root,
     query: &Query,
-    read_time: Option<Micros>,
+    when: When,
 ) -> Result<Value, AllocError>
-    ensures value { IfOk result (λ v. json v ≡ run_query_json database.now query.now read_time) }
-    ensures held { OnOk result (IsQueryHeld query.now × IfSome read_time IsTimeHeld) }
+    ensures value { IfOk result (λ v. json v ≡ run_query_json database.now query.now when) }
+    ensures held { OnOk result (IsQueryHeld query.now × IsWhenHeld when) }
 {
     let mut members = Map::new(alloc);
     let structured = query_value(alloc, query)?;
     serde_json::put(&mut members, alloc, STRUCTURED_QUERY, structured)?;
     let parent = parent_value(alloc, database, &query.scope)?;
     serde_json::put(&mut members, alloc, PARENT, parent)?;
-    put_read_time(alloc, &mut members, read_time)?;
+    put_when(alloc, &mut members, when)?;
     Ok(Value::Object(members))
 }
 
@@ -254,6 +253,35 @@ fn parent_value(alloc: Global, database: &Root, scope: &Scope) -> Result<Value, 
 {
     let parent = print_parent(alloc, database, scope.parent())?;
     Ok(Value::String(parent.into_string()))
+}
+
+/// Writes a `BeginTransactionRequest`.
+fn write_begin(
+    alloc: Global,
+    database: &Root,
+    options: TransactionOptions,
+) -> Result<Value, AllocError>
+    ensures value { IfOk result (λ v. json v ≡ begin_json database.now options) }
+    ensures held { OnOk result (AreOptionsHeld options) }
+{
+    let mut members = Map::new(alloc);
+    let database = database_value(alloc, database)?;
+    serde_json::put(&mut members, alloc, DATABASE, database)?;
+    let options = write_options(alloc, options)?;
+    serde_json::put(&mut members, alloc, OPTIONS, options)?;
+    Ok(Value::Object(members))
+}
+
+/// Writes a `RollbackRequest`.
+fn write_rollback(alloc: Global, database: &Root, transaction: Id) -> Result<Value, AllocError>
+    ensures value { IfOk result (λ v. json v ≡ rollback_json database.now transaction) }
+    ensures held { OnOk result (IsTransactionHeld transaction) }
+{
+    let mut members = Map::new(alloc);
+    let database = database_value(alloc, database)?;
+    serde_json::put(&mut members, alloc, DATABASE, database)?;
+    put_transaction(alloc, &mut members, Some(transaction))?;
+    Ok(Value::Object(members))
 }
 
 fn database_value(alloc: Global, database: &Root) -> Result<Value, AllocError>

@@ -38,6 +38,14 @@ update_time_text write None = write_text write (codes "update time is none")
 abbrev pub read_time_text : ℤ → List ℕ → ℤ → List ℕ
 read_time_text time side bound = codes "read time " ++ time_text time ++ (codes " is " ++ (side ++ (codes " " ++ time_text bound)))
 
+-- what is told of a transaction, which is named by its number
+abbrev pub transaction_text : ℕ → List ℕ → List ℕ
+transaction_text n what = codes "transaction " ++ decimal n ++ (codes " " ++ what)
+
+-- since when the time of a transaction ran that expired, and when it had run out
+abbrev pub expired_text : ℤ → ℤ → List ℕ
+expired_text since now = codes "expired: since " ++ time_text since ++ (codes ", now " ++ time_text now)
+
 abbrev pub message_text : Reason → List ℕ
 message_text (reasons.Rule rule place) = rule_text rule ++ (codes " at " ++ place)
 message_text (reasons.Missing write) = write_text write (codes "document missing")
@@ -48,6 +56,10 @@ message_text (reasons.LargeAfter write bytes) = write_text write (codes "documen
 message_text (reasons.NoDocument time) = codes "no document at " ++ time_text time
 message_text (reasons.TooOld time floor) = read_time_text time (codes "before") floor
 message_text (reasons.TooNew time released) = read_time_text time (codes "after") released
+message_text (reasons.NotOpen n) = transaction_text n (codes "is not open")
+message_text (reasons.Expired n since now) = transaction_text n (expired_text since now)
+message_text (reasons.ReadOnly n) = transaction_text n (codes "is read-only")
+message_text (reasons.Conflict n) = codes "conflict with " ++ decimal n
 message_text (reasons.AtLimit name number) = codes "limit " ++ name ++ (codes " " ++ decimal number)
 message_text (reasons.Method name) = codes "method " ++ name
 message_text (reasons.Line line) = line_text line

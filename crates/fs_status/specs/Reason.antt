@@ -1,9 +1,9 @@
 -- The status of each reason, and the write that it names.
 use Rattle.std.specs.Prelude.{ℕ, Option, Some, None}
 use Rattle.fs_status.specs.declared.code.Code.{Code}
-use Rattle.fs_status.specs.declared.code.Code.TheVariants.{InvalidArgument, FailedPrecondition, NotFound, AlreadyExists, ResourceExhausted, Unimplemented, OutOfMemory}
+use Rattle.fs_status.specs.declared.code.Code.TheVariants.{InvalidArgument, FailedPrecondition, NotFound, AlreadyExists, Aborted, ResourceExhausted, Unimplemented, OutOfMemory}
 use Rattle.fs_status.specs.declared.reason.Reason.{Reason}
-use Rattle.fs_status.specs.declared.reason.Reason.TheVariants.{Rule, Missing, Exists, OtherTime, DeepAfter, LargeAfter, NoDocument, TooOld, TooNew, AtLimit, Method, Line, Memory}
+use Rattle.fs_status.specs.declared.reason.Reason.TheVariants.{Rule, Missing, Exists, OtherTime, DeepAfter, LargeAfter, NoDocument, TooOld, TooNew, NotOpen, Expired, ReadOnly, Conflict, AtLimit, Method, Line, Memory}
 
 abbrev pub code_of : Reason → Code
 code_of (Rule rule place) = InvalidArgument
@@ -15,6 +15,10 @@ code_of (LargeAfter write bytes) = InvalidArgument
 code_of (NoDocument time) = NotFound
 code_of (TooOld time floor) = FailedPrecondition
 code_of (TooNew time released) = InvalidArgument
+code_of (NotOpen n) = InvalidArgument
+code_of (Expired n since now) = InvalidArgument
+code_of (ReadOnly n) = InvalidArgument
+code_of (Conflict n) = Aborted
 code_of (AtLimit name number) = ResourceExhausted
 code_of (Method name) = Unimplemented
 code_of (Line line) = InvalidArgument

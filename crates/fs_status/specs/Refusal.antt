@@ -1,7 +1,7 @@
 -- The refusal for a reason.
 use Rattle.std.specs.Prelude.{ℕ, List, Some, None}
 use Rattle.fs_status.specs.declared.reason.Reason.{Reason}
-use Rattle.fs_status.specs.declared.reason.Reason.TheVariants.{AtLimit}
+use Rattle.fs_status.specs.declared.reason.Reason.TheVariants.{AtLimit, Conflict}
 use Rattle.fs_status.specs.declared.refusal.Refusal.{Refusal}
 use Rattle.fs_status.specs.Reason.{code_of, index_of}
 
@@ -18,3 +18,7 @@ at_limit name number = record {
   conflict = None;
   limit = Some (record { name = name; number = number });
 }
+
+-- a transaction that is aborted: its refusal names what it conflicts with too
+abbrev pub conflict_with : ℕ → Refusal
+conflict_with id = record { code = code_of (Conflict id); reason = Conflict id; index = None; conflict = Some id; limit = None }

@@ -1,7 +1,8 @@
 //! The messages of refusals.
 ghost use Rattle.std.specs.Prelude.{◌≡◌, IfOk, string_bytes};
-ghost use Rattle.fs_status.specs.Message.{message_text, line_text, numbered_text, read_time_text, rule_text, update_time_text, write_text};
+ghost use Rattle.fs_status.specs.Message.{message_text, expired_text, line_text, numbered_text, read_time_text, rule_text, transaction_text, update_time_text, write_text};
 
+use crate::id::Id;
 use crate::reason::{LineFault, Reason};
 use crate::refusal::Refusal;
 use fs_path::{Rule, Text};
@@ -38,6 +39,16 @@ fn reason_text(alloc: Global, reason: &Reason) -> Result<String, AllocError>
         }
         Reason::TooOld(time, floor) => read_time_text(alloc, *time, "before", *floor),
         Reason::TooNew(time, released) => read_time_text(alloc, *time, "after", *released),
+        Reason::NotOpen(transaction) => transaction_text(alloc, *transaction, "is not open"),
+        Reason::Expired(transaction, since, now) => {
+            let ran = expired_text(alloc, *since, *now)?;
+            transaction_text(alloc, *transaction, ran.as_str())
+        }
+        Reason::ReadOnly(transaction) => transaction_text(alloc, *transaction, "is read-only"),
+        Reason::Conflict(with) => {
+            let with = with.get();
+            format!(in alloc; "conflict with {with}")
+        }
         Reason::AtLimit(name, number) => {
             let name = name.as_str();
             format!(in alloc; "limit {name} {number}")
@@ -85,6 +96,24 @@ fn read_time_text(
     let bound = print(alloc, bound)?;
     let (time, bound) = (time.as_str(), bound.as_str());
     format!(in alloc; "read time {time} is {side} {bound}")
+}
+
+// What is told of a transaction, which is named by its number.
+fn transaction_text(alloc: Global, transaction: Id, what: &str) -> Result<String, AllocError>
+    ensures { IfOk result (λ s. string_bytes s ≡ transaction_text transaction what.now) }
+{
+    let transaction = transaction.get();
+    format!(in alloc; "transaction {transaction} {what}")
+}
+
+// Since when the time of a transaction ran that expired, and when it had run out.
+fn expired_text(alloc: Global, since: Micros, now: Micros) -> Result<String, AllocError>
+    ensures { IfOk result (λ s. string_bytes s ≡ expired_text since now) }
+{
+    let since = print(alloc, since)?;
+    let now = print(alloc, now)?;
+    let (since, now) = (since.as_str(), now.as_str());
+    format!(in alloc; "expired: since {since}, now {now}")
 }
 
 // A rule by its letter and its number, and the number that it carries.

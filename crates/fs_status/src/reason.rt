@@ -3,6 +3,7 @@ ghost use Rattle.std.specs.Prelude.{◌≡◌, IfOk};
 ghost use Rattle.fs_status.specs.Reason.{code_of, index_of};
 
 use crate::code::Code;
+use crate::id::Id;
 use fs_path::{Place, Rule, Text};
 use fs_time::Micros;
 use std::alloc::{AllocError, Global};
@@ -28,6 +29,14 @@ pub enum Reason {
     TooOld(Micros, Micros),
     /// The time that was asked for, and the latest time that can be read by now.
     TooNew(Micros, Micros),
+    /// No transaction of this number is open.
+    NotOpen(Id),
+    /// The transaction of this number expired: since when its time ran, and the moment at which it had run out.
+    Expired(Id, Micros, Micros),
+    /// The transaction of this number only reads, and is to commit writes.
+    ReadOnly(Id),
+    /// The transaction conflicts with the commit or the transaction of this number, the least of several, and is aborted.
+    Conflict(Id),
     /// A limit by its name, with the number that it allows.
     AtLimit(Text, u64),
     /// A method or a member that isn't served, by its name.
@@ -62,6 +71,10 @@ impl Reason {
             Reason::NoDocument(_) => Code::NotFound,
             Reason::TooOld(_, _) => Code::FailedPrecondition,
             Reason::TooNew(_, _) => Code::InvalidArgument,
+            Reason::NotOpen(_) => Code::InvalidArgument,
+            Reason::Expired(_, _, _) => Code::InvalidArgument,
+            Reason::ReadOnly(_) => Code::InvalidArgument,
+            Reason::Conflict(_) => Code::Aborted,
             Reason::AtLimit(_, _) => Code::ResourceExhausted,
             Reason::Method(_) => Code::Unimplemented,
             Reason::Line(_) => Code::InvalidArgument,
@@ -96,6 +109,10 @@ impl Reason {
             Reason::NoDocument(time) => Reason::NoDocument(*time),
             Reason::TooOld(time, floor) => Reason::TooOld(*time, *floor),
             Reason::TooNew(time, released) => Reason::TooNew(*time, *released),
+            Reason::NotOpen(transaction) => Reason::NotOpen(*transaction),
+            Reason::Expired(transaction, since, now) => Reason::Expired(*transaction, *since, *now),
+            Reason::ReadOnly(transaction) => Reason::ReadOnly(*transaction),
+            Reason::Conflict(with) => Reason::Conflict(*with),
             Reason::AtLimit(name, number) => Reason::AtLimit(name.copy(alloc)?, *number),
             Reason::Method(name) => Reason::Method(name.copy(alloc)?),
             Reason::Line(line) => Reason::Line(*line),

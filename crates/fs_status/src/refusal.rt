@@ -1,6 +1,6 @@
 //! The answer to a request that is refused.
 ghost use Rattle.std.specs.Prelude.{◌≡◌, IfOk};
-ghost use Rattle.fs_status.specs.Refusal.{refusal_of, at_limit};
+ghost use Rattle.fs_status.specs.Refusal.{refusal_of, at_limit, conflict_with};
 
 use crate::code::Code;
 use crate::id::Id;
@@ -55,6 +55,17 @@ impl Refusal {
             limit: Some(limit),
             ..Refusal::of(reason)
         })
+    }
+
+    /// The refusal of a transaction that is aborted, since it conflicts with the commit or the transaction of this number.
+    /// (Cloud Firestore documentation, "Transaction serializability and isolation".)
+    pub fn conflict_with(other: Id) -> Refusal
+        ensures { result ≡ conflict_with other }
+    {
+        Refusal {
+            conflict: Some(other),
+            ..Refusal::of(Reason::Conflict(other))
+        }
     }
 
     pub fn copy(&self, alloc: Global) -> Result<Refusal, AllocError>

@@ -9,3 +9,4 @@ pub mod Overlaps
 pub mod StageChanges
 pub mod Stages
 pub mod WriteLaws
+mod Unmet

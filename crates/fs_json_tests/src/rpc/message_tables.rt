@@ -1,5 +1,5 @@
 //! What is read, an arrow, and what is written of it or the place at which it is refused. `~` stands for the documents of the
-//! root, and `0s`, `1us` and `2us` for times of 2024.
+//! root, `0s`, `1us` and `2us` for times of 2024, and `$2` for transaction 2.
 
 /// Where nothing stands behind the arrow, the same text is written.
 pub(crate) const MESSAGES: &str =
@@ -13,6 +13,10 @@ pub(crate) const MESSAGES: &str =
 {"id":"4","result":[]} =>
 {"id":"5","result":[{"document":{"createTime":"1us","name":"~/c/a","updateTime":"1us"},"readTime":"2us"},{"document":{"createTime":"2us","name":"~/c/b","updateTime":"2us"},"readTime":"2us"}]} =>
 {"id":"1","result":[{"readTime":"0s"}]} =>
+{"id":"6","result":{"transaction":"$2"}} =>
+{"result":{"transaction":"__________8"}} => {"result":{"transaction":"//////////8="}}
+{"id":"7","result":{}} =>
+{"result":{}} =>
 {"error":{"code":404,"message":"no document at 0s","status":"NOT_FOUND"},"id":"2"} =>
 {"error":{"code":400,"message":"","status":"INVALID_ARGUMENT"}} =>
 {"error":{"code":400,"message":"write 0: update time is none","status":"FAILED_PRECONDITION"}} =>
@@ -62,7 +66,12 @@ pub(crate) const REFUSED: &str = r#" => G at
 {"error":{"code":404,"message":"","status":"INVALID_ARGUMENT"}} => G at error.code
 {"result":1} => G at result
 {"result":"~/c/a"} => G at result
-{"result":{}} => G at result.name
+{"result":{"name":null}} => G at result.name
+{"result":{"transaction":null}} => G at result.transaction
+{"result":{"transaction":"AA=="}} => G at result.transaction
+{"result":{"transaction":2}} => G at result.transaction
+{"result":{"transaction":"$2","name":"~/c/a"}} => G at result.name
+{"result":{"transaction":"$2","commitTime":"1us"}} => G at result.transaction
 {"result":{"name":"~/c"}} => P(3, None) at result.name
 {"result":{"name":"projects/x/databases/(default)/documents/c/a"}} => P(2, None) at result.name
 {"result":{"name":"~/c/a","fields":{"n":{"integerValue":"1x"}}}} => G at result.fields.n.integerValue

@@ -1,7 +1,10 @@
 //! What is made of requests.
 use crate::made::{both, demo, json, shown};
 use fs_json::Bad;
-use fs_rpc::{Envelope, SessionRequest, read_request, read_session_request, write_request};
+use fs_rpc::{
+    Envelope, SessionRequest, print_transaction, read_request, read_session_request, write_request,
+};
+use fs_status::Id;
 use serde_json::Value;
 use std::alloc::Global;
 use std::process::Abort;
@@ -71,6 +74,13 @@ pub(crate) fn request_on(rt: &impl Abort, alloc: Global, json: &str) -> String {
     let line = line(rt, alloc, json);
     let again = line_again(rt, alloc, session_request(rt, alloc, &line));
     same(rt, alloc, &line, &again)
+}
+
+pub(crate) fn transaction(rt: &impl Abort, alloc: Global, number: &str) -> String {
+    let id = Id::new(number.parse::<u64>().expect(rt, "a number"));
+    print_transaction(alloc, id)
+        .expect(rt, "memory")
+        .into_string()
 }
 
 fn same(rt: &impl Abort, alloc: Global, line: &Value, again: &Value) -> String {

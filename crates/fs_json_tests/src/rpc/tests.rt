@@ -4,12 +4,13 @@ use crate::rpc::{message_tables as messages, request_tables as requests};
 use crate::table::holds;
 
 // What the short forms of a line stand for, in the order in which they are spelled out.
-const SHORT: [(&str, &str); 5] = [
+const SHORT: [(&str, &str); 6] = [
     ("~", "@/documents"),
     ("@", "projects/demo/databases/(default)"),
     ("1us", "2024-01-01T00:00:00.000001Z"),
     ("2us", "2024-01-01T00:00:00.000002Z"),
     ("0s", "2024-01-01T00:00:00Z"),
+    ("$2", "AAAAAAAAAAI="),
 ];
 
 #[test]
@@ -41,6 +42,12 @@ fn requests_are_read_and_written(rt: HostRuntime) {
 #[test]
 fn documents_are_read_as_of_a_time(rt: HostRuntime) {
     holds(&rt, Make::Request, &SHORT, requests::READ_TIMES);
+}
+
+#[test]
+fn transactions_are_read_and_written(rt: HostRuntime) {
+    holds(&rt, Make::Request, &SHORT, requests::TRANSACTIONS);
+    holds(&rt, Make::Transaction, &[], requests::NUMBERS);
 }
 
 #[test]
