@@ -183,6 +183,29 @@ conflict 9 p/d//x/b => none
 conflict 9 p/d/x/b => 4
 ";
 
+/// What an id came to hold last is taken back. What it had read before as well is held still, and so is what others hold.
+const BACK: &str = "
+back 2 =>
+read 2 document p/d/c/a =>
+read 2 collection c/a x =>
+read 2 document p/d/c/a =>
+read 5 document p/d/c/a =>
+hold 5 p/d/c/b =>
+back 2 =>
+conflict 9 p/d/c/a => 2
+conflict 9 p/d/c/a/x/b => 2
+back 2 =>
+conflict 9 p/d/c/a/x/b => none
+conflict 9 p/d/c/a => 2
+back 2 =>
+conflict 9 p/d/c/a => 5
+back 2 =>
+conflict 9 p/d/c/a => 5
+back 5 =>
+conflict 9 p/d/c/a => none
+behind 9 p/d/c/b => 5
+";
+
 fn hold(rt: &impl Abort, alloc: Global, locks: &mut Locks, id: Id, names: Names) {
     locks.hold_exclusive(alloc, id, names).expect(rt, "memory");
 }
@@ -220,6 +243,7 @@ impl Called for Locks {
         match call {
             "hold" => hold(rt, alloc, self, id, names_of(rt, alloc, text)),
             "read" => read(rt, alloc, self, id, text),
+            "back" => self.take_back(id),
             "release" => self.release_all(id),
             "conflict" => {
                 let other = self.conflict(&names_of(rt, alloc, text), id);
@@ -264,4 +288,9 @@ fn a_commit_finds_who_has_read_what_it_writes(rt: HostRuntime) {
     check(&rt, alloc, READS);
     check(&rt, alloc, NESTED);
     check(&rt, alloc, ALIKE);
+}
+
+#[test]
+fn a_hold_that_is_taken_back_leaves_what_was_held(rt: HostRuntime) {
+    check(&rt, rt.alloc(), BACK);
 }

@@ -117,6 +117,37 @@ fn each_reason_of_a_read_is_told(rt: HostRuntime) {
 }
 
 #[test]
+fn each_reason_of_a_transaction_is_told(rt: HostRuntime) {
+    let alloc = rt.alloc();
+    let t1 = moment(&rt, 1_704_067_200_000_001);
+    let t2 = moment(&rt, 1_704_067_260_000_001);
+    let two = Id::new(2);
+    invalid(
+        &rt,
+        alloc,
+        Reason::NotOpen(two),
+        "transaction 2 is not open",
+    );
+    let want =
+        "transaction 2 expired: since 2024-01-01T00:00:00.000001Z, now 2024-01-01T00:01:00.000001Z";
+    invalid(&rt, alloc, Reason::Expired(two, t1, t2), want);
+    invalid(
+        &rt,
+        alloc,
+        Reason::ReadOnly(two),
+        "transaction 2 is read-only",
+    );
+    expect(
+        &rt,
+        alloc,
+        Reason::Conflict(two),
+        Code::Aborted,
+        None,
+        "conflict with 2",
+    );
+}
+
+#[test]
 fn what_is_not_built_or_not_there_is_told(rt: HostRuntime) {
     let alloc = rt.alloc();
     let method = Reason::Method(text(&rt, alloc, "listDocuments"));

@@ -41,7 +41,7 @@ module _ {X : Type 0} (id : ℕ) (v : X) where
       at more Equal ties found = let same : e.1 ≡ v = cc in ap (λ (x : X). (e.0, x) ∷ es) (sym same)
       at more Greater far found = ap (λ xs. e ∷ xs) (more found)
 
-  found_there : (es : List (ℕ × X)) → lookup (is_at (nat_cmp id)) (insert_entry nat_cmp es id v) ≡ Some v
+  pub found_there : (es : List (ℕ × X)) → lookup (is_at (nat_cmp id)) (insert_entry nat_cmp es id v) ≡ Some v
   found_there [] = ap (λ b. cond b (Some v) None) (itself id)
   found_there (e ∷ es) = at (found_there es) (nat_cmp id e.0) refl
     where

@@ -5,6 +5,7 @@ pub mod Entries
 pub mod Holding
 pub mod Ids
 pub mod Indexed
+pub mod Lasts
 pub mod Searching
 pub mod TextMaps
 pub mod Touches

@@ -5,3 +5,4 @@ pub mod Shares
 pub mod Locked
 pub mod Paths
 pub mod Spots
+pub mod Marks

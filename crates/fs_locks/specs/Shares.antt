@@ -3,11 +3,11 @@
 --     (2, collection x below c/a ∷ c/b ∷ []) ∷ (5, c/a ∷ []) ∷ []
 -- and 2 holds what c/a/x/b touches, and 5 doesn't.
 -- (Cloud Firestore documentation, "Transaction serializability and isolation".)
-use Rattle.std.specs.Prelude.{ℕ, Bool, List, [], ◌∷◌, ◌++◌, unwrap_or}
+use Rattle.std.specs.Prelude.{ℕ, ◌-◌, Bool, List, [], ◌∷◌, ◌++◌, length, take, unwrap_or}
 use Rattle.std.specs.BTreeMap.{insert_entry, is_at}
 use Rattle.std.specs.Coded.{Coded, coded_list, coded×, coded_ℕ}
 use Rattle.std.specs.List.{list_any}
-use Rattle.std.specs.Map.{lookup, remove_entry}
+use Rattle.std.specs.Map.{lookup, remove_entry, set_value}
 use Rattle.std.specs.Ordering.{nat_cmp}
 use Rattle.fs_path.specs.NameOrder.{name_eq}
 use Rattle.fs_path.specs.Scope.{covers}
@@ -43,3 +43,12 @@ with_share shares id h = insert_entry nat_cmp shares id (shared_by id shares ++ 
 -- an id holds nothing
 abbrev pub without_shares : Shares → ℕ → Shares
 without_shares shares id = remove_entry (is_at (nat_cmp id)) shares
+
+-- an id that holds something holds this instead; where this is nothing, it stands here no more
+abbrev pub left_with : Shares → ℕ → List Held → Shares
+left_with shares id [] = without_shares shares id
+left_with shares id (h ∷ hs) = set_value (is_at (nat_cmp id)) shares (h ∷ hs)
+
+-- what an id came to hold last is taken back
+abbrev pub without_last_share : Shares → ℕ → Shares
+without_last_share shares id = left_with shares id (take (length (shared_by id shares) - 1) (shared_by id shares))

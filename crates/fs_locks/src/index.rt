@@ -2,6 +2,7 @@
 use crate::held::Held;
 use crate::holders::Holders;
 use crate::least::lesser;
+use crate::reads::Noted;
 use crate::scopes::Scopes;
 use crate::share::{Share, stand_id};
 use crate::tree::{is_held, put, take};
@@ -22,6 +23,7 @@ impl Index {
     ghost use Rattle.std.specs.Prelude.{◌≡◌, ◌∷◌, [], ℕ, OnOk, OnErr, false, true};
     ghost use Rattle.std.specs.Option.{option_copied};
     ghost use Rattle.fs_locks.specs.Holds.{IsLeastOther};
+    ghost use Rattle.fs_locks.specs.Marks.{helds};
     ghost use Rattle.fs_locks.specs.Spots.{Spot, is_at_spot, stands, StandsOver, SameIndex, IndexMore, IndexLess};
 
     pub(crate) fn new(alloc: Global) -> Index
@@ -79,11 +81,11 @@ impl Index {
         }
     }
 
-    pub(crate) fn take_all(&mut self, shares: &[Share], id: Id)
-        ensures { IndexLess self.old self.new id shares.now }
+    pub(crate) fn take_all(&mut self, notes: &[Noted], id: Id)
+        ensures { IndexLess self.old self.new id (helds notes.now) }
     {
-        for share in shares {
-            self.take(share, id);
+        for noted in notes {
+            self.take(&noted.share, id);
         }
     }
 

@@ -22,6 +22,7 @@ use std::marker::Model;
 ///     2 holds c/a, and the collection x below c/a; 5 holds the group x below the root
 ///     `conflict([c/a/x/b], 5)` is 2, and `conflict([c/a/x/b], 2)` is 5
 ///     `conflict([c/b/x/b], 1)` is 5, and `conflict([c/b], 1)` none
+///     after `take_back(2)` it holds c/a alone, and `conflict([c/a/x/b], 5)` is none
 ///     after `release_all(2)` only 5 holds its group
 ///
 /// A name costs a search for it and one among the ids that hold it, whether it is taken, looked up or released, and a scope one
@@ -50,7 +51,7 @@ impl Locks {
     ghost use Rattle.fs_path.specs.declared.name.DocName.{DocName};
     ghost use Rattle.fs_locks.specs.Holds.{is_in, is_held, HoldsOne, HoldsTouched, IsLeastOther};
     ghost use Rattle.fs_locks.specs.HoldOrder.{IsCanonical};
-    ghost use Rattle.fs_locks.specs.Shares.{is_shared, is_touched, with_share, without_shares};
+    ghost use Rattle.fs_locks.specs.Shares.{is_shared, is_touched, with_share, without_last_share, without_shares};
 
     /// Nothing is held. The allocator serves the holds that come.
     pub fn new(alloc: Global) -> Locks
@@ -80,10 +81,20 @@ impl Locks {
     pub fn hold(&mut self, alloc: Global, id: Id, held: Held) -> Result<(), AllocError>
         ensures ok { OnOk result ((i : ℕ) (n : DocName) → is_shared self.new.shared i n ≡ (is_shared self.old.shared i n || (i == id && is_touched held n))) }
         ensures kept { OnOk result (self.new.shared ≡ with_share self.old.shared id held) }
+        ensures back { OnOk result (without_last_share self.new.shared id ≡ self.old.shared) }
         ensures err { OnErr result (self.new ≡ self.old) }
         ensures exclusive { self.new.exclusive ≡ self.old.exclusive }
     {
         self.shared.hold(alloc, id, held)
+    }
+
+    /// What an id came to hold shared last is taken back, as if it hadn't been held. Where it holds nothing shared, nothing is
+    /// changed. It takes no memory.
+    pub fn take_back(&mut self, id: Id)
+        ensures shared { self.new.shared ≡ without_last_share self.old.shared id }
+        ensures exclusive { self.new.exclusive ≡ self.old.exclusive }
+    {
+        self.shared.take_back(id);
     }
 
     /// The least id other than `by` that holds one of these names exclusively. It takes no memory.

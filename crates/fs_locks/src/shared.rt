@@ -1,12 +1,17 @@
 //! What transactions hold shared.
-ghost use Rattle.std.specs.Prelude.{◌≡◌, OnOk, OnErr, IfErr};
-ghost use Rattle.fs_locks.specs.Shares.{with_share};
+ghost use Rattle.std.specs.Prelude.{◌≡◌, ◌++◌, OnOk, OnErr, IfErr, length, take, ◌-◌};
+ghost use Rattle.std.specs.List.Sorted.{IsStrictlySortedBy};
+ghost use Rattle.std.specs.Map.{keys_of};
+ghost use Rattle.std.specs.Option.{IfSome, option_map, option_to_list};
+ghost use Rattle.std.specs.Ordering.{nat_cmp};
+ghost use Rattle.fs_locks.specs.Marks.{IsMarked};
+ghost use Rattle.fs_locks.specs.Shares.{shared_by, with_share, without_last_share};
 
 use crate::cut::collection_of;
 use crate::held::Held;
 use crate::index::Index;
 use crate::least::lesser;
-use crate::reads::Reads;
+use crate::reads::{Noted, Reads};
 use crate::share::Share;
 use crate::tree::first_at;
 use fs_path::{DocName, Names};
@@ -37,11 +42,12 @@ impl Model for Shared {
 
     ghost coded = { shares_code };
 
+    ghost use Rattle.fs_locks.specs.Marks.{HoldSomething};
     ghost use Rattle.fs_locks.specs.Spots.{IsIndex};
 
     ghost view = { λ s. s.by_id.entries };
 
-    ghost invariant = { λ s. IsIndex s.index s.by_id.entries };
+    ghost invariant = { λ s. IsIndex s.index s.by_id.entries × HoldSomething s.by_id.entries };
 }
 
 impl Shared {
@@ -49,7 +55,7 @@ impl Shared {
     ghost use Rattle.std.specs.List.{list_any};
     ghost use Rattle.fs_path.specs.declared.name.DocName.{DocName};
     ghost use Rattle.fs_locks.specs.Holds.{IsLeastOther};
-    ghost use Rattle.fs_locks.specs.Shares.{is_shared, with_share, without_shares};
+    ghost use Rattle.fs_locks.specs.Shares.{is_shared, with_share, without_last_share, without_shares};
 
     pub(crate) fn new(alloc: Global) -> Shared
         ensures { result ≡ [] }
@@ -63,18 +69,30 @@ impl Shared {
     // From now on an id holds what it has read, beside what it held. Where memory runs out, nothing is changed.
     pub(crate) fn hold(&mut self, alloc: Global, id: Id, held: Held) -> Result<(), AllocError>
         ensures ok { OnOk result (self.new ≡ with_share self.old id held) }
+        ensures back { OnOk result (without_last_share self.new id ≡ self.old) }
         ensures err { OnErr result (self.new ≡ self.old) }
     {
         let share = Share::new(alloc, held)?;
-        let stood = self.index.has(&share, id);
+        let again = self.index.has(&share, id);
         self.index.put(alloc, &share, id)?;
-        if let Err(share) = note(alloc, &mut self.by_id, id, share) {
-            if !stood {
-                self.index.take(&share, id);
+        if let Err(noted) = note(alloc, &mut self.by_id, id, Noted { share, again }) {
+            if !again {
+                self.index.take(&noted.share, id);
             }
             return Err(AllocError);
         }
         Ok(())
+    }
+
+    // What an id came to hold last is taken back. It takes no memory.
+    pub(crate) fn take_back(&mut self, id: Id)
+        ensures { self.new ≡ without_last_share self.old id }
+    {
+        if let Some(noted) = take_last(&mut self.by_id, id) {
+            if !noted.again {
+                self.index.take(&noted.share, id);
+            }
+        }
     }
 
     // The least id other than `by` with a hold that one of these names touches. It takes no memory.
@@ -111,21 +129,38 @@ impl Shared {
 }
 
 // Notes what an id has read. Where memory runs out, it is given back, and nothing is noted.
-fn note(alloc: Global, by_id: &mut BTreeMap<Id, Reads>, id: Id, share: Share) -> Result<(), Share>
-    ensures ok { OnOk result (by_id.new.entries ≡ with_share by_id.old.entries id share) }
+fn note(alloc: Global, by_id: &mut BTreeMap<Id, Reads>, id: Id, noted: Noted) -> Result<(), Noted>
+    requires { IsMarked (shared_by id by_id.old.entries) noted.share noted.again }
+    ensures ok { OnOk result (by_id.new.entries ≡ with_share by_id.old.entries id noted.share) }
     ensures err { OnErr result (by_id.new.entries ≡ by_id.old.entries) }
-    ensures back { IfErr result (λ s. s ≡ share) }
+    ensures back { IfErr result (λ n. n ≡ noted) }
+    ensures rising { OnOk result (IsStrictlySortedBy nat_cmp (keys_of by_id.old.entries)) }
 {
     let Ok(entry) = by_id.entry(id) else {
-        return Err(share);
+        return Err(noted);
     };
     match entry {
-        Entry::Occupied(found) => found.into_mut().push(share),
+        Entry::Occupied(found) => found.into_mut().push(noted),
         Entry::Vacant(free) => {
             let mut reads = Reads::new(alloc);
-            reads.push(share)?;
+            reads.push(noted)?;
             free.insert(reads);
             Ok(())
         }
     }
+}
+
+// Takes out what an id has read last, and the id where it holds nothing more.
+fn take_last(by_id: &mut BTreeMap<Id, Reads>, id: Id) -> Option<Noted>
+    ensures left { by_id.new.entries ≡ without_last_share by_id.old.entries id }
+    ensures last { shared_by id by_id.old.entries ≡ take (length (shared_by id by_id.old.entries) - 1) (shared_by id by_id.old.entries) ++ option_to_list (option_map (λ n. n.share) result) }
+    ensures marked { IfSome result (λ n. IsMarked (take (length (shared_by id by_id.old.entries) - 1) (shared_by id by_id.old.entries)) n.share n.again) }
+    ensures rising { IsStrictlySortedBy nat_cmp (keys_of by_id.old.entries) }
+{
+    let reads = by_id.get_mut(&id)?;
+    let last = reads.pop();
+    if reads.is_empty() {
+        by_id.remove(&id);
+    }
+    last
 }

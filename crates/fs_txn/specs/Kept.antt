@@ -1,9 +1,9 @@
 -- Only the models and private clauses cite this: what the transactions are kept in.
-use Rattle.std.specs.Prelude.{◌≡◌, ℕ, ◌+◌, ◌≤◌, ℤ, ◌+ℤ◌, ◌≤ℤ◌, Bool, false, not, ◌&&◌, ◌==◌, List, map, length}
+use Rattle.std.specs.Prelude.{◌≡◌, ℕ, zero, suc, ◌+◌, ◌≤◌, ℤ, ◌+ℤ◌, ◌≤ℤ◌, Bool, false, not, ◌&&◌, ◌==◌, List, map, length}
 use Rattle.std.specs.Int.{int_min}
 use Rattle.std.specs.List.{AllByRecursion, list_any}
 use Rattle.std.specs.Option.{option_map_or}
-use Rattle.fs_locks.specs.Shares.{Shares, is_shared}
+use Rattle.fs_locks.specs.Shares.{Shares, is_shared, without_last_share}
 use Rattle.fs_path.specs.declared.name.DocName.{DocName}
 use Rattle.fs_txn.specs.declared.txn.Txn.{Txn}
 use Rattle.fs_txn.specs.Expiry.{idle, is_over, longest, remembered}
@@ -54,3 +54,8 @@ Releases old new now ts = (i : ℕ) (n : DocName) → is_shared new i n ≡ (not
 -- the open one of an id reads and writes
 abbrev pub read_writes : ℕ → List Txn → Bool
 read_writes id ts = option_map_or (λ t. is_read_write t.kind) (txn_of id ts) false
+
+-- so many of the things that an id came to hold last are taken back
+abbrev pub without_lasts : ℕ → Shares → ℕ → Shares
+without_lasts zero shares id = shares
+without_lasts (suc k) shares id = without_last_share (without_lasts k shares id) id

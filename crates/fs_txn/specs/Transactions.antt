@@ -75,5 +75,10 @@ with_read r t = if is_read_write t.kind then record t { reads = t.reads ++ r ∷
 abbrev pub noted : Transactions → ℕ → Read → ℤ → Transactions
 noted ts id r now = record ts { «open» = changed_at id (λ t. record (with_read r t) { used = now }) ts.open }
 
+-- it makes several reads, one after another; where there are none, it is used all the same
+abbrev pub all_noted : Transactions → ℕ → List Read → ℤ → Transactions
+all_noted ts id [] now = used_at ts id now
+all_noted ts id (r ∷ rs) now = all_noted (noted ts id r now) id rs now
+
 abbrev pub ended : Transactions → ℕ → Transactions
 ended ts id = record ts { «open» = filter (λ t. not (t.id == id)) ts.open }

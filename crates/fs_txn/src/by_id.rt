@@ -1,5 +1,5 @@
 //! The open transactions, each at its id.
-ghost use Rattle.std.specs.Prelude.{◌≡◌, ◌-◌, length, take};
+ghost use Rattle.std.specs.Prelude.{◌≡◌, ◌-◌, ◌++◌, OnOk, OnErr, length, take};
 ghost use Rattle.fs_txn.specs.Reading.{earlier as earlier_of};
 
 use crate::expired::{Expired, gone_at};
@@ -114,6 +114,20 @@ impl ById {
         self.txns.get_mut(&id).unwrap().reads.push(r)
     }
 
+    // Notes several reads, as `push_read` does each.
+    pub(crate) fn append_reads(
+        &mut self,
+        alloc: Global,
+        id: Id,
+        reads: Reads,
+    ) -> Result<(), AllocError>
+        requires { IsSome (txn_of id self.old) }
+        ensures ok { OnOk result (self.new ≡ changed_at id (λ t. record t { reads = t.reads ++ reads }) self.old) }
+        ensures err { OnErr result (self.new ≡ self.old) }
+    {
+        append(alloc, &mut self.txns.get_mut(&id).unwrap().reads, reads)
+    }
+
     // Takes the last read back.
     pub(crate) fn pop_read(&mut self, alloc: Global, id: Id)
         requires { IsSome (txn_of id self.old) }
@@ -217,4 +231,15 @@ fn take_back(alloc: Global, reads: &mut Reads)
     let mut items = mem::replace(reads, List::new(alloc)).into_vec();
     items.pop();
     *reads = List::of(items);
+}
+
+// Puts reads behind others. Where memory runs out, these stay as they are.
+fn append(alloc: Global, reads: &mut Reads, more: Reads) -> Result<(), AllocError>
+    ensures ok { OnOk result (reads.new ≡ reads.old ++ more) }
+    ensures err { OnErr result (reads.new ≡ reads.old) }
+{
+    let mut items = mem::replace(reads, List::new(alloc)).into_vec();
+    let appended = items.append(&mut more.into_vec());
+    *reads = List::of(items);
+    appended
 }

@@ -2,7 +2,7 @@
 use crate::by_id::ById;
 use crate::expired::{Expired, TxnError, error_in, forget_first};
 use crate::kind::Kind;
-use crate::reading::{held_of, one_is_read};
+use crate::reading::{held_of, hold_all, one_is_read, take_back_all};
 use crate::txn::{Txn, due_with};
 use fs_history::{Read, Reads, all_shown, shown_size};
 use fs_locks::Locks;
@@ -51,7 +51,7 @@ impl Model for Txns {
 }
 
 impl Txns {
-    ghost use Rattle.std.specs.Prelude.{◌≡◌, ◌↔◌, ◌+◌, ◌<◌, ◌^◌, [], None, Some, Err, IsTrue, IsSome, true, IfOk, IfErr, OnOk, OnErr, length};
+    ghost use Rattle.std.specs.Prelude.{◌≡◌, ◌↔◌, ◌+◌, ◌<◌, ◌^◌, [], None, Some, Err, IsTrue, IsSome, true, IfOk, IfErr, OnOk, OnErr, length, sum_by};
     ghost use Rattle.std.specs.List.{list_any};
     ghost use Rattle.std.specs.Option.{option_copied};
     ghost use Rattle.fs_history.specs.Bytes.{shown_size as shown_size_of};
@@ -59,7 +59,7 @@ impl Txns {
     ghost use Rattle.fs_txn.specs.Expiry.{error_of, expired_at};
     ghost use Rattle.fs_txn.specs.Reading.{is_reader, oldest, reads_in, shown_bytes};
     ghost use Rattle.fs_txn.specs.Rising.{IsRising};
-    ghost use Rattle.fs_txn.specs.Transactions.{txn_of, expired_of, begun, ended, noted, used_at, IsNew};
+    ghost use Rattle.fs_txn.specs.Transactions.{txn_of, expired_of, all_noted, begun, ended, noted, used_at, IsNew};
     ghost use Rattle.fs_txn.specs.Kept.{read_writes};
 
     /// None is open, and none has expired. The allocator serves those that come.
@@ -160,6 +160,29 @@ impl Txns {
         }
     }
 
+    /// An open one is used at a moment and makes these reads one after another, which a read-write one notes behind its others.
+    /// An error is a want of memory for one of them, and then none is noted.
+    pub fn note_reads(
+        &mut self,
+        alloc: Global,
+        id: Id,
+        reads: Reads,
+        now: Micros,
+    ) -> Result<(), AllocError>
+        requires there { IsSome (txn_of id self.old.open) }
+        requires fits { shown_bytes self.old + sum_by shown_size_of reads < 2 ^ 128 }
+        ensures ok { OnOk result (self.new ≡ all_noted self.old id reads now) }
+        ensures err { OnErr result (self.new ≡ self.old) }
+    {
+        if self.is_read_write(id) {
+            self.add_reads(alloc, id, reads, now)
+        } else {
+            drop(reads);
+            self.use_at(id, now);
+            Ok(())
+        }
+    }
+
     /// An open one is used at a moment, without a read. It takes no memory.
     pub fn use_at(&mut self, id: Id, now: Micros)
         requires { IsSome (txn_of id self.old.open) }
@@ -254,6 +277,32 @@ impl Txns {
         self.by_id.push_read(id, r)?;
         if let Err(error) = self.holds.hold(alloc, id, held) {
             self.by_id.pop_read(alloc, id);
+            return Err(error);
+        }
+        self.by_id.use_at(id, now);
+        self.due = due_with(self.due, now);
+        self.bytes += size;
+        Ok(())
+    }
+
+    // A read-write one is used at a moment, and has these reads more.
+    fn add_reads(
+        &mut self,
+        alloc: Global,
+        id: Id,
+        reads: Reads,
+        now: Micros,
+    ) -> Result<(), AllocError>
+        requires there { read_writes id self.old.open ≡ true }
+        requires fits { shown_bytes self.old + sum_by shown_size_of reads < 2 ^ 128 }
+        ensures ok { OnOk result (self.new ≡ all_noted self.old id reads now) }
+        ensures err { OnErr result (self.new ≡ self.old) }
+    {
+        let count = reads.len();
+        let size = all_shown(&reads);
+        hold_all(alloc, &mut self.holds, id, reads.as_slice())?;
+        if let Err(error) = self.by_id.append_reads(alloc, id, reads) {
+            take_back_all(&mut self.holds, id, count);
             return Err(error);
         }
         self.by_id.use_at(id, now);
