@@ -6,8 +6,8 @@ use Rattle.std.proofs.lemmas.Bool.{eq-eqb, eqb-true, leb-false, leb-true, or_lef
 use Rattle.std.proofs.Math.Bool.{and-false, and-true}
 use Rattle.fs_write.specs.declared.write.Write.{Write}
 use Rattle.fs_history.specs.declared.batch.Batch.{Batch}
-use Rattle.fs_machine.specs.Behind.{behind, least, lesser, write_same, writing_same}
-use Rattle.fs_machine.specs.Laws.{IsLeastHolder}
+use Rattle.fs_machine.specs.Behind.{least, lesser, write_same, writing_same}
+use Rattle.fs_machine.specs.Laws.{IsLeastOf}
 use Rattle.fs_machine.specs.Past.{Past, batches}
 use Rattle.fs_machine.specs.declared.unreleased.Unreleased.{Unreleased}
 
@@ -65,19 +65,24 @@ above (n ∷ ns) m j all is = at (above ns m j all.1) (n == j) refl is
     at more true ties h = let same = eqb-true n j ties in let first = all.0 in omega arith
     at more false ties h = more h
 
--- it is of those that write a name which these writes write
-pub one_next : (u : Unreleased) (us : List Unreleased) (ws : List Write) (i : ℕ) (b : Bool)
-    → ((u.batch.id == i && b) || is_one (writing_same us ws) i) ≡ is_one (map (λ v. v.batch.id) (cond b (u ∷ filter (λ v. write_same ws v.batch.writes) us) (filter (λ v. write_same ws v.batch.writes) us))) i
-one_next u us ws i true = ap (λ a. a || is_one (writing_same us ws) i) (and-true (u.batch.id == i))
-one_next u us ws i false = ap (λ a. a || is_one (writing_same us ws) i) (and-false (u.batch.id == i))
+-- it is of those that pass a test
+pub one_next : {A : Type 0} (number : A → ℕ) (test : A → Bool) (x : A) (xs : List A) (i : ℕ) (b : Bool)
+    → ((number x == i && b) || is_one (map number (filter test xs)) i) ≡ is_one (map number (cond b (x ∷ filter test xs) (filter test xs))) i
+one_next number test x xs i true = ap (λ a. a || is_one (map number (filter test xs)) i) (and-true (number x == i))
+one_next number test x xs i false = ap (λ a. a || is_one (map number (filter test xs)) i) (and-false (number x == i))
 
-one_holds : (us : List Unreleased) (ws : List Write) (i : ℕ) → list_any (λ u. u.batch.id == i && write_same ws u.batch.writes) us ≡ is_one (writing_same us ws) i
-one_holds [] ws i = refl
-one_holds (u ∷ us) ws i = ap (λ b. (u.batch.id == i && write_same ws u.batch.writes) || b) (one_holds us ws i) ∙ one_next u us ws i (write_same ws u.batch.writes)
+pub one_holds : {A : Type 0} (number : A → ℕ) (test : A → Bool) (xs : List A) (i : ℕ) → list_any (λ x. number x == i && test x) xs ≡ is_one (map number (filter test xs)) i
+one_holds number test [] i = refl
+one_holds number test (x ∷ xs) i = ap (λ b. (number x == i && test x) || b) (one_holds number test xs i) ∙ one_next number test x xs i (test x)
 
-as_told : (p : Past) (ws : List Write) (found : Option ℕ) → IsLeastIn (writing_same p.unreleased ws) found → IsLeastHolder p ws found
-as_told p ws None none = λ i is. let nothing : is_one (writing_same p.unreleased ws) i ≡ false = ap (λ ns. is_one ns i) none in absurd (cc (one_holds p.unreleased ws i))
-as_told p ws (Some id) is = (one_holds p.unreleased ws id ∙ is.0, λ i held. above (writing_same p.unreleased ws) id i is.1 (sym (one_holds p.unreleased ws i) ∙ held))
+as_told : (P : ℕ → Type 0) (ns : List ℕ) (found : Option ℕ) → ((i : ℕ) → IsTrue (is_one ns i) → P i) → ((i : ℕ) → P i → IsTrue (is_one ns i)) → IsLeastIn ns found → IsLeastOf P found
+as_told P ns None from to none = λ i is. let one = to i is in let nothing : is_one ns i ≡ false = ap (λ xs. is_one xs i) none in absurd (cc)
+as_told P ns (Some id) from to is = (from id is.0, λ i held. above ns id i is.1 (to i held))
 
-pub held_by_the_least : (p : Past) (ws : List Write) → IsLeastHolder p ws (behind p ws)
-held_by_the_least p ws = as_told p ws (behind p ws) (least_in (writing_same p.unreleased ws))
+-- the least of some numbers, where a property is that of being one of them
+pub least_told : (P : ℕ → Type 0) (ns : List ℕ) → ((i : ℕ) → IsTrue (is_one ns i) → P i) → ((i : ℕ) → P i → IsTrue (is_one ns i)) → IsLeastOf P (least ns)
+least_told P ns from to = as_told P ns (least ns) from to (least_in ns)
+
+-- of those that pass a test
+pub least_passing : {A : Type 0} (number : A → ℕ) (test : A → Bool) (xs : List A) → IsLeastOf (λ i. IsTrue (list_any (λ x. number x == i && test x) xs)) (least (map number (filter test xs)))
+least_passing number test xs = least_told _ (map number (filter test xs)) (λ i is. one_holds number test xs i ∙ is) (λ i is. sym (one_holds number test xs i) ∙ is)

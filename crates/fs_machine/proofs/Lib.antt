@@ -1,5 +1,8 @@
 pub mod Batches
 pub mod Behind
+pub mod Carried
+pub mod Holders
+pub mod Holding
 pub mod FloorIsReleased
 pub mod Grows
 pub mod HistoryRises
@@ -19,5 +22,6 @@ pub mod Retried
 pub mod Runs
 pub mod SessionsNumbered
 pub mod SettledInAnyOrder
+pub mod TransactionsHold
 pub mod UnreleasedRise
 pub mod Verdicts

@@ -1,25 +1,19 @@
 -- What was computed for a pending commit stays right as long as it is pending, whatever events come.
-use Rattle.std.proofs.Common.{◌≡◌, ℕ, ◌+◌, ◌≤◌, Bool, true, false, cond, List, [], ◌∷◌, ◌++◌, Option, Some, None, Result, Ok, Err, refl, sym, ap, ◌∙◌, subst, arith}
+use Rattle.std.proofs.Common.{◌≡◌, inl, inr, ℕ, ◌+◌, ◌≤◌, Bool, true, false, cond, List, [], ◌∷◌, ◌++◌, Option, Some, None, Result, Ok, Err, refl, sym, ap, ◌∙◌, subst, arith}
 use Rattle.std.specs.Prelude.{◌==◌, IsSome, slice_get}
 use Rattle.std.specs.FinMap.{get}
 use Rattle.std.proofs.lemmas.Bool.Decides.{nat_tests}
 use Rattle.fs_history.specs.History.{whole}
 use Rattle.fs_history.specs.declared.batch.Batch.{Batch}
-use Rattle.fs_rpc.specs.declared.request.Envelope.{Envelope}
-use Rattle.fs_rpc.specs.declared.request.Request.{Request}
-use Rattle.fs_rpc.specs.declared.request.Request.TheVariants.{Commit, GetDocument, BatchGetDocuments, RunQuery}
 use Rattle.fs_status.specs.declared.refusal.Refusal.{Refusal}
 use Rattle.fs_write.proofs.BatchLaws.{Agree, law_named, law_named_refused}
 use Rattle.fs_write.specs.Batch.{Docs}
 use Rattle.fs_write.specs.WrittenName.{written_name}
-use Rattle.fs_write.specs.declared.write.Write.{Write}
 use Rattle.fs_write.specs.declared.write_result.WriteResult.{WriteResult}
 use Rattle.fs_machine.specs.declared.answer.Outcome.{Outcome}
 use Rattle.fs_machine.specs.declared.answer.Outcome.TheVariants as outcome
-use Rattle.fs_machine.specs.declared.parked_request.ParkedRequest.{ParkedRequest}
 use Rattle.fs_machine.specs.declared.unreleased.Unreleased.{Unreleased}
-use Rattle.fs_machine.specs.Behind.{behind}
-use Rattle.fs_machine.specs.Commit.{Decision, after_limits, arrived, carried, commit_refusal, decision_behind, drawn, past_prepared}
+use Rattle.fs_machine.specs.Commit.{past_prepared}
 use Rattle.fs_machine.specs.Event.{Event, step}
 use Rattle.fs_machine.specs.Facts.{Facts, PastFacts}
 use Rattle.fs_machine.specs.IdsAreDrawn.{counted, times_in}
@@ -27,11 +21,12 @@ use Rattle.fs_machine.specs.NamesApart.{AreApart}
 use Rattle.fs_machine.specs.Open.{is_full, with_session}
 use Rattle.fs_machine.specs.Past.{Past, batches, is_pending}
 use Rattle.fs_machine.specs.Release.{past_released}
-use Rattle.fs_machine.specs.Request.{after_request}
-use Rattle.fs_machine.specs.Retry.{retried_if, retry_decision, tried, writes_of}
+use Rattle.fs_machine.specs.Request.{arrival_refusal, arrived, asked}
+use Rattle.fs_machine.specs.Retry.{retried}
 use Rattle.fs_machine.specs.Settle.{ComesTo, IsOutcomeOf, IsOutcomeOfPending, IsOutcomeOn, accepted_in, decided_if, decided_with, docs_for, dropped_from, is_it, outcome_of, past_decided, pending_in, pending_of}
 use Rattle.fs_machine.specs.State.{Machine}
 use Rattle.fs_machine.specs.UnreleasedRise.{UnreleasedRise}
+use Rattle.fs_machine.proofs.Carried.{AtMostPrepares, asked_follows, retried_follows}
 use Rattle.fs_machine.proofs.Moved.{moved}
 use Rattle.fs_machine.proofs.Pending.{passes_it}
 use Rattle.fs_machine.proofs.ResultsHold.{agree_behind, docs_agree, found_apart}
@@ -189,29 +184,9 @@ module _ (m : Machine) (id : ℕ) (u : Unreleased) (is : pending_of m.past id �
   opened_carries true some = same_list _ _ id u refl refl is
   opened_carries false some = same_list _ _ id u refl refl is
 
-  carried_carries : (r : ParkedRequest) (writes : List Write) (d : Decision) → To (carried (drawn m) r writes d)
-  carried_carries r writes (Decision.refused refusal) some = same_list _ _ id u refl refl is
-  carried_carries r writes (Decision.held by) some = same_list _ _ id u refl refl is
-  carried_carries r writes Decision.goes_on some = prepared_carries m.past _ id u is
-
-  limited_carries : (r : ParkedRequest) (writes : List Write) (refusal : Option Refusal) → To (after_limits refusal m r writes)
-  limited_carries r writes (Some refusal) some = same_list _ _ id u refl refl is
-  limited_carries r writes None some = carried_carries r writes (decision_behind m (behind m.past writes)) some
-
-  asked_carries : (session : ℕ) (e : Envelope) (r : Request) → To (after_request m session e r)
-  asked_carries session e (Commit database writes) some = limited_carries (arrived m session e) writes (commit_refusal m session writes) some
-  asked_carries session e (GetDocument name mask read_time) some = same_list _ _ id u refl refl is
-  asked_carries session e (BatchGetDocuments database names mask read_time) some = same_list _ _ id u refl refl is
-  asked_carries session e (RunQuery database query read_time) some = same_list _ _ id u refl refl is
-
-  tried_carries : (place : ℕ) (r : ParkedRequest) (writes : List Write) (d : Decision) → To (tried m place r writes d)
-  tried_carries place r writes (Decision.refused refusal) some = same_list _ _ id u refl refl is
-  tried_carries place r writes (Decision.held by) some = same_list _ _ id u refl refl is
-  tried_carries place r writes Decision.goes_on some = prepared_carries m.past _ id u is
-
-  retried_carries : (place : ℕ) (found : Option ParkedRequest) → To (retried_if m place found)
-  retried_carries place None some = same_list _ _ id u refl refl is
-  retried_carries place (Some r) some = tried_carries place r (writes_of r.envelope.request) (retry_decision m (writes_of r.envelope.request)) some
+  follows_carries : (q : Past) → AtMostPrepares m.past q → Carries m.past q id u
+  follows_carries q (inl same) = subst (λ (p : Past). Carries m.past p id u) (sym same) (same_list _ _ id u refl refl is)
+  follows_carries q (inr one) = subst (λ (p : Past). Carries m.past p id u) (sym one.1) (prepared_carries m.past one.0 id u is)
 
   with_carries : (c : Unreleased) (r : Result (Docs × List WriteResult) Refusal) → To (decided_with m c r)
   with_carries c (Ok done) some = decided_carries m c (Ok done) id u (c.batch.id == id) refl is facts some
@@ -224,8 +199,8 @@ module _ (m : Machine) (id : ℕ) (u : Unreleased) (is : pending_of m.past id �
   carries : (e : Event) → To (step m e)
   carries Event.opening some = opened_carries (is_full m) some
   carries (Event.leaving session) some = same_list _ _ id u refl refl is
-  carries (Event.asking session e) some = asked_carries session e e.request some
-  carries (Event.retrying place) some = retried_carries place (slice_get m.parked place) some
+  carries (Event.asking session e) some = follows_carries (asked m session e).past (asked_follows m (arrived m session e) (arrival_refusal m session e.request))
+  carries (Event.retrying place) some = follows_carries (retried m place).past (retried_follows m place (slice_get m.parked place))
   carries (Event.deciding of) some = if_carries (pending_of m.past of) some
   carries (Event.advancing now) some = same_list _ _ id u refl refl is
   carries Event.releasing some = released_carries m.past id u is facts.past

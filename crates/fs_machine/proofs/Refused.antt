@@ -3,15 +3,13 @@ use Rattle.std.proofs.Common.{◌≡◌, ℕ, ◌+◌, ◌<◌, ◌≤◌, Bool,
 use Rattle.std.specs.Prelude.{slice_get}
 use Rattle.std.proofs.lemmas.Bool.Decides.{nat_tests}
 use Rattle.fs_rpc.specs.declared.request.Envelope.{Envelope}
-use Rattle.fs_rpc.specs.declared.request.Request.{Request}
-use Rattle.fs_rpc.specs.declared.request.Request.TheVariants.{Commit, GetDocument, BatchGetDocuments, RunQuery}
+use Rattle.fs_txn.specs.Expiry.{expired_at}
+use Rattle.fs_txn.specs.Transactions.{Transactions}
 use Rattle.fs_status.specs.declared.refusal.Refusal.{Refusal}
 use Rattle.fs_write.specs.Batch.{Docs}
-use Rattle.fs_write.specs.declared.write.Write.{Write}
 use Rattle.fs_write.specs.declared.write_result.WriteResult.{WriteResult}
 use Rattle.fs_machine.specs.declared.parked_request.ParkedRequest.{ParkedRequest}
 use Rattle.fs_machine.specs.declared.unreleased.Unreleased.{Unreleased}
-use Rattle.fs_machine.specs.Commit.{Decision, after_limits, arrived, carried, commit_refusal, decision, drawn, next_commit, past_prepared}
 use Rattle.fs_machine.specs.Event.{Event, after, step}
 use Rattle.fs_machine.specs.Facts.{Facts}
 use Rattle.fs_machine.specs.IdsAreDrawn.{counted, times, times_in}
@@ -19,69 +17,53 @@ use Rattle.fs_machine.specs.Leave.{of_others}
 use Rattle.fs_machine.specs.Open.{is_full, with_session}
 use Rattle.fs_machine.specs.Past.{Past, batches}
 use Rattle.fs_machine.specs.Release.{past_released}
-use Rattle.fs_machine.specs.Request.{after_request}
-use Rattle.fs_machine.specs.Retry.{retried_if, retry_decision, tried, unparked, writes_of}
+use Rattle.fs_machine.specs.Request.{arrival_refusal, arrived, asked}
+use Rattle.fs_machine.specs.Retry.{retried}
 use Rattle.fs_machine.specs.Settle.{decided, decided_if, decided_with, dropped_from, is_it, outcome_of, past_decided, pending_in, pending_of}
 use Rattle.fs_machine.specs.State.{Machine}
-use Rattle.fs_machine.proofs.IdsAreDrawn.{AreFewer, fewer_decided, fewer_departed, fewer_released, fewer_retried, fewer_unparked, in_more, parked_more}
+use Rattle.fs_machine.specs.Tick.{past_advanced}
+use Rattle.fs_machine.proofs.Carried.{asked_ids, asked_times, drawn_later, retried_ids, retried_times}
+use Rattle.fs_machine.proofs.IdsAreDrawn.{AreFewer, fewer_decided, fewer_departed, fewer_expired, fewer_released}
 use Rattle.fs_machine.proofs.OutcomesStay.{it_is_one}
 use Rattle.fs_machine.proofs.Pending.{number_found}
 use Rattle.fs_machine.proofs.Runs.{keeps}
 
 -- it was drawn, and nothing has it
 abbrev IsGone : ℕ → Machine → Type 0
-IsGone id m = (times id m.past m.parked ≡ 0) × (id ≤ m.numbers.ids)
+IsGone id m = (times id m.past m.txns m.parked ≡ 0) × (id ≤ m.numbers.ids)
 
 -- ---- an event gives it to nothing
 
-other_number : (id n : ℕ) → id < n → counted id n ≡ 0
-other_number id n below = grind (arith, nat_tests)
-
 module _ (m : Machine) (id : ℕ) (gone : IsGone id m) where
-  stays_gone : (q : Past) (ss : List ParkedRequest) → AreFewer m.past m.parked q ss → times id q ss ≡ 0
-  stays_gone q ss fewer = let less = fewer id in let none = gone.0 in omega (arith, less, none)
+  stays_gone : (q : Past) (us : Transactions) (ss : List ParkedRequest) → AreFewer m.past m.txns m.parked q us ss → times id q us ss ≡ 0
+  stays_gone q us ss fewer = let less = fewer id in let none = gone.0 in omega (arith, less, none)
 
   gone_opened : (full : Bool) → IsGone id (cond full m (with_session m))
   gone_opened true = gone
   gone_opened false = gone
 
   -- one that comes draws the next number
-  gone_carried : (r : ParkedRequest) (writes : List Write) (d : Decision) → r.id ≡ m.numbers.ids + 1 → IsGone id (carried (drawn m) r writes d)
-  gone_carried r writes (Decision.refused refusal) next = let drew = gone.1 in (gone.0, omega (arith, drew))
-  gone_carried r writes (Decision.held by) next =
+  gone_asked : (session : ℕ) (e : Envelope) → IsGone id (asked m session e)
+  gone_asked session e =
+      let r = arrived m session e in
+      let refusal = arrival_refusal m session e.request in
       let none = gone.0 in let drew = gone.1 in
-      let more = parked_more id m.parked r in
-      let other = other_number id r.id (omega (arith, next, drew)) in
-      (omega (arith, none, more, other), omega (arith, drew))
-  gone_carried r writes Decision.goes_on next =
-      let none = gone.0 in let drew = gone.1 in
-      let more = in_more id m.past.unreleased (next_commit m.past r writes) in
-      let other = other_number id r.id (omega (arith, next, drew)) in
-      (omega (arith, none, more, other), omega (arith, drew))
-
-  gone_limited : (session : ℕ) (e : Envelope) (writes : List Write) (refusal : Option Refusal) → IsGone id (after_limits refusal m (arrived m session e) writes)
-  gone_limited session e writes (Some refusal) = gone
-  gone_limited session e writes None = gone_carried (arrived m session e) writes (decision m writes) refl
-
-  gone_asked : (session : ℕ) (e : Envelope) (r : Request) → IsGone id (after_request m session e r)
-  gone_asked session e (Commit database writes) = gone_limited session e writes (commit_refusal m session writes)
-  gone_asked session e (GetDocument name mask read_time) = gone
-  gone_asked session e (BatchGetDocuments database names mask read_time) = gone
-  gone_asked session e (RunQuery database query read_time) = gone
+      let less = asked_times m r id refusal in
+      let other = drawn_later m r id refl drew in
+      let on = asked_ids m r refusal in
+      (omega (arith, less, none, other), omega (arith, on, drew))
 
   -- one that is tried again keeps its own
-  gone_tried : (place : ℕ) (r : ParkedRequest) (writes : List Write) (d : Decision) → slice_get m.parked place ≡ Some r → IsGone id (tried m place r writes d)
-  gone_tried place r writes (Decision.refused refusal) is = (stays_gone m.past (unparked m place).parked (fewer_unparked m.past m.parked place r is), gone.1)
-  gone_tried place r writes (Decision.held by) is = gone
-  gone_tried place r writes Decision.goes_on is = (stays_gone (past_prepared m.past (next_commit m.past r writes)) (unparked m place).parked (fewer_retried m.past m.parked place r (next_commit m.past r writes) is refl), gone.1)
-
-  gone_retried : (place : ℕ) (found : Option ParkedRequest) → slice_get m.parked place ≡ found → IsGone id (retried_if m place found)
-  gone_retried place None is = gone
-  gone_retried place (Some r) is = gone_tried place r (writes_of r.envelope.request) (retry_decision m (writes_of r.envelope.request)) is
+  gone_retried : (place : ℕ) → IsGone id (retried m place)
+  gone_retried place =
+      let none = gone.0 in let drew = gone.1 in
+      let less = retried_times m place id (slice_get m.parked place) refl in
+      let same = retried_ids m place (slice_get m.parked place) in
+      (omega (arith, less, none), omega (arith, same, drew))
 
   gone_with : (u : Unreleased) (r : Result (Docs × List WriteResult) Refusal) → IsGone id (decided_with m u r)
-  gone_with u (Ok done) = (stays_gone (past_decided m.past u (Ok done)) m.parked (fewer_decided m.past m.parked u (Ok done)), gone.1)
-  gone_with u (Err refusal) = (stays_gone (past_decided m.past u (Err refusal)) m.parked (fewer_decided m.past m.parked u (Err refusal)), gone.1)
+  gone_with u (Ok done) = (stays_gone (past_decided m.past u (Ok done)) m.txns m.parked (fewer_decided m.past m.txns m.parked u (Ok done)), gone.1)
+  gone_with u (Err refusal) = (stays_gone (past_decided m.past u (Err refusal)) m.txns m.parked (fewer_decided m.past m.txns m.parked u (Err refusal)), gone.1)
 
   gone_if : (found : Option Unreleased) → IsGone id (decided_if m found)
   gone_if None = gone
@@ -89,12 +71,12 @@ module _ (m : Machine) (id : ℕ) (gone : IsGone id m) where
 
   gone_stays : (e : Event) → Facts m → IsGone id (step m e)
   gone_stays Event.opening facts = gone_opened (is_full m)
-  gone_stays (Event.leaving session) facts = (stays_gone m.past (of_others session m.parked) (fewer_departed m.past m.parked session), gone.1)
-  gone_stays (Event.asking session e) facts = gone_asked session e e.request
-  gone_stays (Event.retrying place) facts = gone_retried place (slice_get m.parked place) refl
+  gone_stays (Event.leaving session) facts = (stays_gone m.past m.txns (of_others session m.parked) (fewer_departed m.past m.txns m.parked session), gone.1)
+  gone_stays (Event.asking session e) facts = gone_asked session e
+  gone_stays (Event.retrying place) facts = gone_retried place
   gone_stays (Event.deciding of) facts = gone_if (pending_of m.past of)
-  gone_stays (Event.advancing now) facts = gone
-  gone_stays Event.releasing facts = (stays_gone (past_released m.past) m.parked (fewer_released m.past m.parked facts.past.unreleased), gone.1)
+  gone_stays (Event.advancing now) facts = (stays_gone (past_advanced m.past now) (expired_at now m.txns) m.parked (fewer_expired m.past m.txns m.parked now), gone.1)
+  gone_stays Event.releasing facts = (stays_gone (past_released m.past) m.txns m.parked (fewer_released m.past m.txns m.parked facts.past.unreleased), gone.1)
   gone_stays (Event.compacting to) facts = gone
   gone_stays (Event.taking session) facts = gone
 
@@ -123,7 +105,7 @@ gone_dropped m id u refusal facts is =
     let own = number_found m.past.unreleased id u is in
     let same : times_in id (batches (dropped_from u.batch.id m.past.unreleased)) ≡ times_in id (batches (dropped_from id m.past.unreleased)) = ap (λ n. times_in id (batches (dropped_from n m.past.unreleased))) own in
     let drawn = facts.ids id in
-    (omega (arith, one, same, drawn.0), was_drawn id m.numbers.ids (times id m.past m.parked) (omega (arith, one)) drawn.1)
+    (omega (arith, one, same, drawn.0), was_drawn id m.numbers.ids (times id m.past m.txns m.parked) (omega (arith, one)) drawn.1)
 
 pub refused_is_never_seen : (m : Machine) (id : ℕ) (u : Unreleased) (refusal : Refusal) (es : List Event) → Facts m → pending_of m.past id ≡ Some u → outcome_of m.past u ≡ Err refusal
     → times_in id (after (decided m id) es).past.history ≡ 0

@@ -13,7 +13,7 @@ use Rattle.fs_machine.proofs.Runs.{asked_stays, decided_stays, opened_stays, ret
 joined_by : (m : Machine) (e : Event) → (step m e).past.history ≡ joined m.past.history (let_out_by m e)
 joined_by m Event.opening = (opened_stays m (is_full m)).0
 joined_by m (Event.leaving session) = refl
-joined_by m (Event.asking session e) = (asked_stays m session e e.request).0
+joined_by m (Event.asking session e) = (asked_stays m session e).0
 joined_by m (Event.retrying place) = (retried_stays m place (slice_get m.parked place)).0
 joined_by m (Event.deciding id) = (decided_stays m (pending_of m.past id)).0
 joined_by m (Event.advancing now) = refl

@@ -14,12 +14,14 @@ use Rattle.fs_machine.specs.declared.session.Session.{Session}
 use Rattle.fs_machine.specs.declared.unreleased.Unreleased.{Unreleased}
 use Rattle.fs_machine.specs.Facts.{Facts, PastFacts}
 use Rattle.fs_machine.specs.IdsAreDrawn.{IdsAreDrawn}
+use Rattle.fs_machine.specs.TransactionsHold.{TransactionsHold}
 use Rattle.fs_machine.specs.Laws.{IsntRefused, NoneRefused, all_settled}
 use Rattle.fs_machine.specs.Past.{Past}
 use Rattle.fs_machine.specs.Release.{past_released, released, replies_out}
 use Rattle.fs_machine.specs.Settle.{decided_if, decided_with, docs_for, outcome_of, past_decided, pending_of, settled}
 use Rattle.fs_machine.specs.State.{Machine}
 use Rattle.fs_machine.proofs.IdsAreDrawn.{fewer_decided, fewer_released, ids_fewer}
+use Rattle.fs_machine.proofs.TransactionsHold.{open_decided, open_released}
 use Rattle.fs_machine.proofs.OutcomesStay.{Carries, once, pending_released, released_carries}
 use Rattle.fs_machine.proofs.Pending.{number_found}
 use Rattle.fs_machine.proofs.ReleasedOnce.{marked_in, released_once}
@@ -60,15 +62,21 @@ module _ (m : Machine) (facts : Facts m) (a : ℕ) where
   first_stands : PastFacts first
   first_stands = kept_if PastFacts m.past a (pending_of m.past a) refl (λ u is. past_kept_at_deciding m.past a u (outcome_of m.past u) is refl facts.past) facts.past
 
-  first_drawn : IdsAreDrawn first m.parked m.numbers.ids
+  first_drawn : IdsAreDrawn first m.txns m.parked m.numbers.ids
   first_drawn =
-      kept_if (λ p. IdsAreDrawn p m.parked m.numbers.ids) m.past a (pending_of m.past a) refl
-      (λ u is. let r = outcome_of m.past u in ids_fewer m.past m.parked (past_decided m.past u r) m.parked m.numbers.ids (fewer_decided m.past m.parked u r) facts.ids) facts.ids
+      kept_if (λ p. IdsAreDrawn p m.txns m.parked m.numbers.ids) m.past a (pending_of m.past a) refl
+      (λ u is. let r = outcome_of m.past u in ids_fewer m.past m.txns m.parked (past_decided m.past u r) m.txns m.parked m.numbers.ids (fewer_decided m.past m.txns m.parked u r) facts.ids) facts.ids
+
+  first_open : TransactionsHold m.config.mode first m.txns.open
+  first_open =
+      kept_if (λ p. TransactionsHold m.config.mode p m.txns.open) m.past a (pending_of m.past a) refl
+      (λ u is. open_decided m.config.mode m.past u (outcome_of m.past u) m.txns.open facts.txns) facts.txns
 
   stands : Facts (quietly m a)
   stands = record {
     past = past_kept_at_release first first_stands;
-    ids = ids_fewer first m.parked (past_released first) m.parked m.numbers.ids (fewer_released first m.parked first_stands.unreleased) first_drawn;
+    ids = ids_fewer first m.txns m.parked (past_released first) m.txns m.parked m.numbers.ids (fewer_released first m.txns m.parked first_stands.unreleased) first_drawn;
+    txns = open_released m.config.mode first m.txns.open first_stands.unreleased first_open;
     sessions = sessions_told (replies_out first) m.sessions m.numbers.sessions facts.sessions;
   }
 

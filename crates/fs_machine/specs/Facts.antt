@@ -8,6 +8,7 @@ use Rattle.fs_machine.specs.ReadsHold.{ReadsHold}
 use Rattle.fs_machine.specs.ResultsHold.{ResultsHold}
 use Rattle.fs_machine.specs.SessionsNumbered.{SessionsNumbered}
 use Rattle.fs_machine.specs.State.{Machine}
+use Rattle.fs_machine.specs.TransactionsHold.{TransactionsHold}
 use Rattle.fs_machine.specs.UnreleasedRise.{UnreleasedRise}
 
 -- of what was committed
@@ -22,5 +23,6 @@ pub record PastFacts (p : Past) : Type 0 where
 -- of a server
 pub record Facts (m : Machine) : Type 0 where
   pub past : PastFacts m.past
-  pub ids : IdsAreDrawn m.past m.parked m.numbers.ids
+  pub ids : IdsAreDrawn m.past m.txns m.parked m.numbers.ids
+  pub txns : TransactionsHold m.config.mode m.past m.txns.open
   pub sessions : SessionsNumbered m.sessions m.numbers.sessions

@@ -1,23 +1,39 @@
 -- What holds of every run of a server.
-use Rattle.std.specs.Prelude.{◌≡◌, ℕ, ◌≤◌, ◌==◌, ◌&&◌, ℤ, ◌≤ℤ◌, ⊤, IsTrue, IsOk, IsSome, IsPermutation, List, [], ◌∷◌, ◌++◌, Option, Some, None, Err, slice_get}
+use Rattle.std.specs.Prelude.{◌≡◌, ℕ, ◌≤◌, ◌==◌, ◌&&◌, ℤ, ◌≤ℤ◌, int_lt, true, false, ⊤, ◌⊎◌, IsTrue, IsOk, IsSome, IsPermutation, List, [], ◌∷◌, ◌++◌, Option, Some, None, Err, slice_get}
 use Rattle.std.specs.List.{AllByRecursion, list_any}
 use Rattle.fs_history.specs.History.{at}
+use Rattle.fs_history.specs.Serial.{IsSerial}
+use Rattle.fs_history.specs.Touches.{some_touched}
+use Rattle.fs_history.specs.declared.read.Read.{Read}
+use Rattle.fs_rpc.specs.declared.message.Message.TheVariants as message
+use Rattle.fs_rpc.specs.declared.request.Request.{Request}
+use Rattle.fs_rpc.specs.declared.request.Request.TheVariants.{Commit, GetDocument, BatchGetDocuments, RunQuery, BeginTransaction, Rollback}
+use Rattle.fs_rpc.specs.declared.when.When.{When}
+use Rattle.fs_txn.specs.Transactions.{is_read_write, txn_of}
+use Rattle.fs_txn.specs.declared.txn.Txn.{Txn}
 use Rattle.fs_status.specs.declared.refusal.Refusal.{Refusal}
 use Rattle.fs_write.specs.declared.write.Write.{Write}
+use Rattle.fs_machine.specs.declared.answer.Answer.TheVariants.{Reply}
 use Rattle.fs_machine.specs.declared.config.Config.{Config}
+use Rattle.fs_machine.specs.declared.config.Mode.{Mode}
+use Rattle.fs_machine.specs.declared.config.Mode.TheVariants.{Pessimistic, Optimistic}
 use Rattle.fs_machine.specs.declared.limits.Limits.{Limits}
 use Rattle.fs_machine.specs.declared.parked_request.ParkedRequest.{ParkedRequest}
 use Rattle.fs_machine.specs.declared.unreleased.Unreleased.{Unreleased}
 use Rattle.fs_machine.specs.declared.answer.Outcome.{Outcome}
-use Rattle.fs_machine.specs.Behind.{behind, write_same}
-use Rattle.fs_machine.specs.Commit.{Decision, carried, decision}
+use Rattle.fs_machine.specs.Behind.{write_same}
+use Rattle.fs_machine.specs.Commit.{committed_answer, only_reads}
+use Rattle.fs_machine.specs.Conflict.{conflict, is_reader, others}
 use Rattle.fs_machine.specs.Event.{Event, after, step}
 use Rattle.fs_machine.specs.Facts.{Facts}
 use Rattle.fs_machine.specs.Grows.{Grows}
 use Rattle.fs_machine.specs.IdsAreDrawn.{times_in}
-use Rattle.fs_machine.specs.Past.{Past}
+use Rattle.fs_machine.specs.Numbered.{transaction_in}
+use Rattle.fs_machine.specs.Past.{Past, batches}
+use Rattle.fs_machine.specs.Read.{is_noted, shown_at}
 use Rattle.fs_machine.specs.Release.{joined, let_out}
-use Rattle.fs_machine.specs.Retry.{retried, retry_decision, unparked, writes_of}
+use Rattle.fs_machine.specs.Request.{Decision, arrives, check_refusal, decision, held_by, unless_full}
+use Rattle.fs_machine.specs.Retry.{retried, retry_decision, unparked}
 use Rattle.fs_machine.specs.Settle.{ComesTo, decided, outcome_of, pending_of, settled}
 use Rattle.fs_machine.specs.State.{Machine, started}
 
@@ -64,23 +80,82 @@ SameRepliesInAnyOrder = (m : Machine) (ids other : List ℕ) → Facts m → IsP
 
 -- ---- what waits
 
+-- the least number of those that hold, or none where there is none
+abbrev pub IsLeastOf : (ℕ → Type 0) → Option ℕ → Type 0
+IsLeastOf P None = (id : ℕ) → ¬ P id
+IsLeastOf P (Some id) = P id × ((other : ℕ) → P other → id ≤ other)
+
 -- a commit that isn't released has this number, and writes a name that these writes write
-abbrev pub IsHolder : Past → List Write → ℕ → Type 0
-IsHolder p ws id = IsTrue (list_any (λ u. u.batch.id == id && write_same ws u.batch.writes) p.unreleased)
+abbrev pub IsWriter : Past → List Write → ℕ → Type 0
+IsWriter p ws id = IsTrue (list_any (λ u. u.batch.id == id && write_same ws u.batch.writes) p.unreleased)
 
--- one of the least number, or none where there is none
-abbrev pub IsLeastHolder : Past → List Write → Option ℕ → Type 0
-IsLeastHolder p ws None = (id : ℕ) → ¬ IsHolder p ws id
-IsLeastHolder p ws (Some id) = IsHolder p ws id × ((other : ℕ) → IsHolder p ws other → id ≤ other)
+-- one has it, and touches one of these reads
+abbrev pub IsToucher : Past → List Read → ℕ → Type 0
+IsToucher p rs id = IsTrue (list_any (λ u. u.batch.id == id && some_touched u.batch.writes rs) p.unreleased)
 
--- what waits, waits for a commit that writes one of its names, the one of the least number; and what goes on has none
+-- an open read-write transaction has it, and a read that one of these writes touches
+abbrev pub IsReader : List Txn → List Write → ℕ → Type 0
+IsReader ts ws id = IsTrue (list_any (λ t. t.id == id && is_reader ws t) ts)
+
+-- whom a plain commit waits for
+abbrev pub IsPlainHolder : Mode → Past → List Txn → List Write → ℕ → Type 0
+IsPlainHolder Pessimistic p ts ws id = IsWriter p ws id ⊎ IsReader ts ws id
+IsPlainHolder Optimistic p ts ws id = IsWriter p ws id
+
+-- and reads in a read-write transaction
+abbrev pub IsReadHolder : Mode → Past → List Read → ℕ → Type 0
+IsReadHolder Pessimistic p rs id = IsToucher p rs id
+IsReadHolder Optimistic p rs id = ⊥
+
+abbrev pub IsCommitHolder : Machine → List Write → Option ℕ → ℕ → Type 0
+IsCommitHolder m ws None id = IsPlainHolder m.config.mode m.past m.txns.open ws id
+IsCommitHolder m ws (Some transaction) id = IsWriter m.past ws id
+
+abbrev pub IsHolderOfRead : Machine → When → Request → ℕ → Type 0
+IsHolderOfRead m when r id = IsTrue (is_noted m when) × IsReadHolder m.config.mode m.past (shown_at m when r) id
+
+-- whom a request waits for
+abbrev pub IsHolder : Machine → Request → ℕ → Type 0
+IsHolder m (Commit database writes transaction) id = IsCommitHolder m writes transaction id
+IsHolder m (GetDocument name mask when) id = IsHolderOfRead m when (GetDocument name mask when) id
+IsHolder m (BatchGetDocuments database names mask when) id = IsHolderOfRead m when (BatchGetDocuments database names mask when) id
+IsHolder m (RunQuery database query when) id = IsHolderOfRead m when (RunQuery database query when) id
+IsHolder m (BeginTransaction database options) id = ⊥
+IsHolder m (Rollback database transaction) id = ⊥
+
+-- what waits, waits for the one of the least number of those that hold it; and what goes on has none
 abbrev pub HeldByTheLeast : Type 0
-HeldByTheLeast = (p : Past) (ws : List Write) → IsLeastHolder p ws (behind p ws)
+HeldByTheLeast = (m : Machine) (r : Request) → IsLeastOf (IsHolder m r) (held_by m r)
 
 -- a request that waited and goes on is carried out as it would be had it come then
 abbrev pub RetriedAsIfItCame : Type 0
-RetriedAsIfItCame = (m : Machine) (place : ℕ) (r : ParkedRequest) → slice_get m.parked place ≡ Some r → retry_decision m (writes_of r.envelope.request) ≡ Decision.goes_on
-    → retried m place ≡ carried (unparked m place) r (writes_of r.envelope.request) (decision (unparked m place) (writes_of r.envelope.request))
+RetriedAsIfItCame = (m : Machine) (place : ℕ) (r : ParkedRequest) → slice_get m.parked place ≡ Some r → retry_decision m r.envelope.request ≡ Decision.goes_on
+    → retried m place ≡ arrives (unparked m place) r (unless_full (unparked m place) (decision (unparked m place) r.envelope.request))
+
+-- ---- transactions
+
+-- what one is in conflict with: an open one that has read what it writes, or a commit since its begin of what it has read
+abbrev pub IsConflict : Mode → Past → List Txn → Txn → List Write → ℕ → Type 0
+IsConflict Pessimistic p ts t ws id = IsReader (others t.id ts) ws id
+IsConflict Optimistic p ts t ws id =
+    IsTrue (list_any (λ b. b.id == id && (int_lt t.read_time b.time && some_touched b.writes t.reads)) (batches p.unreleased ++ p.history))
+
+-- one that is aborted is told the least of those that it is in conflict with; and what is committed has none
+abbrev pub AbortedByTheLeast : Type 0
+AbortedByTheLeast = (mode : Mode) (p : Past) (ts : List Txn) (t : Txn) (ws : List Write) → IsLeastOf (IsConflict mode p ts t ws) (conflict mode p ts t ws)
+
+-- one that only reads never waits
+abbrev pub ReadOnlyGoesOn : Type 0
+ReadOnlyGoesOn = (m : Machine) (r : Request) → only_reads m (transaction_in r) ≡ true → check_refusal m r ≡ None → decision m r ≡ Decision.goes_on
+
+-- and isn't aborted: it is told the time at which it read
+abbrev pub ReadOnlyCommits : Type 0
+ReadOnlyCommits = (m : Machine) (r : ParkedRequest) (ws : List Write) (id : ℕ) (t : Txn) → txn_of id m.txns.open ≡ Some t → is_read_write t.kind ≡ false
+    → committed_answer m r ws (Some id) ≡ Reply (message.Commit r.envelope.id t.read_time [])
+
+-- what was committed explains every read in it, whatever events come
+abbrev pub AlwaysSerial : Type 0
+AlwaysSerial = (config : Config) (limits : Limits) (start : ℤ) (events : List Event) → IsSerial (after (started config limits start) events).past.history
 
 -- ---- replies
 

@@ -8,6 +8,10 @@ pub mod Leave
 pub mod Tick
 pub mod Read
 pub mod Behind
+pub mod Conflict
+pub mod Transact
+pub mod Numbered
+pub mod Refusing
 pub mod Commit
 pub mod Request
 pub mod Retry
@@ -24,6 +28,7 @@ pub mod IdsAreDrawn
 pub mod NamesApart
 pub mod ResultsHold
 pub mod ReadsHold
+pub mod TransactionsHold
 pub mod SessionsNumbered
 pub mod Facts
 pub mod Grows

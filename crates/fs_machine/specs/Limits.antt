@@ -8,9 +8,11 @@ greatest = record {
   writes = 500;
   outbox = 1000;
   sessions = 64;
+  transactions = 1000;
   parked = 1000;
   batches = 1000000;
   journal = 134217728;
+  reads = 134217728;
   ids = 18446744073709551615;
   time = unsigned_abs last_moment;
 }
@@ -24,8 +26,10 @@ pub record AreAllowed (limits : Limits) : Type 0 where
   pub writes : limits.writes ≤ greatest.writes
   pub outbox : limits.outbox ≤ greatest.outbox
   pub sessions : limits.sessions ≤ greatest.sessions
+  pub transactions : limits.transactions ≤ greatest.transactions
   pub parked : limits.parked ≤ greatest.parked
   pub batches : limits.batches ≤ greatest.batches
   pub journal : limits.journal ≤ greatest.journal
+  pub reads : limits.reads ≤ greatest.reads
   pub ids : limits.ids ≤ greatest.ids
   pub time : limits.time ≤ greatest.time

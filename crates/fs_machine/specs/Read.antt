@@ -1,7 +1,8 @@
--- What reads answer: the documents of a time that can be read, or why it can't.
--- (v1 reference, "GetDocument", "BatchGetDocuments", "RunQuery": `readTime`.)
-use Rattle.std.specs.Prelude.{ℕ, ℤ, int_lt, List, Option, Some, None, map, unwrap_or, if◌then◌else◌}
+-- What reads answer: the documents of a time that can be read, or why it can't. One in a transaction reads at the transaction's time.
+-- (v1 reference, "GetDocument", "BatchGetDocuments", "RunQuery": `readTime`, `transaction`.)
+use Rattle.std.specs.Prelude.{ℕ, ℤ, int_lt, Bool, true, false, List, [], ◌∷◌, Option, Some, None, map, if◌then◌else◌}
 use Rattle.std.specs.FinMap.{get, values}
+use Rattle.std.specs.Option.{option_map_or}
 use Rattle.fs_path.specs.declared.field.FieldPath.{FieldPath}
 use Rattle.fs_path.specs.declared.name.DocName.{DocName}
 use Rattle.fs_query.specs.AnswerTo.{answer_to}
@@ -10,29 +11,87 @@ use Rattle.fs_query.specs.Project.{projected}
 use Rattle.fs_rpc.specs.declared.message.BatchAnswer.{BatchAnswer}
 use Rattle.fs_rpc.specs.declared.message.BatchAnswer.TheVariants.{Found, Missing}
 use Rattle.fs_rpc.specs.declared.message.Message.TheVariants as message
+use Rattle.fs_rpc.specs.declared.request.Request.{Request}
+use Rattle.fs_rpc.specs.declared.request.Request.TheVariants.{Commit, GetDocument, BatchGetDocuments, RunQuery, BeginTransaction, Rollback}
+use Rattle.fs_rpc.specs.declared.when.When.{When}
+use Rattle.fs_rpc.specs.declared.when.When.TheVariants.{Released, At, In}
 use Rattle.fs_status.specs.Refusal.{refusal_of}
 use Rattle.fs_status.specs.declared.reason.Reason.TheVariants.{NoDocument, TooOld, TooNew}
 use Rattle.fs_status.specs.declared.refusal.Refusal.{Refusal}
+use Rattle.fs_txn.specs.Transactions.{is_read_write, txn_of}
+use Rattle.fs_txn.specs.declared.txn.Txn.{Txn}
 use Rattle.fs_value.specs.declared.document.Document.{Document}
 use Rattle.fs_write.specs.Batch.{Docs}
 use Rattle.fs_history.specs.History.{at}
+use Rattle.fs_history.specs.declared.read.Read.{Read}
+use Rattle.fs_history.specs.declared.read.Read.TheVariants as read
+use Rattle.fs_machine.specs.Conflict.{read_behind}
+use Rattle.fs_machine.specs.Outbox.{outbox_of}
+use Rattle.fs_machine.specs.Past.{Past}
+use Rattle.fs_machine.specs.Refusing.{outbox_refusal, reads_refusal}
+use Rattle.fs_machine.specs.State.{Machine}
+use Rattle.fs_machine.specs.Transact.{closed_refusal, time_in, with_reads}
 use Rattle.fs_machine.specs.declared.answer.Answer.{Answer}
 use Rattle.fs_machine.specs.declared.answer.Answer.TheVariants.{Reply, Refused}
-use Rattle.fs_machine.specs.Past.{Past}
 
 -- ---- times
 
--- the time of a read: the one that is asked for, or the released one
-abbrev pub read_time : Past → Option ℤ → ℤ
-read_time p asked = unwrap_or asked p.released
+-- the time of a read: the released one, the one that is asked for, or its transaction's
+abbrev pub read_time : Machine → When → ℤ
+read_time m Released = m.past.released
+read_time m (At time) = time
+read_time m (In id) = option_map_or (time_in m.config.mode m.past) (txn_of id m.txns.open) m.past.released
 
--- why it can't be read
+-- why a time can't be read
 abbrev pub time_refusal : Past → ℤ → Option Refusal
 time_refusal p t = if int_lt t p.floor then Some (refusal_of (TooOld t p.floor)) else if int_lt p.released t then Some (refusal_of (TooNew t p.released)) else None
 
-abbrev pub unless_refused : Option Refusal → Answer → Answer
-unless_refused (Some refusal) answer = Refused refusal
-unless_refused None answer = answer
+-- why one isn't made: the time that is asked for can't be read, or its transaction isn't open
+abbrev pub when_refusal : Machine → When → Option Refusal
+when_refusal m Released = None
+when_refusal m (At time) = time_refusal m.past time
+when_refusal m (In id) = closed_refusal m.txns id
+
+-- ---- what is read
+
+-- what these documents show of what a request asks for
+abbrev pub shown_of : Docs → Request → List Read
+shown_of docs (Commit database writes transaction) = []
+shown_of docs (GetDocument name mask when) = read.Name name (get docs name) ∷ []
+shown_of docs (BatchGetDocuments database names mask when) = map (λ name. read.Name name (get docs name)) names
+shown_of docs (RunQuery database query when) = read.Query query (answer_to query (values docs)) ∷ []
+shown_of docs (BeginTransaction database options) = []
+shown_of docs (Rollback database transaction) = []
+
+-- the documents that are read
+abbrev pub docs_at : Machine → When → Docs
+docs_at m when = at m.past.history (read_time m when)
+
+abbrev pub shown_at : Machine → When → Request → List Read
+shown_at m when r = shown_of (docs_at m when) r
+
+-- the reads of one in a read-write transaction are noted, and held in pessimistic mode
+abbrev pub is_noted : Machine → When → Bool
+is_noted m Released = false
+is_noted m (At time) = false
+is_noted m (In id) = option_map_or (λ t. is_read_write t.kind) (txn_of id m.txns.open) false
+
+-- ---- limits
+
+abbrev pub read_limit_refusal : Machine → When → Request → Option Refusal
+read_limit_refusal m when r = if is_noted m when then reads_refusal m (shown_at m when r) else None
+
+-- ---- whom one waits for
+
+abbrev pub reader_behind : Machine → When → Request → Option ℕ
+reader_behind m when r = if is_noted m when then read_behind m.config.mode m.past (shown_at m when r) else None
+
+-- ---- what becomes of it
+
+abbrev pub read_in : Machine → When → Request → Machine
+read_in m Released r = m
+read_in m (At time) r = m
+read_in m (In id) r = with_reads m id (shown_at m (In id) r)
 
 -- ---- documents
 
@@ -57,13 +116,13 @@ batch_answers docs t mask names = map (λ name. told_of t mask name (get docs na
 abbrev pub query_answer : Docs → Asked → List Document
 query_answer docs q = map (masked q.select) (answer_to q (values docs))
 
--- ---- requests
+-- ---- what is answered, of the documents at a time
 
 abbrev pub get_answer : Past → Option (List ℕ) → DocName → Option (List FieldPath) → ℤ → Answer
-get_answer p id name mask t = unless_refused (time_refusal p t) (document_answer id t mask (get (at p.history t) name))
+get_answer p id name mask t = document_answer id t mask (get (at p.history t) name)
 
 abbrev pub batch_get_answer : Past → Option (List ℕ) → List DocName → Option (List FieldPath) → ℤ → Answer
-batch_get_answer p id names mask t = unless_refused (time_refusal p t) (Reply (message.BatchGetDocuments id (batch_answers (at p.history t) t mask names)))
+batch_get_answer p id names mask t = Reply (message.BatchGetDocuments id (batch_answers (at p.history t) t mask names))
 
 abbrev pub run_answer : Past → Option (List ℕ) → Asked → ℤ → Answer
-run_answer p id q t = unless_refused (time_refusal p t) (Reply (message.RunQuery id (query_answer (at p.history t) q) t))
+run_answer p id q t = Reply (message.RunQuery id (query_answer (at p.history t) q) t)

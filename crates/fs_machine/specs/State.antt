@@ -2,6 +2,7 @@
 -- alone keeps what is promised of it.
 use Rattle.std.specs.Prelude.{ℤ, List, [], refl}
 use Rattle.std.specs.Coded.{Coded, code_by, coded×, coded_list}
+use Rattle.fs_txn.specs.Transactions.{Transactions, transactions_code}
 use Rattle.fs_machine.specs.contracts.config.Config as config
 use Rattle.fs_machine.specs.contracts.limits.Limits as limits
 use Rattle.fs_machine.specs.contracts.numbers.Numbers as numbers
@@ -19,6 +20,8 @@ pub record Machine : Type 0 where
   pub config : Config
   pub limits : Limits
   pub past : Past
+  -- those that are open, and those that expired last
+  pub txns : Transactions
   -- those that are open, in the order of opening
   pub sessions : List Session
   -- the requests that wait, in the order of their arrival
@@ -28,10 +31,10 @@ pub record Machine : Type 0 where
 -- it is stored as the tuple of its parts
 abbrev pub machine_code : Coded Machine
 machine_code =
-    code_by (Config × (Limits × (Past × (List Session × (List ParkedRequest × Numbers)))))
-    (coded× config.the_row.coded (coded× limits.the_row.coded (coded× past_code (coded× (coded_list session.the_row.coded) (coded× (coded_list parked_request.the_row.coded) numbers.the_row.coded)))))
-    (λ m. (m.config, (m.limits, (m.past, (m.sessions, (m.parked, m.numbers))))))
-    (λ t. record { config = t.0; limits = t.1.0; past = t.1.1.0; sessions = t.1.1.1.0; parked = t.1.1.1.1.0; numbers = t.1.1.1.1.1 })
+    code_by (Config × (Limits × (Past × (Transactions × (List Session × (List ParkedRequest × Numbers))))))
+    (coded× config.the_row.coded (coded× limits.the_row.coded (coded× past_code (coded× transactions_code (coded× (coded_list session.the_row.coded) (coded× (coded_list parked_request.the_row.coded) numbers.the_row.coded))))))
+    (λ m. (m.config, (m.limits, (m.past, (m.txns, (m.sessions, (m.parked, m.numbers)))))))
+    (λ t. record { config = t.0; limits = t.1.0; past = t.1.1.0; txns = t.1.1.1.0; sessions = t.1.1.1.1.0; parked = t.1.1.1.1.1.0; numbers = t.1.1.1.1.1.1 })
     (λ _. refl)
 
 -- where it begins, at a moment
@@ -40,6 +43,7 @@ started config limits start = record {
   config = config;
   limits = limits;
   past = past_from start;
+  txns = record { «open» = []; expired = [] };
   sessions = [];
   parked = [];
   numbers = record { ids = 0; sessions = 0 };

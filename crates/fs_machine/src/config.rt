@@ -10,8 +10,8 @@ pub enum Mode {
     Optimistic,
 }
 
-/// The configuration of a server, beside its limits. Nothing changes it later. Until there are transactions and listeners, nothing
-/// goes by the mode and the shards.
+/// The configuration of a server, beside its limits. Nothing changes it later. Until there are listeners, nothing
+/// goes by the shards.
 #[derive(Drop, Debug)]
 pub struct Config {
     /// The project and the database whose documents it has.

@@ -1,5 +1,5 @@
 //! The laws of servers.
-ghost use Rattle.fs_machine.specs.Laws.{AlwaysGrows, AlwaysKept, DocumentsStay, HeldByTheLeast, OutcomesStay, RefusedIsNeverSeen, RepliesComeOnce, RetriedAsIfItCame, SameRepliesInAnyOrder, SettledInAnyOrder};
+ghost use Rattle.fs_machine.specs.Laws.{AbortedByTheLeast, AlwaysGrows, AlwaysKept, AlwaysSerial, DocumentsStay, HeldByTheLeast, OutcomesStay, ReadOnlyCommits, ReadOnlyGoesOn, RefusedIsNeverSeen, RepliesComeOnce, RetriedAsIfItCame, SameRepliesInAnyOrder, SettledInAnyOrder};
 
 /// What holds of every run of a server, whatever events come. The times of its history rise, those of the commits behind it
 /// too; no two of these write one name, and those that are accepted have the results that they have on what the history leaves;
@@ -10,8 +10,16 @@ ghost use Rattle.fs_machine.specs.Laws.{AlwaysGrows, AlwaysKept, DocumentsStay, 
 /// (`outcomes`). So any number of them leave the same, in whatever order they are settled (`any_order`), with the same replies in the
 /// same order where none is refused (`same_replies`).
 ///
-/// What waits, waits for the commit of the least number of those that write one of its names, and what goes on has none
-/// (`held`). A request that waited and goes on is carried out as if it came then (`retried`). The commits that are let out and
+/// What waits, waits for the least of those that hold it, and what goes on has none (`held`): a commit for those that aren't released
+/// and write one of its names, and in pessimistic mode a plain one for the open transactions that have read what it writes, and a read in
+/// a read-write transaction for the commits that aren't released and touch it. A request that waited and goes on is carried out as if it
+/// came then (`retried`).
+///
+/// A transaction that is aborted is told the least of those that it is in conflict with, and what is committed has none (`aborted`). One
+/// that only reads never waits (`goes_on`) and is never aborted (`commits`). So whatever events come, the history is serial: each of
+/// its batches had read what the batches before it leave (`serial`).
+///
+/// The commits that are let out and
 /// answered are the batches that the history has more, in its order: each is answered once, as it comes to be seen
 /// (`replies`). One whose writes are refused is never seen (`refused`).
 pub fn machines_are_lawful()
@@ -22,6 +30,10 @@ pub fn machines_are_lawful()
     ensures any_order { SettledInAnyOrder }
     ensures same_replies { SameRepliesInAnyOrder }
     ensures held { HeldByTheLeast }
+    ensures aborted { AbortedByTheLeast }
+    ensures goes_on { ReadOnlyGoesOn }
+    ensures commits { ReadOnlyCommits }
+    ensures serial { AlwaysSerial }
     ensures retried { RetriedAsIfItCame }
     ensures replies { RepliesComeOnce }
     ensures refused { RefusedIsNeverSeen }

@@ -11,13 +11,17 @@ pub struct Limits {
     pub outbox: u64,
     /// Sessions that are open at a time.
     pub sessions: u64,
+    /// Transactions that are open at a time.
+    pub transactions: u64,
     /// Requests that wait.
     pub parked: u64,
     /// Batches in the history, and commits that aren't in it yet.
     pub batches: u64,
     /// What these count together, in bytes.
     pub journal: u64,
-    /// The last number that a commit may get.
+    /// What open read-write transactions were shown, in bytes.
+    pub reads: u64,
+    /// The last number that a commit or a transaction may get.
     pub ids: u64,
     /// The last commit time, in microseconds since 1970.
     pub time: u64,
@@ -35,9 +39,11 @@ impl Limits {
             writes: 500,
             outbox: 1_000,
             sessions: 64,
+            transactions: 1_000,
             parked: 1_000,
             batches: 1_000_000,
             journal: 134_217_728,
+            reads: 134_217_728,
             ids: u64::MAX,
             time: Micros::LAST.unsigned_abs(),
         }
@@ -51,9 +57,11 @@ impl Limits {
         self.writes <= greatest.writes
             && self.outbox <= greatest.outbox
             && self.sessions <= greatest.sessions
+            && self.transactions <= greatest.transactions
             && self.parked <= greatest.parked
             && self.batches <= greatest.batches
             && self.journal <= greatest.journal
+            && self.reads <= greatest.reads
             && self.ids <= greatest.ids
             && self.time <= greatest.time
     }

@@ -3,7 +3,7 @@
 /// How many numbers a server has given so far. None is given twice.
 #[derive(Clone, Copy, Debug, PartialEq, Eq)]
 pub struct Numbers {
-    /// The last that a commit drew. They count from 1.
+    /// The last that a commit or a transaction drew. They count from 1.
     pub ids: u64,
     /// How many sessions were opened: the number of the next.
     pub sessions: u64,

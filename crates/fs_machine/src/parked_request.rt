@@ -2,12 +2,12 @@
 use fs_rpc::Envelope;
 use fs_status::Id;
 
-/// A request that is held by a commit which isn't released yet. It waits, and is tried again.
+/// A request that is held by a commit which isn't released yet, or by a transaction that is open. It waits, and is tried again.
 #[derive(Drop, Debug)]
 pub struct ParkedRequest {
     /// The session that asked.
     pub session: u32,
-    /// The number that it drew as it came.
+    /// That of its transaction, or the one that it drew as it came.
     pub id: Id,
     pub envelope: Envelope,
 }

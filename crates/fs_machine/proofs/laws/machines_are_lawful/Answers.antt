@@ -1,10 +1,10 @@
-use Rattle.fs_machine.proofs.Behind.{held_by_the_least}
+use Rattle.fs_machine.proofs.Holders.{aborted_by_the_least, held_by_the_least, read_only_commits, read_only_goes_on}
 use Rattle.fs_machine.proofs.Grows.{documents_stay}
 use Rattle.fs_machine.proofs.OutcomesStay.{outcomes_stay}
 use Rattle.fs_machine.proofs.Refused.{refused_is_never_seen}
 use Rattle.fs_machine.proofs.Replies.{replies_come_once}
 use Rattle.fs_machine.proofs.Retried.{retried_as_if_it_came}
-use Rattle.fs_machine.proofs.Runs.{begins, all_grow, all_kept}
+use Rattle.fs_machine.proofs.Runs.{begins, all_grow, all_kept, serial_always}
 use Rattle.fs_machine.proofs.SettledInAnyOrder.{same_replies_in_any_order, settled_in_any_order}
 use Rattle.fs_machine.proofs.laws.machines_are_lawful.Goals as goal
 
@@ -27,7 +27,19 @@ pub returns-clause-same_replies : goal.returns-clause-same_replies
 returns-clause-same_replies c = λ m ids other facts moved none. same_replies_in_any_order m ids other facts moved none
 
 pub returns-clause-held : goal.returns-clause-held
-returns-clause-held c = λ p ws. held_by_the_least p ws
+returns-clause-held c = λ m r. held_by_the_least m r
+
+pub returns-clause-aborted : goal.returns-clause-aborted
+returns-clause-aborted c = λ mode p ts t ws. aborted_by_the_least mode p ts t ws
+
+pub returns-clause-goes_on : goal.returns-clause-goes_on
+returns-clause-goes_on c = λ m r is none. read_only_goes_on m r is none
+
+pub returns-clause-commits : goal.returns-clause-commits
+returns-clause-commits c = λ m r ws id t is ro. read_only_commits m r ws id t is ro
+
+pub returns-clause-serial : goal.returns-clause-serial
+returns-clause-serial c = λ config limits start events. serial_always config limits start events
 
 pub returns-clause-retried : goal.returns-clause-retried
 returns-clause-retried c = λ m place r is goes. retried_as_if_it_came m place r is goes

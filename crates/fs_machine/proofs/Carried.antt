@@ -1,0 +1,381 @@
+-- What a request that comes, or is tried again, does to what was committed, to the numbers that were drawn, and to what transactions have
+-- read.
+use Rattle.std.proofs.Common.{◌≡◌, ◌⊎◌, inl, inr, ℕ, ℤ, ◌+◌, ◌≤◌, ◌≤ℤ◌, ◌<ℤ◌, Bool, true, false, cond, List, [], ◌∷◌, ◌++◌, map, Option, Some, None, refl, sym, ap, ◌∙◌, subst, arith}
+use Rattle.std.specs.Prelude.{pos, ◌+ℤ◌, ◌==◌, is_none, int_lt, length, nat_le, codes, slice_get, unwrap_or}
+use Rattle.std.specs.FinMap.{get, values}
+use Rattle.std.specs.List.{AllByRecursion}
+use Rattle.std.proofs.lemmas.Bool.{eqb-true}
+use Rattle.std.proofs.lemmas.Bool.Decides.{nat_tests}
+use Rattle.std.proofs.lemmas.Int.{ints}
+use Rattle.std.proofs.lemmas.Option.{same_Some}
+use Rattle.fs_history.specs.History.{at, whole}
+use Rattle.fs_history.specs.Serial.{AreShown, IsShown}
+use Rattle.fs_history.specs.declared.read.Read.{Read}
+use Rattle.fs_history.specs.declared.read.Read.TheVariants as read
+use Rattle.fs_history.proofs.HistoryLaws.{at_whole}
+use Rattle.fs_path.specs.declared.name.DocName.{DocName}
+use Rattle.fs_rpc.specs.When.{transaction_of}
+use Rattle.fs_rpc.specs.declared.options.TransactionOptions.{TransactionOptions}
+use Rattle.fs_rpc.specs.declared.options.TransactionOptions.TheVariants.{ReadWrite, ReadOnly}
+use Rattle.fs_rpc.specs.declared.request.Envelope.{Envelope}
+use Rattle.fs_rpc.specs.declared.request.Request.{Request}
+use Rattle.fs_rpc.specs.declared.request.Request.TheVariants.{Commit, GetDocument, BatchGetDocuments, RunQuery, BeginTransaction, Rollback}
+use Rattle.fs_rpc.specs.declared.when.When.{When}
+use Rattle.fs_rpc.specs.declared.when.When.TheVariants.{Released, At, In}
+use Rattle.fs_status.specs.Refusal.{at_limit, refusal_of}
+use Rattle.fs_status.specs.declared.reason.Reason.TheVariants.{TooOld, TooNew}
+use Rattle.fs_status.specs.declared.refusal.Refusal.{Refusal}
+use Rattle.fs_txn.specs.Transactions.{Transactions, all_noted, is_read_write, noted, txn_of, used_at, with_read}
+use Rattle.fs_txn.specs.declared.kind.Kind.{Kind}
+use Rattle.fs_txn.specs.declared.kind.Kind.TheVariants as kind
+use Rattle.fs_txn.specs.declared.txn.Txn.{Txn}
+use Rattle.fs_write.specs.Batch.{Docs}
+use Rattle.fs_write.specs.declared.write.Write.{Write}
+use Rattle.fs_machine.specs.Behind.{behind}
+use Rattle.fs_machine.specs.Commit.{committed, committed_in, committed_unless, next_commit, past_prepared}
+use Rattle.fs_machine.specs.Conflict.{conflict}
+use Rattle.fs_machine.specs.Facts.{Facts, PastFacts}
+use Rattle.fs_machine.specs.IdsAreDrawn.{IdsAreDrawn, counted, own_count, times}
+use Rattle.fs_machine.specs.Numbered.{draws, number_of, transaction_in}
+use Rattle.fs_machine.specs.Past.{Past}
+use Rattle.fs_machine.specs.Read.{docs_at, is_noted, read_in, read_time, reader_behind, shown_at, shown_of, time_refusal}
+use Rattle.fs_machine.specs.Request.{Decision, arrival_refusal, arrived, arrives, asked, asked_unless, begin_time_refusal, carried, carried_by, check_refusal, decision, drawn, held_by, unless_full, unless_held, unless_refused}
+use Rattle.fs_machine.specs.Retry.{retried_if, retry_decision, tried, unparked}
+use Rattle.fs_machine.specs.State.{Machine}
+use Rattle.fs_machine.specs.Transact.{kind_of, time_asked, time_in, with_begun, with_ended, with_reads}
+use Rattle.fs_machine.specs.declared.parked_request.ParkedRequest.{ParkedRequest}
+use Rattle.fs_machine.specs.declared.unreleased.Unreleased.{Unreleased}
+use Rattle.fs_machine.proofs.IdsAreDrawn.{fewer_ended, ids_drawn, ids_fewer, in_more, more_by, open_changed, open_ended, open_more, parked_less, parked_more}
+use Rattle.fs_machine.proofs.TransactionsHold.{noted_keeps}
+
+-- ---- what was committed stays as it is, or a commit is prepared
+
+abbrev pub AtMostPrepares : Past → Past → Type 0
+AtMostPrepares p q = (q ≡ p) ⊎ ((u : Unreleased) × (q ≡ past_prepared p u))
+
+unless_follows : (m : Machine) (r : ParkedRequest) (writes : List Write) (t : Txn) (found : Option ℕ) → AtMostPrepares m.past (committed_unless m r writes t found).past
+unless_follows m r writes t (Some other) = inl refl
+unless_follows m r writes t None = inr (next_commit m.past t.id r writes t.reads, refl)
+
+if_follows : (m : Machine) (r : ParkedRequest) (writes : List Write) (t : Txn) (b : Bool)
+    → AtMostPrepares m.past (cond b (committed_unless m r writes t (conflict m.config.mode m.past m.txns.open t writes)) (with_ended m t.id)).past
+if_follows m r writes t true = unless_follows m r writes t (conflict m.config.mode m.past m.txns.open t writes)
+if_follows m r writes t false = inl refl
+
+in_follows : (m : Machine) (r : ParkedRequest) (writes : List Write) (found : Option Txn) → AtMostPrepares m.past (committed_in m r writes found).past
+in_follows m r writes None = inl refl
+in_follows m r writes (Some t) = if_follows m r writes t (is_read_write t.kind)
+
+committed_follows : (m : Machine) (r : ParkedRequest) (writes : List Write) (transaction : Option ℕ) → AtMostPrepares m.past (committed m r writes transaction).past
+committed_follows m r writes None = inr (next_commit m.past r.id r writes [], refl)
+committed_follows m r writes (Some id) = in_follows m r writes (txn_of id m.txns.open)
+
+read_follows : (m : Machine) (when : When) (q : Request) → AtMostPrepares m.past (read_in m when q).past
+read_follows m Released q = inl refl
+read_follows m (At time) q = inl refl
+read_follows m (In id) q = inl refl
+
+pub carried_follows : (m : Machine) (r : ParkedRequest) (q : Request) → AtMostPrepares m.past (carried_by m r q).past
+carried_follows m r (Commit database writes transaction) = committed_follows m r writes transaction
+carried_follows m r (GetDocument name mask when) = read_follows m when (GetDocument name mask when)
+carried_follows m r (BatchGetDocuments database names mask when) = read_follows m when (BatchGetDocuments database names mask when)
+carried_follows m r (RunQuery database query when) = read_follows m when (RunQuery database query when)
+carried_follows m r (BeginTransaction database options) = inl refl
+carried_follows m r (Rollback database transaction) = inl refl
+
+arrives_follows : (m : Machine) (r : ParkedRequest) (d : Decision) → AtMostPrepares m.past (arrives m r d).past
+arrives_follows m r (Decision.refused refusal) = inl refl
+arrives_follows m r (Decision.held id) = inl refl
+arrives_follows m r Decision.goes_on = carried_follows m r r.envelope.request
+
+drawn_follows : (m : Machine) (r : ParkedRequest) (d : Decision) (b : Bool)
+    → AtMostPrepares m.past (arrives (cond b (record m { numbers = record m.numbers { ids = m.numbers.ids + 1 } }) m) r d).past
+drawn_follows m r d true = arrives_follows (record m { numbers = record m.numbers { ids = m.numbers.ids + 1 } }) r d
+drawn_follows m r d false = arrives_follows m r d
+
+pub asked_follows : (m : Machine) (r : ParkedRequest) (refusal : Option Refusal) → AtMostPrepares m.past (asked_unless refusal m r).past
+asked_follows m r (Some refusal) = inl refl
+asked_follows m r None = drawn_follows m r (unless_full m (decision m r.envelope.request)) (draws r.envelope.request)
+
+tried_follows : (m : Machine) (place : ℕ) (r : ParkedRequest) (d : Decision) → AtMostPrepares m.past (tried m place r d).past
+tried_follows m place r (Decision.refused refusal) = inl refl
+tried_follows m place r (Decision.held id) = inl refl
+tried_follows m place r Decision.goes_on = carried_follows (unparked m place) r r.envelope.request
+
+pub retried_follows : (m : Machine) (place : ℕ) (found : Option ParkedRequest) → AtMostPrepares m.past (retried_if m place found).past
+retried_follows m place None = inl refl
+retried_follows m place (Some r) = tried_follows m place r (retry_decision m r.envelope.request)
+
+-- ---- numbers
+
+abbrev pub times_of : ℕ → Machine → ℕ
+times_of id m = times id m.past m.txns m.parked
+
+itself_next : (t u : Txn) (ts : List Txn) (of : ℕ) (b : Bool) → (t.id == of) ≡ b → cond b (Some t) (txn_of of ts) ≡ Some u → (txn_of of ts ≡ Some u → u.id ≡ of) → u.id ≡ of
+itself_next t u ts of true is found more = ap (λ (x : Txn). x.id) (sym (same_Some t u found)) ∙ eqb-true t.id of is
+itself_next t u ts of false is found more = more found
+
+pub number_open : (ts : List Txn) (of : ℕ) (u : Txn) → txn_of of ts ≡ Some u → u.id ≡ of
+number_open [] of u found = absurd (cc)
+number_open (t ∷ ts) of u found = itself_next t u ts of (t.id == of) refl found (number_open ts of u)
+
+itself_open : (ts : List Txn) (of : ℕ) (u : Txn) → txn_of of ts ≡ Some u → txn_of u.id ts ≡ Some u
+itself_open ts of u found = ap (λ n. txn_of n ts) (number_open ts of u found) ∙ found
+
+abbrev begun_one : Machine → ℕ → TransactionOptions → Txn
+begun_one m id o = record { id = id; kind = kind_of o; read_time = unwrap_or (time_asked o) m.past.released; begun = m.past.moment; used = m.past.moment; reads = [] }
+
+unless_times : (m : Machine) (r : ParkedRequest) (writes : List Write) (t : Txn) (id : ℕ) (found : Option ℕ) → txn_of t.id m.txns.open ≡ Some t → times_of id (committed_unless m r writes t found) ≤ times_of id m
+unless_times m r writes t id (Some other) is = let less = fewer_ended m.past m.txns m.parked t.id id in omega (arith, less)
+unless_times m r writes t id None is =
+    let less = open_ended id m.txns.open t.id t is in
+    let more = in_more id m.past.unreleased (next_commit m.past t.id r writes t.reads) in
+    omega (arith, less, more)
+
+if_times : (m : Machine) (r : ParkedRequest) (writes : List Write) (t : Txn) (id : ℕ) (b : Bool) → txn_of t.id m.txns.open ≡ Some t
+    → times_of id (cond b (committed_unless m r writes t (conflict m.config.mode m.past m.txns.open t writes)) (with_ended m t.id)) ≤ times_of id m
+if_times m r writes t id true is = unless_times m r writes t id (conflict m.config.mode m.past m.txns.open t writes) is
+if_times m r writes t id false is = fewer_ended m.past m.txns m.parked t.id id
+
+in_times : (m : Machine) (r : ParkedRequest) (writes : List Write) (of id : ℕ) (found : Option Txn) → txn_of of m.txns.open ≡ found → times_of id (committed_in m r writes found) ≤ times_of id m
+in_times m r writes of id None is = omega arith
+in_times m r writes of id (Some t) is = if_times m r writes t id (is_read_write t.kind) (itself_open m.txns.open of t is)
+
+noted_times : (id : ℕ) (p : Past) (ts : Transactions) (rs : List ParkedRequest) (of : ℕ) (reads : List Read) (now : ℤ) → times id p (all_noted ts of reads now) rs ≡ times id p ts rs
+noted_times id p ts rs of [] now = let same = open_changed id (λ t. record t { used = now }) ts.open of (λ t. refl) in omega (arith, same)
+noted_times id p ts rs of (r ∷ reads) now =
+    let same = open_changed id (λ t. record (with_read r t) { used = now }) ts.open of (λ t. (noted_keeps r now t).2) in
+    let rest = noted_times id p (noted ts of r now) rs of reads now in
+    omega (arith, same, rest)
+
+read_times : (m : Machine) (when : When) (q : Request) (id : ℕ) → times_of id (read_in m when q) ≡ times_of id m
+read_times m Released q id = refl
+read_times m (At time) q id = refl
+read_times m (In of) q id = noted_times id m.past m.txns m.parked of (shown_at m (In of) q) m.past.moment
+
+-- as many more as the request draws
+abbrev pub drawn_count : ℕ → ParkedRequest → Request → ℕ
+drawn_count id r q = more_by id r.id (draws q)
+
+pub carried_times : (m : Machine) (r : ParkedRequest) (q : Request) (id : ℕ) → times_of id (carried_by m r q) ≤ times_of id m + drawn_count id r q
+carried_times m r (Commit database writes None) id = let more = in_more id m.past.unreleased (next_commit m.past r.id r writes []) in omega (arith, more)
+carried_times m r (Commit database writes (Some of)) id = let less = in_times m r writes of id (txn_of of m.txns.open) refl in omega (arith, less)
+carried_times m r (GetDocument name mask when) id = let same = read_times m when (GetDocument name mask when) id in omega (arith, same)
+carried_times m r (BatchGetDocuments database names mask when) id = let same = read_times m when (BatchGetDocuments database names mask when) id in omega (arith, same)
+carried_times m r (RunQuery database query when) id = let same = read_times m when (RunQuery database query when) id in omega (arith, same)
+carried_times m r (BeginTransaction database options) id =
+    let more = open_more id (begun_one m r.id options) m.txns.open in omega (arith, more)
+carried_times m r (Rollback database transaction) id = let less = fewer_ended m.past m.txns m.parked transaction id in omega (arith, less)
+
+-- one that has to wait has drawn its number, if it is of no transaction
+held_read : (m : Machine) (r : ParkedRequest) (when : When) (q : Request) (id by : ℕ) → reader_behind m when q ≡ Some by → own_count id r (transaction_of when) ≡ 0
+held_read m r Released q id by is = absurd (cc)
+held_read m r (At time) q id by is = absurd (cc)
+held_read m r (In of) q id by is = refl
+
+held_count : (m : Machine) (r : ParkedRequest) (q : Request) (id by : ℕ) → held_by m q ≡ Some by → own_count id r (transaction_in q) ≡ drawn_count id r q
+held_count m r (Commit database writes None) id by is = refl
+held_count m r (Commit database writes (Some of)) id by is = refl
+held_count m r (GetDocument name mask when) id by is = held_read m r when (GetDocument name mask when) id by is
+held_count m r (BatchGetDocuments database names mask when) id by is = held_read m r when (BatchGetDocuments database names mask when) id by is
+held_count m r (RunQuery database query when) id by is = held_read m r when (RunQuery database query when) id by is
+held_count m r (BeginTransaction database options) id by is = absurd (cc)
+held_count m r (Rollback database transaction) id by is = absurd (cc)
+
+full_times : (m n : Machine) (r : ParkedRequest) (id by : ℕ) (full : Bool) → times_of id n ≡ times_of id m → own_count id r (transaction_in r.envelope.request) ≡ drawn_count id r r.envelope.request
+    → times_of id (arrives n r (cond full (Decision.refused (at_limit (codes "parked") m.limits.parked)) (Decision.held by))) ≤ times_of id m + drawn_count id r r.envelope.request
+full_times m n r id by true same count = omega (arith, same)
+full_times m n r id by false same count = let more = parked_more id n.parked r in omega (arith, same, count, more)
+
+behind_times : (m n : Machine) (r : ParkedRequest) (id : ℕ) (found : Option ℕ) → held_by m r.envelope.request ≡ found → times_of id n ≡ times_of id m
+    → times_of id (arrives n r (unless_full m (unless_held found))) ≤ times_of id m + drawn_count id r r.envelope.request
+behind_times m n r id None is same = let more = carried_times n r r.envelope.request id in omega (arith, same, more)
+behind_times m n r id (Some by) is same = full_times m n r id by (nat_le m.limits.parked (length m.parked)) same (held_count m r r.envelope.request id by is)
+
+check_times : (m n : Machine) (r : ParkedRequest) (id : ℕ) (refusal : Option Refusal) → times_of id n ≡ times_of id m
+    → times_of id (arrives n r (unless_full m (unless_refused refusal (unless_held (held_by m r.envelope.request))))) ≤ times_of id m + drawn_count id r r.envelope.request
+check_times m n r id (Some refusal) same = omega (arith, same)
+check_times m n r id None same = behind_times m n r id (held_by m r.envelope.request) refl same
+
+drawn_times : (m : Machine) (r : ParkedRequest) (id : ℕ) (b : Bool)
+    → times_of id (arrives (cond b (record m { numbers = record m.numbers { ids = m.numbers.ids + 1 } }) m) r (unless_full m (decision m r.envelope.request))) ≤ times_of id m + drawn_count id r r.envelope.request
+drawn_times m r id true = check_times m (record m { numbers = record m.numbers { ids = m.numbers.ids + 1 } }) r id (check_refusal m r.envelope.request) refl
+drawn_times m r id false = check_times m m r id (check_refusal m r.envelope.request) refl
+
+pub asked_times : (m : Machine) (r : ParkedRequest) (id : ℕ) (refusal : Option Refusal) → times_of id (asked_unless refusal m r) ≤ times_of id m + drawn_count id r r.envelope.request
+asked_times m r id (Some refusal) = omega arith
+asked_times m r id None = drawn_times m r id (draws r.envelope.request)
+
+-- one that is tried again keeps the number that it drew
+own_or_drawn : (id : ℕ) (r : ParkedRequest) (q : Request) → drawn_count id r q ≤ own_count id r (transaction_in q)
+own_or_drawn id r (Commit database writes None) = omega arith
+own_or_drawn id r (Commit database writes (Some of)) = omega arith
+own_or_drawn id r (GetDocument name mask when) = omega arith
+own_or_drawn id r (BatchGetDocuments database names mask when) = omega arith
+own_or_drawn id r (RunQuery database query when) = omega arith
+own_or_drawn id r (BeginTransaction database options) = omega arith
+own_or_drawn id r (Rollback database transaction) = omega arith
+
+tried_times : (m : Machine) (place : ℕ) (r : ParkedRequest) (id : ℕ) (d : Decision) → slice_get m.parked place ≡ Some r → times_of id (tried m place r d) ≤ times_of id m
+tried_times m place r id (Decision.refused refusal) is = let less = parked_less id m.parked place r is in omega (arith, less)
+tried_times m place r id (Decision.held by) is = omega arith
+tried_times m place r id Decision.goes_on is =
+    let less = parked_less id m.parked place r is in
+    let more = carried_times (unparked m place) r r.envelope.request id in
+    let own = own_or_drawn id r r.envelope.request in
+    omega (arith, less, more, own)
+
+pub retried_times : (m : Machine) (place : ℕ) (id : ℕ) (found : Option ParkedRequest) → slice_get m.parked place ≡ found → times_of id (retried_if m place found) ≤ times_of id m
+retried_times m place id None is = omega arith
+retried_times m place id (Some r) is = tried_times m place r id (retry_decision m r.envelope.request) is
+
+-- the number of one that draws is the next
+next_number : (ids : ℕ) (q : Request) → draws q ≡ true → number_of ids q ≡ ids + 1
+next_number ids (Commit database writes None) is = refl
+next_number ids (Commit database writes (Some of)) is = absurd (cc)
+next_number ids (GetDocument name mask when) is = absurd (cc)
+next_number ids (BatchGetDocuments database names mask when) is = absurd (cc)
+next_number ids (RunQuery database query when) is = absurd (cc)
+next_number ids (BeginTransaction database options) is = refl
+next_number ids (Rollback database transaction) is = absurd (cc)
+
+-- ---- the rest stays as it is
+
+unless_rest : (m : Machine) (r : ParkedRequest) (writes : List Write) (t : Txn) (found : Option ℕ)
+    → committed_unless m r writes t found ≡ record m { past = (committed_unless m r writes t found).past; txns = (committed_unless m r writes t found).txns }
+unless_rest m r writes t (Some other) = refl
+unless_rest m r writes t None = refl
+
+abbrev if_one : Machine → ParkedRequest → List Write → Txn → Bool → Machine
+if_one m r writes t b = cond b (committed_unless m r writes t (conflict m.config.mode m.past m.txns.open t writes)) (with_ended m t.id)
+
+if_rest : (m : Machine) (r : ParkedRequest) (writes : List Write) (t : Txn) (b : Bool) → if_one m r writes t b ≡ record m { past = (if_one m r writes t b).past; txns = (if_one m r writes t b).txns }
+if_rest m r writes t true = unless_rest m r writes t (conflict m.config.mode m.past m.txns.open t writes)
+if_rest m r writes t false = refl
+
+in_rest : (m : Machine) (r : ParkedRequest) (writes : List Write) (found : Option Txn) → committed_in m r writes found ≡ record m { past = (committed_in m r writes found).past; txns = (committed_in m r writes found).txns }
+in_rest m r writes None = refl
+in_rest m r writes (Some t) = if_rest m r writes t (is_read_write t.kind)
+
+read_rest : (m : Machine) (when : When) (q : Request) → read_in m when q ≡ record m { past = (read_in m when q).past; txns = (read_in m when q).txns }
+read_rest m Released q = refl
+read_rest m (At time) q = refl
+read_rest m (In of) q = refl
+
+pub carried_rest : (m : Machine) (r : ParkedRequest) (q : Request) → carried_by m r q ≡ record m { past = (carried_by m r q).past; txns = (carried_by m r q).txns }
+carried_rest m r (Commit database writes None) = refl
+carried_rest m r (Commit database writes (Some of)) = in_rest m r writes (txn_of of m.txns.open)
+carried_rest m r (GetDocument name mask when) = read_rest m when (GetDocument name mask when)
+carried_rest m r (BatchGetDocuments database names mask when) = read_rest m when (BatchGetDocuments database names mask when)
+carried_rest m r (RunQuery database query when) = read_rest m when (RunQuery database query when)
+carried_rest m r (BeginTransaction database options) = refl
+carried_rest m r (Rollback database transaction) = refl
+
+arrives_rest : (m : Machine) (r : ParkedRequest) (d : Decision) → arrives m r d ≡ record m { past = (arrives m r d).past; txns = (arrives m r d).txns; parked = (arrives m r d).parked }
+arrives_rest m r (Decision.refused refusal) = refl
+arrives_rest m r (Decision.held by) = refl
+arrives_rest m r Decision.goes_on =
+    carried_rest m r r.envelope.request
+    ∙ ap (λ rs. record m { past = (carried m r).past; txns = (carried m r).txns; parked = rs }) (sym (ap (λ (n : Machine). n.parked) (carried_rest m r r.envelope.request)))
+
+pub tried_rest : (m : Machine) (place : ℕ) (r : ParkedRequest) (d : Decision) → tried m place r d ≡ record m { past = (tried m place r d).past; txns = (tried m place r d).txns; parked = (tried m place r d).parked }
+tried_rest m place r (Decision.refused refusal) = refl
+tried_rest m place r (Decision.held by) = refl
+tried_rest m place r Decision.goes_on = let n = unparked m place in
+    carried_rest n r r.envelope.request
+    ∙ ap (λ rs. record m { past = (carried n r).past; txns = (carried n r).txns; parked = rs }) (sym (ap (λ (k : Machine). k.parked) (carried_rest n r r.envelope.request)))
+
+-- ---- numbers are drawn
+
+abbrev pub AreDrawn : Machine → Type 0
+AreDrawn m = IdsAreDrawn m.past m.txns m.parked m.numbers.ids
+
+drawn_so : (m : Machine) (r : ParkedRequest) (b : Bool) → draws r.envelope.request ≡ b → r.id ≡ number_of m.numbers.ids r.envelope.request → AreDrawn m
+    → AreDrawn (arrives (cond b (record m { numbers = record m.numbers { ids = m.numbers.ids + 1 } }) m) r (unless_full m (decision m r.envelope.request)))
+drawn_so m r true is number drawn =
+    let k = record m { numbers = record m.numbers { ids = m.numbers.ids + 1 } } in
+    let d = unless_full m (decision m r.envelope.request) in
+    let n = arrives k r d in
+    let own : r.id ≡ m.numbers.ids + 1 = number ∙ next_number m.numbers.ids r.envelope.request is in
+    let count : (id : ℕ) → drawn_count id r r.envelope.request ≡ counted id (m.numbers.ids + 1) = λ id. ap (more_by id r.id) is ∙ ap (counted id) own in
+    subst (IdsAreDrawn n.past n.txns n.parked) (sym (ap (λ (x : Machine). x.numbers.ids) (arrives_rest k r d)))
+    (ids_drawn m.past m.txns m.parked n.past n.txns n.parked m.numbers.ids true
+    (λ id. let less = check_times m k r id (check_refusal m r.envelope.request) refl in let same = count id in omega (arith, less, same)) drawn)
+drawn_so m r false is number drawn =
+    let d = unless_full m (decision m r.envelope.request) in
+    let n = arrives m r d in
+    let count : (id : ℕ) → drawn_count id r r.envelope.request ≡ 0 = λ id. ap (more_by id r.id) is in
+    subst (IdsAreDrawn n.past n.txns n.parked) (sym (ap (λ (x : Machine). x.numbers.ids) (arrives_rest m r d)))
+    (ids_drawn m.past m.txns m.parked n.past n.txns n.parked m.numbers.ids false
+    (λ id. let less = check_times m m r id (check_refusal m r.envelope.request) refl in let same = count id in omega (arith, less, same)) drawn)
+
+pub asked_drawn : (m : Machine) (r : ParkedRequest) (refusal : Option Refusal) → r.id ≡ number_of m.numbers.ids r.envelope.request → AreDrawn m → AreDrawn (asked_unless refusal m r)
+asked_drawn m r (Some refusal) number drawn = drawn
+asked_drawn m r None number drawn = drawn_so m r (draws r.envelope.request) refl number drawn
+
+pub retried_drawn : (m : Machine) (place : ℕ) (found : Option ParkedRequest) → slice_get m.parked place ≡ found → AreDrawn m → AreDrawn (retried_if m place found)
+retried_drawn m place None is drawn = drawn
+retried_drawn m place (Some r) is drawn =
+    let n = tried m place r (retry_decision m r.envelope.request) in
+    subst (IdsAreDrawn n.past n.txns n.parked) (sym (ap (λ (x : Machine). x.numbers.ids) (tried_rest m place r (retry_decision m r.envelope.request))))
+    (ids_fewer m.past m.txns m.parked n.past n.txns n.parked m.numbers.ids (λ id. retried_times m place id (Some r) is) drawn)
+
+-- what a request leaves alone
+pub record LeavesAlone (m n : Machine) : Type 0 where
+  pub config : n.config ≡ m.config
+  pub limits : n.limits ≡ m.limits
+  pub sessions : n.sessions ≡ m.sessions
+  pub given : n.numbers.sessions ≡ m.numbers.sessions
+
+alone_of : (m n k : Machine) (p : Past) (ts : Transactions) (rs : List ParkedRequest) → k ≡ record n { past = p; txns = ts; parked = rs } → LeavesAlone m n → LeavesAlone m k
+alone_of m n k p ts rs is alone = record {
+  config = ap (λ (x : Machine). x.config) is ∙ alone.config;
+  limits = ap (λ (x : Machine). x.limits) is ∙ alone.limits;
+  sessions = ap (λ (x : Machine). x.sessions) is ∙ alone.sessions;
+  given = ap (λ (x : Machine). x.numbers.sessions) is ∙ alone.given;
+}
+
+alone_drawn : (m : Machine) (r : ParkedRequest) (b : Bool) (d : Decision) → LeavesAlone m (arrives (cond b (record m { numbers = record m.numbers { ids = m.numbers.ids + 1 } }) m) r d)
+alone_drawn m r true d =
+    let k = record m { numbers = record m.numbers { ids = m.numbers.ids + 1 } } in
+    let n = arrives k r d in
+    alone_of m k n n.past n.txns n.parked (arrives_rest k r d) (record { config = refl; limits = refl; sessions = refl; given = refl })
+alone_drawn m r false d =
+    let n = arrives m r d in
+    alone_of m m n n.past n.txns n.parked (arrives_rest m r d) (record { config = refl; limits = refl; sessions = refl; given = refl })
+
+pub asked_alone : (m : Machine) (r : ParkedRequest) (refusal : Option Refusal) → LeavesAlone m (asked_unless refusal m r)
+asked_alone m r (Some refusal) = record { config = refl; limits = refl; sessions = refl; given = refl }
+asked_alone m r None = alone_drawn m r (draws r.envelope.request) (unless_full m (decision m r.envelope.request))
+
+pub retried_alone : (m : Machine) (place : ℕ) (found : Option ParkedRequest) → LeavesAlone m (retried_if m place found)
+retried_alone m place None = record { config = refl; limits = refl; sessions = refl; given = refl }
+retried_alone m place (Some r) =
+    let n = tried m place r (retry_decision m r.envelope.request) in
+    alone_of m m n n.past n.txns n.parked (tried_rest m place r (retry_decision m r.envelope.request)) (record { config = refl; limits = refl; sessions = refl; given = refl })
+
+-- ---- the last number that was drawn
+
+ids_on : (m : Machine) (r : ParkedRequest) (b : Bool) (d : Decision) → m.numbers.ids ≤ (arrives (cond b (record m { numbers = record m.numbers { ids = m.numbers.ids + 1 } }) m) r d).numbers.ids
+ids_on m r true d =
+    let same = ap (λ (x : Machine). x.numbers.ids) (arrives_rest (record m { numbers = record m.numbers { ids = m.numbers.ids + 1 } }) r d) in omega (arith, same)
+ids_on m r false d = let same = ap (λ (x : Machine). x.numbers.ids) (arrives_rest m r d) in omega (arith, same)
+
+pub asked_ids : (m : Machine) (r : ParkedRequest) (refusal : Option Refusal) → m.numbers.ids ≤ (asked_unless refusal m r).numbers.ids
+asked_ids m r (Some refusal) = omega arith
+asked_ids m r None = ids_on m r (draws r.envelope.request) (unless_full m (decision m r.envelope.request))
+
+pub retried_ids : (m : Machine) (place : ℕ) (found : Option ParkedRequest) → (retried_if m place found).numbers.ids ≡ m.numbers.ids
+retried_ids m place None = refl
+retried_ids m place (Some r) = ap (λ (x : Machine). x.numbers.ids) (tried_rest m place r (retry_decision m r.envelope.request))
+
+later_number : (id ids n : ℕ) → id ≤ ids → n ≡ ids + 1 → counted id n ≡ 0
+later_number id ids n within is = grind (arith, nat_tests)
+
+drawn_by : (m : Machine) (r : ParkedRequest) (id : ℕ) (b : Bool) → draws r.envelope.request ≡ b → r.id ≡ number_of m.numbers.ids r.envelope.request → id ≤ m.numbers.ids → more_by id r.id b ≡ 0
+drawn_by m r id true is own within = later_number id m.numbers.ids r.id within (own ∙ next_number m.numbers.ids r.envelope.request is)
+drawn_by m r id false is own within = refl
+
+-- what a request draws is later than all that were drawn
+pub drawn_later : (m : Machine) (r : ParkedRequest) (id : ℕ) → r.id ≡ number_of m.numbers.ids r.envelope.request → id ≤ m.numbers.ids → drawn_count id r r.envelope.request ≡ 0
+drawn_later m r id own within = drawn_by m r id (draws r.envelope.request) refl own within

@@ -1,0 +1,29 @@
+-- The number of a request: that of its transaction, or the one that it draws. Commits that are of no transaction draw one, and begins do.
+--
+--     3 was drawn last      a plain commit and a begin draw 4; a commit of transaction 2 has 2, and so has a read in it
+use Rattle.std.specs.Prelude.{ℕ, ◌+◌, Bool, true, false, is_none, Option, Some, None, unwrap_or, if◌then◌else◌}
+use Rattle.fs_rpc.specs.When.{transaction_of}
+use Rattle.fs_rpc.specs.declared.request.Request.{Request}
+use Rattle.fs_rpc.specs.declared.request.Request.TheVariants.{Commit, GetDocument, BatchGetDocuments, RunQuery, BeginTransaction, Rollback}
+
+-- the transaction that a request names
+abbrev pub transaction_in : Request → Option ℕ
+transaction_in (Commit database writes transaction) = transaction
+transaction_in (GetDocument name mask when) = transaction_of when
+transaction_in (BatchGetDocuments database names mask when) = transaction_of when
+transaction_in (RunQuery database query when) = transaction_of when
+transaction_in (BeginTransaction database options) = None
+transaction_in (Rollback database transaction) = Some transaction
+
+-- whether it draws a number
+abbrev pub draws : Request → Bool
+draws (Commit database writes transaction) = is_none transaction
+draws (GetDocument name mask when) = false
+draws (BatchGetDocuments database names mask when) = false
+draws (RunQuery database query when) = false
+draws (BeginTransaction database options) = true
+draws (Rollback database transaction) = false
+
+-- its number, where so many were drawn
+abbrev pub number_of : ℕ → Request → ℕ
+number_of ids r = unwrap_or (transaction_in r) (ids + 1)
