@@ -8,8 +8,8 @@ use Rattle.std.specs.Option.{option_map, option_map_or}
 use Rattle.std.specs.Ordering.{int_cmp, match_ordering}
 use Rattle.std.proofs.lemmas.Int.{ints}
 use Rattle.std.proofs.lemmas.Option.{same_Some}
-use Rattle.fs_board.specs.Board.{Commit, Posted, prepared, time_in, asked_in, asked_pending, pending_in, accepted_with, without}
-use Rattle.fs_board.specs.Held.{commit_at, entry_in, posted}
+use Rattle.fs_board.specs.Board.{Commit, Posted, prepared, time_in, asked_in, asked_pending, pending_in, accepted_with, without, commit_at, posted}
+use Rattle.fs_board.specs.Held.{entry_in}
 use Rattle.fs_board.specs.Rising.{RiseTo}
 use Rattle.fs_board.specs.declared.entry.Entry.{Entry}
 use Rattle.fs_board.proofs.Keys.{time_at_itself, time_not_at, time_after}

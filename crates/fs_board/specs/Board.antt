@@ -2,9 +2,10 @@
 --
 --     5 accepted, 6 pending, 7 accepted, last 8       5 can be released, and 7 waits for 6, since a reader of 7 has to see 6 too
 -- (v1 reference, "Commit": `commitTime`.)
-use Rattle.std.specs.Prelude.{◌≡◌, ℕ, ℤ, pos, ◌+ℤ◌, ◌-ℤ◌, Bool, false, not, ◌&&◌, ◌==◌, int_le, int_lt, is_none, List, [], ◌∷◌, ◌++◌, Option, Some, None, refl, if◌then◌else◌}
+use Rattle.std.specs.Prelude.{◌≡◌, ℕ, ℤ, pos, ◌+ℤ◌, ◌-ℤ◌, Bool, false, not, ◌&&◌, ◌==◌, int_le, int_lt, is_none, List, [], ◌∷◌, ◌++◌, map, Option, Some, None, refl, if◌then◌else◌}
 use Rattle.std.specs.Option.{option_map, option_map_or}
 use Rattle.std.specs.Coded.{Coded, code_by, coded×, coded_ℕ, coded_ℤ, coded_list, coded_option}
+use Rattle.fs_board.specs.declared.entry.Entry.{Entry}
 
 pub record Commit (A B : Type 0) : Type 0 where
   pub time : ℤ
@@ -38,6 +39,13 @@ module _ {A B : Type 0} where
 
   abbrev pub is_pending : Commit A B → Bool
   is_pending c = is_none c.batch
+
+  -- the commits of these entries by times
+  abbrev pub commit_at : ℤ × Entry A B → Commit A B
+  commit_at e = record { time = e.0; id = e.1.id; asked = e.1.asked; batch = e.1.batch }
+
+  abbrev pub posted : List (ℤ × Entry A B) → List (Commit A B)
+  posted es = map commit_at es
 
   -- ---- by its id
 

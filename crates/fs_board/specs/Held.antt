@@ -1,5 +1,5 @@
 -- Only the model of a board and private clauses cite this: what it is made of.
-use Rattle.std.specs.Prelude.{◌≡◌, ℕ, ℤ, ◌<ℤ◌, ◌==◌, List, [], ◌∷◌, map, Option, Some, None, if◌then◌else◌}
+use Rattle.std.specs.Prelude.{◌≡◌, ℕ, ℤ, ◌<ℤ◌, ◌==◌, List, [], ◌∷◌, Option, Some, None, if◌then◌else◌}
 use Rattle.std.specs.BTreeMap.{is_at}
 use Rattle.std.specs.List.{AllByRecursion}
 use Rattle.std.specs.Map.{lookup}
@@ -10,13 +10,6 @@ use Rattle.fs_board.specs.Board.{Commit, is_pending, time_in}
 use Rattle.fs_board.specs.Rising.{RiseTo, Differ}
 
 module _ {A B : Type 0} where
-  -- what stands at a time
-  abbrev pub commit_at : ℤ × Entry A B → Commit A B
-  commit_at e = record { time = e.0; id = e.1.id; asked = e.1.asked; batch = e.1.batch }
-
-  abbrev pub posted : List (ℤ × Entry A B) → List (Commit A B)
-  posted es = map commit_at es
-
   -- what stands at the commit of an id
   abbrev pub entry_in : ℕ → List (Commit A B) → Option (Entry A B)
   entry_in id [] = None

@@ -5,6 +5,7 @@ use fs_status::Id;
 use fs_time::Micros;
 use std::alloc::{AllocError, Global};
 use std::collections::BTreeMap;
+use std::collections::btree_map::Iter;
 use std::marker::Model;
 
 /// The commits that have a time and aren't released, each pending or accepted, with what each has from the beginning, `A`, and
@@ -29,13 +30,13 @@ pub struct Board<A, B> {
 }
 
 impl<A, B> Model for Board<A, B> {
-    ghost use Rattle.fs_board.specs.Board.{Posted, posted_code};
+    ghost use Rattle.fs_board.specs.Board.{Posted, posted_code, posted};
 
     ghost Value = { Posted A B };
 
     ghost coded = { posted_code A.code B.code };
 
-    ghost use Rattle.fs_board.specs.Held.{posted, IsKept};
+    ghost use Rattle.fs_board.specs.Held.{IsKept};
 
     ghost view = { λ b. record { commits = posted b.by_time.entries; last = b.last } };
 
@@ -47,7 +48,7 @@ impl<A: Drop, B: Drop> Board<A, B> {
     ghost use Rattle.std.specs.List.{All};
     ghost use Rattle.std.specs.Option.{option_copied, option_map};
     ghost use Rattle.fs_time.specs.Moment.{last_moment};
-    ghost use Rattle.fs_board.specs.Board.{Posted, HasNo, asked_in, free_to, is_pending, is_ready, next_pending_in, pending_in, asked_pending, time_in, prepared, accepted_with, without, ticked, ready, rest_of, all_ready, only_ready};
+    ghost use Rattle.fs_board.specs.Board.{Posted, HasNo, asked_in, free_to, is_pending, is_ready, next_pending_in, pending_in, asked_pending, time_in, prepared, accepted_with, without, ticked, ready, rest_of, all_ready, only_ready, posted};
     ghost use Rattle.fs_board.specs.Rising.{IsRising};
     ghost use Rattle.fs_board.specs.Held.{entry_in, first_pending_in};
 
@@ -144,6 +145,13 @@ impl<A: Drop, B: Drop> Board<A, B> {
         ensures { IsTrue result ↔ (self.now.commits ≡ []) }
     {
         self.by_time.is_empty()
+    }
+
+    /// The commits, pending and accepted, by rising time. It takes no memory.
+    pub fn commits(&self) -> Iter<'_, Micros, Entry<A, B>>
+        ensures { posted result ≡ self.now.commits }
+    {
+        self.by_time.iter()
     }
 
     /// What the accepted commits have and bring before which none is pending, by rising time: what `take_ready` would hand out,

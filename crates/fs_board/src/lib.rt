@@ -6,4 +6,5 @@ mod entry;
 mod error;
 
 pub use board::Board;
+pub use entry::Entry;
 pub use error::BoardError;

@@ -29,11 +29,12 @@ use Rattle.fs_machine.specs.declared.answer.Outcome.{Outcome}
 use Rattle.fs_machine.specs.declared.answer.Outcome.TheVariants as outcome
 use Rattle.fs_machine.specs.declared.unreleased.Unreleased.{Unreleased}
 use Rattle.fs_machine.specs.Behind.{behind}
-use Rattle.fs_machine.specs.Commit.{next_time, past_prepared}
+use Rattle.fs_machine.specs.Commit.{past_prepared}
 use Rattle.fs_machine.specs.Facts.{PastFacts}
 use Rattle.fs_machine.specs.IdsAreDrawn.{times_in}
 use Rattle.fs_machine.specs.Past.{Past, batches}
 use Rattle.fs_machine.specs.ReadsHold.{MayRead}
+use Rattle.fs_machine.specs.Refusing.{next_time}
 use Rattle.fs_machine.specs.Release.{free_to, let_out, past_released}
 use Rattle.fs_machine.specs.Settle.{ComesTo, IsOutcomeOf, IsOutcomeOfPending, IsOutcomeOn, accepted_in, docs_for, dropped_from, pending_of}
 use Rattle.fs_machine.proofs.Behind.{free_behind_none}

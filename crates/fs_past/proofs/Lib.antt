@@ -5,4 +5,5 @@ mod Naming
 mod OnBoard
 mod Releasing
 mod Rooms
-mod Waiting
+pub mod LeastNumber
+pub mod Waiting

@@ -21,14 +21,19 @@ use Rattle.fs_past.proofs.OnBoard.{Posted1, count_by}
 not_among : (ns : List ℕ) (by j : ℕ) → is_one ns by ≡ false → IsTrue (is_one ns j) → j ≢ by
 not_among ns by j none is same = let here = ap (is_one ns) same in absurd (cc)
 
-one_least : (ns : List ℕ) (by : ℕ) (told found : Option ℕ) → is_one ns by ≡ false → IsLeastOther (λ i. IsTrue (is_one ns i)) by told → IsLeastIn ns found → told ≡ found
-one_least ns by None None none is least = refl
-one_least ns by None (Some m) none is least = absurd (not_among ns by m none least.0 (is m least.0))
-one_least ns by (Some x) None none is least = let nothing : is_one ns x ≡ false = ap (λ ks. is_one ks x) least in let some = is.has in absurd (cc)
-one_least ns by (Some x) (Some m) none is least =
-    let far = is.least m least.0 (not_among ns by m none least.0) in
-    let near = above ns m x least.1 is.has in
-    let same : x ≡ m = omega arith in ap Some same
+-- the least other than one of those that have a property is the least of some numbers, where these are the others that have it
+module _ (P : ℕ → Type 0) (by : ℕ) (ns : List ℕ) (from : (j : ℕ) → IsTrue (is_one ns j) → P j) (other : (j : ℕ) → IsTrue (is_one ns j) → j ≢ by) (to : (j : ℕ) → P j → j ≢ by → IsTrue (is_one ns j)) where
+  least_by : (told found : Option ℕ) → IsLeastOther P by told → IsLeastIn ns found → told ≡ found
+  least_by None None is least = refl
+  least_by None (Some m) is least = absurd (other m least.0 (is m (from m least.0)))
+  least_by (Some x) None is least = let nothing : is_one ns x ≡ false = ap (λ ks. is_one ks x) least in let some = to x is.has is.other in absurd (cc)
+  least_by (Some x) (Some m) is least =
+      let far = is.least m (from m least.0) (other m least.0) in
+      let near = above ns m x least.1 (to x is.has is.other) in
+      let same : x ≡ m = omega arith in ap Some same
+
+  pub least_other : (told : Option ℕ) → IsLeastOther P by told → told ≡ least ns
+  least_other told is = least_by told (least ns) is (least_in ns)
 
 -- ---- who writes a name that these writes write
 
@@ -54,7 +59,7 @@ who_writes [] ws i = none_at_all ws
 who_writes (u ∷ us) ws i =
     and_any (u.batch.id == i) (λ w. is_written (written_name w) u.batch.writes) (λ w. writes_in i (written_name w) us) ws
     ∙ ap (λ b. (u.batch.id == i && write_same ws u.batch.writes) || b) (who_writes us ws i)
-    ∙ one_next u us ws i (write_same ws u.batch.writes)
+    ∙ one_next (λ v. v.batch.id) (λ v. write_same ws v.batch.writes) u us i (write_same ws u.batch.writes)
 
 -- one that has no number of theirs isn't among them
 new_next : (u : Unreleased) (us : List Unreleased) (ws : List Write) (by : ℕ) (b : Bool) → (u.batch.id == by) ≡ false → is_one (writing_same us ws) by ≡ false
@@ -84,6 +89,6 @@ module _ (docs : Docs) (cs : List Posted1) (stand : AllByRecursion (Stands docs)
   pub behind_written : (by : ℕ) (told : Option ℕ) → times_in by (batches (all_unreleased cs)) ≡ 0
       → IsLeastOther (λ i. IsTrue (list_any (λ w. writes_name i (written_name w) cs) ws)) by told → told ≡ least (writing_same (all_unreleased cs) ws)
   behind_written by told none is =
-      one_least (writing_same (all_unreleased cs) ws) by told (least (writing_same (all_unreleased cs) ws)) (new_number (all_unreleased cs) ws by none)
+      let ns = writing_same (all_unreleased cs) ws in
+      least_other (λ i. IsTrue (is_one ns i)) by ns (λ j one. one) (λ j one. not_among ns by j (new_number (all_unreleased cs) ws by none) one) (λ j one apart. one) told
       (subst (λ (p : ℕ → Bool). IsLeastOther (λ i. IsTrue (p i)) by told) (λ k i. who_waits i k) is)
-      (least_in (writing_same (all_unreleased cs) ws))

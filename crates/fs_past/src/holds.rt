@@ -137,8 +137,8 @@ impl Holds {
     }
 }
 
-// The names that writes write.
-fn names_of(alloc: Global, writes: &[Write]) -> Result<Names, AllocError>
+/// The names that writes write, in their order.
+pub fn names_of(alloc: Global, writes: &[Write]) -> Result<Names, AllocError>
     ensures { IfOk result (λ ns. ns ≡ map written_name writes.now) }
 {
     let mut names = Names::new(alloc);

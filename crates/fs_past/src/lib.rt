@@ -11,6 +11,8 @@ mod outcome;
 mod past;
 mod release;
 mod replies;
+mod touching;
 
 pub use fs_store::Version;
+pub use holds::names_of;
 pub use past::Past;

@@ -1,5 +1,7 @@
 //! The past of a database.
+ghost use Rattle.std.specs.Prelude.{◌≡◌, ◌≤ℤ◌};
 ghost use Rattle.fs_board.specs.Rising.{Differ};
+ghost use Rattle.fs_txn.specs.Reading.{earlier as earlier_of};
 
 use crate::accepted::Accepted;
 use crate::answer::answer_at;
@@ -8,8 +10,10 @@ use crate::holds::Holds;
 use crate::outcome::outcome_among;
 use crate::release::{bring, let_in, make_room, one_ready};
 use crate::replies::replies_ready;
+use crate::touching::{first_in_journal, first_on_board};
 use fs_board::Board;
-use fs_history::{Journal, histories_are_lawful};
+use fs_history::{Journal, Reads, histories_are_lawful};
+use fs_locks::lesser;
 use fs_machine::{Outcome, Reply, Unreleased};
 use fs_path::DocName;
 use fs_query::Query;
@@ -64,6 +68,17 @@ fn ids_differ(board: &Board<Unreleased, Accepted>)
     let _ = board.last();
 }
 
+// The earlier of two times, or the one that is there.
+fn earlier(other: Option<Micros>, time: Micros) -> Micros
+    ensures value { result ≡ earlier_of other time }
+    ensures within { result ≤ℤ time }
+{
+    match other {
+        Some(other) if other < time => other,
+        _ => time,
+    }
+}
+
 impl Past {
     ghost use Rattle.std.specs.Prelude.{◌≡◌, ◌↔◌, ℤ, ◌≤◌, ◌≤ℤ◌, ◌+◌, ◌-◌, ◌^◌, min, List, [], None, IsTrue, IsNone, IsSome, IfOk, IfSome, OnOk, OnErr, is_some, map};
     ghost use Rattle.std.specs.FinMap.{get, values};
@@ -73,15 +88,17 @@ impl Past {
     ghost use Rattle.fs_history.specs.Versions.{chain as chain_from};
     ghost use Rattle.fs_query.specs.AnswerTo.{answer_to};
     ghost use Rattle.fs_time.specs.Moment.{IsMoment};
-    ghost use Rattle.fs_machine.specs.Behind.{behind};
-    ghost use Rattle.fs_machine.specs.Commit.{journal_count as counted_in, journal_size as size_of, next_time as time_after, past_prepared};
+    ghost use Rattle.fs_machine.specs.Behind.{behind, least};
+    ghost use Rattle.fs_machine.specs.Commit.{past_prepared};
     ghost use Rattle.fs_machine.specs.Compact.{floor_after, past_compacted};
+    ghost use Rattle.fs_machine.specs.Conflict.{touching, touching_since};
     ghost use Rattle.fs_machine.specs.Facts.{PastFacts};
     ghost use Rattle.fs_machine.specs.IdsAreDrawn.{times_in};
     ghost use Rattle.fs_machine.specs.Limits.{greatest};
     ghost use Rattle.fs_machine.specs.Past.{batches, past_from};
     ghost use Rattle.fs_machine.specs.Pending.{next_pending as next_in};
     ghost use Rattle.fs_machine.specs.ReadsHold.{MayRead};
+    ghost use Rattle.fs_machine.specs.Refusing.{journal_count as counted_in, journal_size as size_of, next_time as time_after};
     ghost use Rattle.fs_machine.specs.Release.{let_out, past_released, reply_of};
     ghost use Rattle.fs_machine.specs.Settle.{ComesTo, accepted_in, dropped_from, pending_of};
     ghost use Rattle.fs_machine.specs.Tick.{past_advanced};
@@ -123,6 +140,13 @@ impl Past {
         ensures facts { PastFacts self.now }
     {
         self.store.floor()
+    }
+
+    /// The moment of the last tick.
+    pub fn moment(&self) -> Micros
+        ensures { result ≡ self.now.moment }
+    {
+        self.moment
     }
 
     /// How many commits there are.
@@ -182,6 +206,25 @@ impl Past {
         }
         ids_differ(&self.board);
         self.holds.first_behind(&self.board, writes, by)
+    }
+
+    /// Whom reads in a transaction wait for where they are held: the least number of a commit that isn't released and writes what one of
+    /// them goes over. It takes no memory, and goes over all that aren't released.
+    pub fn read_behind(&self, reads: &Reads) -> Option<Id>
+        ensures { result ≡ least (touching self.now.unreleased reads.now) }
+    {
+        first_on_board(&self.board, self.released(), reads)
+    }
+
+    /// The least number of a commit later than a time, released or not, that writes what one of these reads goes over. It takes no memory,
+    /// and goes over those that are later.
+    pub fn touching_since(&self, time: Micros, reads: &Reads) -> Option<Id>
+        ensures { result ≡ least (touching_since time self.now reads.now) }
+    {
+        lesser(
+            first_on_board(&self.board, time, reads),
+            first_in_journal(&self.journal, time, reads),
+        )
     }
 
     /// Makes whom a commit waits for a search for each of its names. It changes nothing that can be told, and is of use where more
@@ -307,12 +350,13 @@ impl Past {
         replies_ready(alloc, &self.board)
     }
 
-    /// The floor rises to a time, as far as that is released. It takes no memory, and tells the floor.
-    pub fn compact(&mut self, to: Micros) -> Micros
-        ensures state { self.new ≡ past_compacted self.old to }
+    /// The floor rises to a time, as far as that is released and `first`, the least time at which an open transaction reads. It takes no
+    /// memory, and tells the floor.
+    pub fn compact(&mut self, to: Micros, first: Option<Micros>) -> Micros
+        ensures state { self.new ≡ past_compacted self.old first to }
         ensures floor { result ≡ self.new.floor }
     {
-        let floor = self.floor_after(to);
+        let floor = self.floor_after(to, first);
         self.store.compact(floor);
         floor
     }
@@ -344,14 +388,14 @@ impl Past {
     }
 
     // Where the floor is to rise to.
-    fn floor_after(&self, to: Micros) -> Micros
-        ensures value { result ≡ floor_after self.now to }
+    fn floor_after(&self, to: Micros, first: Option<Micros>) -> Micros
+        ensures value { result ≡ floor_after self.now first to }
         ensures from { self.now.floor ≤ℤ result }
         ensures within { result ≤ℤ self.now.released }
     {
         let released = self.released();
         let floor = self.floor();
-        let top = if to < released { to } else { released };
+        let top = earlier(first, if to < released { to } else { released });
         if floor < top { top } else { floor }
     }
 }

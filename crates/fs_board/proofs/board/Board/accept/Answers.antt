@@ -4,8 +4,8 @@ use Rattle.std.specs.BTreeMap.{is_at}
 use Rattle.std.specs.Map.{lookup, set_value}
 use Rattle.std.specs.Option.{option_copied_mut}
 use Rattle.std.specs.Ordering.{int_cmp}
-use Rattle.fs_board.specs.Board.{Posted, time_in, accepted_with}
-use Rattle.fs_board.specs.Held.{posted, IsKept}
+use Rattle.fs_board.specs.Board.{Posted, time_in, accepted_with, posted}
+use Rattle.fs_board.specs.Held.{IsKept}
 use Rattle.fs_board.specs.declared.entry.Entry.{Entry}
 use Rattle.fs_board.proofs.Places.{has_time, found_there, accepted_there}
 use Rattle.fs_board.proofs.Keeping.{kept_accepted}

@@ -1,6 +1,5 @@
 use Rattle.std.proofs.Common.{◌≡◌, ◌++◌, map}
-use Rattle.fs_board.specs.Board.{all_ready}
-use Rattle.fs_board.specs.Held.{posted}
+use Rattle.fs_board.specs.Board.{posted, all_ready}
 use Rattle.fs_board.proofs.board.Board.all_ready.Given as goal
 
 -- what the commits so far have and bring, and then what is ready of those that are left, is the whole

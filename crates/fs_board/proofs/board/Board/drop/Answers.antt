@@ -1,7 +1,7 @@
 use Rattle.std.proofs.Common.{◌≡◌, true, sym, ap, ◌∙◌, subst}
 use Rattle.std.specs.Prelude.{is_some}
-use Rattle.fs_board.specs.Board.{Posted, asked_in, pending_in, without}
-use Rattle.fs_board.specs.Held.{posted, IsKept}
+use Rattle.fs_board.specs.Board.{Posted, asked_in, pending_in, without, posted}
+use Rattle.fs_board.specs.Held.{IsKept}
 use Rattle.fs_board.proofs.Places.{asked_there, has_time, dropped_there, found_there}
 use Rattle.fs_board.proofs.Keeping.{kept_without}
 use Rattle.fs_board.proofs.board.Board.drop.Goals as goal

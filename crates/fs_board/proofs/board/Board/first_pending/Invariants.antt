@@ -1,5 +1,6 @@
 use Rattle.std.proofs.Common.{◌≡◌}
-use Rattle.fs_board.specs.Held.{posted, first_pending_in}
+use Rattle.fs_board.specs.Board.{posted}
+use Rattle.fs_board.specs.Held.{first_pending_in}
 use Rattle.fs_board.proofs.board.Board.first_pending.Given as goal
 
 -- none is pending before those that are left

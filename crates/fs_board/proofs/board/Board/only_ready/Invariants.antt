@@ -1,7 +1,6 @@
 use Rattle.std.proofs.Common.{◌≡◌, List, [], ◌∷◌, ◌++◌, Option, Some, None}
 use Rattle.std.specs.Option.{option_map}
-use Rattle.fs_board.specs.Board.{all_ready}
-use Rattle.fs_board.specs.Held.{posted}
+use Rattle.fs_board.specs.Board.{posted, all_ready}
 use Rattle.fs_board.proofs.board.Board.only_ready.Given as goal
 
 -- as a list, what was found

@@ -2,8 +2,8 @@ use Rattle.std.proofs.Common.{rules, ◌≡◌, ◌<ℤ◌, ◌≤ℤ◌, ℤ, p
 use Rattle.std.proofs.lemmas.Int.{ints}
 use Rattle.fs_time.proofs.Moments.{moment_range}
 use Rattle.fs_time.specs.Moment.{first_moment, IsMoment}
-use Rattle.fs_board.specs.Board.{Posted, time_in, prepared}
-use Rattle.fs_board.specs.Held.{posted, IsKept}
+use Rattle.fs_board.specs.Board.{Posted, time_in, prepared, posted}
+use Rattle.fs_board.specs.Held.{IsKept}
 use Rattle.fs_board.specs.declared.entry.Entry.{Entry}
 use Rattle.fs_board.proofs.Places.{put_behind, prepared_there}
 use Rattle.fs_board.proofs.Keeping.{kept_prepared, kept_back}

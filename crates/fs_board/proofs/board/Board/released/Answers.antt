@@ -4,7 +4,8 @@ use Rattle.std.specs.List.{All}
 use Rattle.std.proofs.lemmas.Int.{ints}
 use Rattle.fs_time.specs.Moment.{first_moment, IsMoment}
 use Rattle.fs_board.specs.Board.{Commit, Posted, is_pending}
-use Rattle.fs_board.specs.Held.{posted, first_pending_in}
+use Rattle.fs_board.specs.Board.{posted}
+use Rattle.fs_board.specs.Held.{first_pending_in}
 use Rattle.fs_board.specs.Rising.{RiseTo}
 use Rattle.fs_board.proofs.Releasing.{before, free_before, free_within, free_above, among}
 use Rattle.fs_board.proofs.board.Board.released.Goals as goal

@@ -1,8 +1,7 @@
 use Rattle.std.proofs.Common.{◌≡◌, List, [], ◌∷◌, Option, Some, None, refl, ap, ◌∙◌}
 use Rattle.std.specs.Prelude.{ℤ, is_some, slice_get}
 use Rattle.std.specs.Option.{option_map}
-use Rattle.fs_board.specs.Board.{Posted, ready}
-use Rattle.fs_board.specs.Held.{posted}
+use Rattle.fs_board.specs.Board.{posted, Posted, ready}
 use Rattle.fs_board.specs.declared.entry.Entry.{Entry}
 use Rattle.fs_board.proofs.board.Board.starts_accepted.Goals as goal
 

@@ -1,8 +1,8 @@
 use Rattle.std.proofs.Common.{◌≡◌, ◌≤ℤ◌, ◌∷◌, false, sym, ap, subst}
 use Rattle.std.specs.Prelude.{is_none, IfSome}
 use Rattle.std.specs.List.{All}
-use Rattle.fs_board.specs.Board.{Posted, free_to, is_ready}
-use Rattle.fs_board.specs.Held.{commit_at, posted, IsKept}
+use Rattle.fs_board.specs.Board.{Posted, free_to, is_ready, commit_at, posted}
+use Rattle.fs_board.specs.Held.{IsKept}
 use Rattle.fs_board.specs.Rising.{RiseTo}
 use Rattle.fs_board.proofs.Keeping.{kept_behind}
 use Rattle.fs_board.proofs.Releasing.{ready_within, one_ready}

@@ -1,7 +1,7 @@
+use Rattle.fs_board.specs.Board.{posted}
 use Rattle.std.proofs.Common.{◌≡◌, ◌≤ℤ◌, ℤ, true, arith}
 use Rattle.std.specs.Ordering.{is_lt, int_cmp}
 use Rattle.std.proofs.lemmas.Int.{ints}
-use Rattle.fs_board.specs.Held.{posted}
 use Rattle.fs_board.proofs.Keeping.{kept_higher}
 use Rattle.fs_board.proofs.board.Board.tick.Goals as goal
 
