@@ -56,7 +56,8 @@ pub(crate) fn read(rt: &impl Abort, alloc: Global, text: &str) -> Read {
     }
 }
 
-fn reads(rt: &impl Abort, alloc: Global, text: &str) -> Reads {
+// Several with a comma between each two.
+pub(crate) fn reads(rt: &impl Abort, alloc: Global, text: &str) -> Reads {
     let mut reads = Reads::new(alloc);
     for one in text.split(", ") {
         if !one.is_empty() {

@@ -1,8 +1,8 @@
 //! Open transactions, by tables. A call stands before each arrow, and behind it what the call gives. Moments are microseconds.
-use crate::history::read;
+use crate::history::{read, reads};
 use crate::short::{cut, moment, name_of, number, push_moment};
 use crate::table::{Says, holds};
-use fs_history::{Read, shown_size};
+use fs_history::{Read, Reads, all_shown, shown_size};
 use fs_path::Names;
 use fs_status::Id;
 use fs_time::Micros;
@@ -87,6 +87,31 @@ end 3 => 2
 held 9 c/x => none
 bytes => 0
 len => 0";
+
+/// Several reads are noted one after another. Where there are none, the transaction is used all the same.
+const SEVERAL: &str = "begin 1 rw 5 0 =>
+begin 2 ro 5 0 =>
+several 1 50000000 c/a=1, c/b=-, ?d d/x =>
+bytes => 124
+reads 1 => 3
+held 2 c/a => 1
+held 2 c/b => 1
+held 2 d/y => 1
+held 2 c/c => none
+several 2 50000000 c/a=1, c/b=-, ?d d/x =>
+bytes => 124
+reads 2 => none
+held 1 c/a => none
+tick 60000000 =>
+len => 2
+several 1 60000000 =>
+reads 1 => 3
+tick 110000000 =>
+find 2 => 50000000 110000000
+find 1 => open
+end 1 => 3
+held 2 c/a => none
+bytes => 0";
 
 /// However often it is used, a transaction ends 270 seconds after its begin.
 const LONGEST: &str = "begin 1 ro 9 0 =>
@@ -184,6 +209,14 @@ fn note(rt: &impl Abort, alloc: Global, txns: &mut Txns, id: Id, r: Read, now: M
     txns.note_read(alloc, id, r, now).expect(rt, "memory");
 }
 
+fn note_all(rt: &impl Abort, alloc: Global, txns: &mut Txns, id: Id, reads: Reads, now: Micros) {
+    let is_open = txns.find(id).is_ok();
+    assert!(rt; is_open);
+    let bytes = txns.bytes().saturating_add(all_shown(&reads));
+    assert!(rt; bytes < 1_000_000);
+    txns.note_reads(alloc, id, reads, now).expect(rt, "memory");
+}
+
 fn use_open(rt: &impl Abort, txns: &mut Txns, id: Id, now: Micros) {
     let is_open = txns.find(id).is_ok();
     assert!(rt; is_open);
@@ -215,6 +248,10 @@ fn change(rt: &impl Abort, alloc: Global, txns: &mut Txns, call: &str, rest: &st
         "read" => {
             let r = read(rt, alloc, third);
             note(rt, alloc, txns, id(rt, first), r, moment(rt, second));
+        }
+        "several" => {
+            let reads = reads(rt, alloc, third);
+            note_all(rt, alloc, txns, id(rt, first), reads, moment(rt, second));
         }
         "use" => use_open(rt, txns, id(rt, first), moment(rt, second)),
         _ => txns.expire(moment(rt, first)),
@@ -252,7 +289,7 @@ impl Says for Txns {
         let (call, rest) = cut(asked, " ");
         let mut told = String::new(alloc);
         match call {
-            "begin" | "read" | "use" | "tick" => change(rt, alloc, self, call, rest),
+            "begin" | "read" | "several" | "use" | "tick" => change(rt, alloc, self, call, rest),
             _ => ask(rt, alloc, self, call, rest, &mut told).expect(rt, "memory"),
         }
         wanted.strip_prefix(" ").unwrap_or(wanted) == told.as_str()
@@ -270,6 +307,12 @@ fn transactions_expire_at_the_moment_and_not_before(rt: HostRuntime) {
 fn what_a_transaction_has_read_is_touched_by_writes(rt: HostRuntime) {
     let alloc = rt.alloc();
     holds(&rt, alloc, &mut Txns::new(alloc), READS, 35);
+}
+
+#[test]
+fn several_reads_are_noted_behind_the_others(rt: HostRuntime) {
+    let alloc = rt.alloc();
+    holds(&rt, alloc, &mut Txns::new(alloc), SEVERAL, 23);
 }
 
 // Begins transactions from one id to another, at 0.

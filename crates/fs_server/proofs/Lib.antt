@@ -1,5 +1,11 @@
-mod Numbers
 mod Places
-mod Retrying
 mod Settling
+mod Noted
+mod Within
+mod Fresh
+mod Readers
+mod Preparing
+mod Beside
+mod Asking
+mod Retrying
 mod Refusing

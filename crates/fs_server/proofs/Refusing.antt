@@ -1,37 +1,50 @@
 -- No definition of an answer is the refusal for want of memory.
-use Rattle.std.proofs.Common.{◌≡◌, ℕ, ℤ, Bool, true, false, cond, List, [], Option, Some, None, option_map, Ok, Err, ap, length, pos}
-use Rattle.std.specs.Prelude.{codes, nat_le, nat_lt, int_lt, ◌+◌}
+use Rattle.std.proofs.Common.{◌≡◌, ℕ, ℤ, Bool, true, false, cond, List, [], ◌∷◌, Option, Some, None, option_map, Ok, Err, ap, length, pos}
+use Rattle.std.specs.Prelude.{codes, nat_le, nat_lt, int_lt, slice_get, sum_by, ◌+◌}
 use Rattle.std.specs.FinMap.{get}
-use Rattle.fs_path.specs.declared.field.FieldPath.{FieldPath}
-use Rattle.fs_rpc.specs.declared.request.Request.{Request}
-use Rattle.fs_rpc.specs.declared.request.Request.TheVariants as request
-use Rattle.fs_status.specs.Refusal.{at_limit, refusal_of}
-use Rattle.fs_status.specs.declared.reason.Reason.{Reason}
-use Rattle.fs_status.specs.declared.reason.Reason.TheVariants.{AtLimit, Memory, NoDocument, TooOld, TooNew}
-use Rattle.fs_status.specs.declared.refusal.Refusal.{Refusal}
-use Rattle.fs_value.specs.declared.document.Document.{Document}
-use Rattle.fs_write.specs.declared.write.Write.{Write}
-use Rattle.fs_history.specs.Bytes.{commit_size}
+use Rattle.fs_history.specs.Bytes.{commit_size, shown_size}
 use Rattle.fs_history.specs.History.{at}
-use Rattle.fs_rpc.specs.declared.request.Envelope.{Envelope}
-use Rattle.fs_machine.specs.declared.answer.Answer.{Answer}
-use Rattle.fs_machine.specs.declared.answer.Answer.TheVariants.{Reply, Refused}
-use Rattle.fs_machine.specs.Behind.{behind}
-use Rattle.fs_machine.specs.Commit.{Decision, answer_after_limits, arrived, carried_answer, commit_refusal, decision_behind, journal_count, journal_size, next_time, outbox_is_full, outbox_refusal, passed, room_refusal, time_limit_refusal}
-use Rattle.fs_machine.specs.Open.{is_full, open_answer}
-use Rattle.fs_machine.specs.Past.{Past}
-use Rattle.fs_machine.specs.Read.{batch_answers, document_answer, query_answer, read_time, run_answer, time_refusal, unless_refused}
-use Rattle.fs_machine.specs.Request.{query_refusal, read_answer, request_answer}
+use Rattle.fs_history.specs.declared.read.Read.{Read}
 use Rattle.fs_path.specs.Place.{member_place}
+use Rattle.fs_path.specs.declared.field.FieldPath.{FieldPath}
 use Rattle.fs_path.specs.declared.place.Rule.{Rule}
 use Rattle.fs_path.specs.declared.place.Rule.TheVariants.{Q}
+use Rattle.fs_query.specs.Asked.{Asked}
 use Rattle.fs_query.specs.Rules.{rule_of_query}
 use Rattle.fs_query.specs.declared.rule.QueryRule.{QueryRule}
-use Rattle.fs_status.specs.declared.reason.Reason.TheVariants as reasons
-use Rattle.fs_machine.specs.State.{Machine}
-use Rattle.fs_machine.specs.declared.parked_request.ParkedRequest.{ParkedRequest}
 use Rattle.fs_rpc.specs.declared.message.Message.{Message}
 use Rattle.fs_rpc.specs.declared.message.Message.TheVariants as message
+use Rattle.fs_rpc.specs.declared.options.TransactionOptions.{TransactionOptions}
+use Rattle.fs_rpc.specs.declared.options.TransactionOptions.TheVariants as options
+use Rattle.fs_rpc.specs.declared.request.Envelope.{Envelope}
+use Rattle.fs_rpc.specs.declared.request.Request.{Request}
+use Rattle.fs_rpc.specs.declared.request.Request.TheVariants as request
+use Rattle.fs_rpc.specs.declared.when.When.{When}
+use Rattle.fs_rpc.specs.declared.when.When.TheVariants as when
+use Rattle.fs_status.specs.Refusal.{at_limit, conflict_with, refusal_of}
+use Rattle.fs_status.specs.declared.reason.Reason.{Reason}
+use Rattle.fs_status.specs.declared.reason.Reason.TheVariants.{AtLimit, Conflict, Expired, Memory, NoDocument, NotOpen, ReadOnly, TooOld, TooNew}
+use Rattle.fs_status.specs.declared.reason.Reason.TheVariants as reasons
+use Rattle.fs_status.specs.declared.refusal.Refusal.{Refusal}
+use Rattle.fs_txn.specs.Reading.{shown_bytes}
+use Rattle.fs_txn.specs.Transactions.{Transactions, expired_of, is_read_write, txn_of}
+use Rattle.fs_txn.specs.declared.expired.Expired.{Expired as Gone}
+use Rattle.fs_txn.specs.declared.txn.Txn.{Txn}
+use Rattle.fs_value.specs.declared.document.Document.{Document}
+use Rattle.fs_write.specs.declared.write.Write.{Write}
+use Rattle.fs_machine.specs.Commit.{author_refusal, commit_refusal, commit_retry_refusal, committed_answer, committed_answer_in, committed_answer_unless, growth_refusal, number_refusal, only_reads, unless_closed, writing_refusal}
+use Rattle.fs_machine.specs.Conflict.{conflict}
+use Rattle.fs_machine.specs.Open.{is_full, open_answer}
+use Rattle.fs_machine.specs.Past.{Past}
+use Rattle.fs_machine.specs.Read.{batch_answers, document_answer, is_noted, query_answer, read_limit_refusal, read_time, shown_at, time_refusal, when_refusal}
+use Rattle.fs_machine.specs.Refusing.{ids_refusal, journal_count, journal_size, next_time, outbox_is_full, outbox_refusal, passed, reads_refusal, room_refusal, time_limit_refusal}
+use Rattle.fs_machine.specs.Request.{Decision, answer_by, answered, answered_unless, arrival_refusal, arrived, begin_refusal, begin_time_refusal, check_refusal, decided_answer, decision, drawn, held_by, query_refusal, retry_refusal, unless_full, unless_held, unless_refused}
+use Rattle.fs_machine.specs.Retry.{retry_answer, retry_decision, tried_answer}
+use Rattle.fs_machine.specs.State.{Machine}
+use Rattle.fs_machine.specs.Transact.{closed_refusal, gone_refusal, reads_had, refusal_unless}
+use Rattle.fs_machine.specs.declared.answer.Answer.{Answer}
+use Rattle.fs_machine.specs.declared.answer.Answer.TheVariants.{Reply, Prepared, Refused}
+use Rattle.fs_machine.specs.declared.parked_request.ParkedRequest.{ParkedRequest}
 
 abbrev IsOther : Reason → Type 0
 IsOther r = r ≡ Memory → ⊥
@@ -51,7 +64,7 @@ open_other false n limit e = cc
 pub open_not : (m : Machine) → open_answer m ≡ Err (refusal_of Memory) → ⊥
 open_not m e = open_other (is_full m) m.numbers.sessions m.limits.sessions e
 
--- ---- requests
+-- ---- limits
 
 abbrev AreOther : Option Refusal → Type 0
 AreOther None = Unit {0}
@@ -61,42 +74,113 @@ passed_other : (over : Bool) (name : List ℕ) (n : ℕ) (others : Option Refusa
 passed_other true name n others rest = other_limit name n
 passed_other false name n others rest = rest
 
+closed_other : (first others : Option Refusal) → AreOther first → AreOther others → AreOther (unless_closed first others)
+closed_other (Some refusal) others one rest = one
+closed_other None others one rest = rest
+
+if_other : (b : Bool) (o : Option Refusal) → AreOther o → AreOther (cond b o None)
+if_other true o other = other
+if_other false o other = tt
+
+unless_other : (b : Bool) (o : Option Refusal) → AreOther o → AreOther (cond b None o)
+unless_other true o other = tt
+unless_other false o other = other
+
+outbox_other : (m : Machine) (session : ℕ) (others : Option Refusal) → AreOther others → AreOther (outbox_refusal m session others)
+outbox_other m session others rest = passed_other (outbox_is_full m session) (codes "outbox") m.limits.outbox others rest
+
 time_limit_other : (m : Machine) → AreOther (time_limit_refusal m)
 time_limit_other m = passed_other (int_lt (pos m.limits.time) (next_time m.past)) (codes "time") m.limits.time None tt
 
-room_other : (m : Machine) (writes : List Write) (others : Option Refusal) → AreOther others → AreOther (room_refusal m writes others)
-room_other m writes others rest =
-    let large = passed (nat_lt m.limits.journal (journal_size m.past + commit_size writes [])) (codes "journal") m.limits.journal others in
+ids_other : (m : Machine) (others : Option Refusal) → AreOther others → AreOther (ids_refusal m others)
+ids_other m others rest = passed_other (nat_le m.limits.ids m.numbers.ids) (codes "ids") m.limits.ids others rest
+
+room_other : (m : Machine) (writes : List Write) (reads : List Read) (others : Option Refusal) → AreOther others → AreOther (room_refusal m writes reads others)
+room_other m writes reads others rest =
+    let large = passed (nat_lt m.limits.journal (journal_size m.past + commit_size writes reads)) (codes "journal") m.limits.journal others in
     passed_other (nat_le m.limits.batches (journal_count m.past)) (codes "batches") m.limits.batches large
-    (passed_other (nat_lt m.limits.journal (journal_size m.past + commit_size writes [])) (codes "journal") m.limits.journal others rest)
+    (passed_other (nat_lt m.limits.journal (journal_size m.past + commit_size writes reads)) (codes "journal") m.limits.journal others rest)
 
-commit_other : (m : Machine) (session : ℕ) (writes : List Write) → AreOther (commit_refusal m session writes)
-commit_other m session writes =
-    let drawn = passed (nat_le m.limits.ids m.numbers.ids) (codes "ids") m.limits.ids (time_limit_refusal m) in
-    let full = passed (outbox_is_full m session) (codes "outbox") m.limits.outbox (room_refusal m writes drawn) in
-    passed_other (nat_lt m.limits.writes (length writes)) (codes "writes") m.limits.writes full
-    (passed_other (outbox_is_full m session) (codes "outbox") m.limits.outbox (room_refusal m writes drawn)
-    (room_other m writes drawn (passed_other (nat_le m.limits.ids m.numbers.ids) (codes "ids") m.limits.ids (time_limit_refusal m) (time_limit_other m))))
+number_other : (m : Machine) (transaction : Option ℕ) (others : Option Refusal) → AreOther others → AreOther (number_refusal m transaction others)
+number_other m None others rest = ids_other m others rest
+number_other m (Some id) others rest = rest
 
-refused_reason : {r s : Refusal} → Refused r ≡ Refused s → r.reason ≡ s.reason
-refused_reason {r} {s} e = let same : r ≡ s = cc in reason_of same
+growth_other : (m : Machine) (writes : List Write) (transaction : Option ℕ) (others : Option Refusal) → AreOther others → AreOther (growth_refusal m writes transaction others)
+growth_other m writes transaction others rest =
+    let reads = reads_had m.txns transaction in
+    unless_other (only_reads m transaction) (room_refusal m writes reads others) (room_other m writes reads others rest)
 
-waits_other : (m : Machine) (r : ParkedRequest) (id : ℕ) (full : Bool)
-    → carried_answer m.past r (cond full (Decision.refused (at_limit (codes "parked") m.limits.parked)) (Decision.held id)) ≡ Refused (refusal_of Memory) → ⊥
-waits_other m r id true e = other_limit (codes "parked") m.limits.parked (refused_reason e)
-waits_other m r id false e = cc
+commit_other : (m : Machine) (session : ℕ) (writes : List Write) (transaction : Option ℕ) → AreOther (commit_refusal m session writes transaction)
+commit_other m session writes transaction =
+    let number = number_refusal m transaction (time_limit_refusal m) in
+    let growth = growth_refusal m writes transaction number in
+    passed_other (nat_lt m.limits.writes (length writes)) (codes "writes") m.limits.writes (outbox_refusal m session growth)
+    (outbox_other m session growth (growth_other m writes transaction number (number_other m transaction (time_limit_refusal m) (time_limit_other m))))
 
-decided_other : (m : Machine) (r : ParkedRequest) (found : Option ℕ) → carried_answer m.past r (decision_behind m found) ≡ Refused (refusal_of Memory) → ⊥
-decided_other m r None e = cc
-decided_other m r (Some id) e = waits_other m r id (nat_le m.limits.parked (length m.parked)) e
+read_limit_other : (m : Machine) (w : When) (q : Request) → AreOther (read_limit_refusal m w q)
+read_limit_other m w q =
+    let reads = shown_at m w q in
+    if_other (is_noted m w) (reads_refusal m reads) (passed_other (nat_lt m.limits.reads (shown_bytes m.txns + sum_by shown_size reads)) (codes "reads") m.limits.reads None tt)
 
-limited_other : (m : Machine) (r : ParkedRequest) (writes : List Write) (o : Option Refusal) → AreOther o → answer_after_limits o m r writes ≡ Refused (refusal_of Memory) → ⊥
-limited_other m r writes (Some refusal) other e = other (refused_reason e)
-limited_other m r writes None other e = decided_other m r (behind m.past writes) e
+rule_not_memory : (rule : Rule) (place : List ℕ) → IsOther (reasons.Rule rule place)
+rule_not_memory rule place e = cc
 
-unless_other : (o : Option Refusal) (a : Answer) → AreOther o → (a ≡ Refused (refusal_of Memory) → ⊥) → unless_refused o a ≡ Refused (refusal_of Memory) → ⊥
-unless_other (Some r) a other not e = other (refused_reason e)
-unless_other None a other not e = not e
+rule_other : (o : Option QueryRule) → AreOther (option_map (λ rule. refusal_of (reasons.Rule (Q rule.number rule.count) (member_place (codes "runQuery") (codes "structuredQuery")))) o)
+rule_other None = tt
+rule_other (Some rule) = rule_not_memory (Q rule.number rule.count) (member_place (codes "runQuery") (codes "structuredQuery"))
+
+begin_other : (m : Machine) (session : ℕ) → AreOther (begin_refusal m session)
+begin_other m session =
+    let many = passed (nat_le m.limits.transactions (length m.txns.open)) (codes "transactions") m.limits.transactions (ids_refusal m None) in
+    outbox_other m session many (passed_other (nat_le m.limits.transactions (length m.txns.open)) (codes "transactions") m.limits.transactions (ids_refusal m None) (ids_other m None tt))
+
+arrival_other : (m : Machine) (session : ℕ) (q : Request) → AreOther (arrival_refusal m session q)
+arrival_other m session (request.Commit database writes transaction) = commit_other m session writes transaction
+arrival_other m session (request.GetDocument name mask w) = outbox_other m session (read_limit_refusal m w (request.GetDocument name mask w)) (read_limit_other m w (request.GetDocument name mask w))
+arrival_other m session (request.BatchGetDocuments database names mask w) =
+    outbox_other m session (read_limit_refusal m w (request.BatchGetDocuments database names mask w)) (read_limit_other m w (request.BatchGetDocuments database names mask w))
+arrival_other m session (request.RunQuery database query w) =
+    let limit = read_limit_refusal m w (request.RunQuery database query w) in
+    closed_other (query_refusal query) (outbox_refusal m session limit) (rule_other (rule_of_query query)) (outbox_other m session limit (read_limit_other m w (request.RunQuery database query w)))
+arrival_other m session (request.BeginTransaction database o) = begin_other m session
+arrival_other m session (request.Rollback database transaction) = outbox_other m session None tt
+
+retry_other : (m : Machine) (q : Request) → AreOther (retry_refusal m q)
+retry_other m (request.Commit database writes transaction) = growth_other m writes transaction (time_limit_refusal m) (time_limit_other m)
+retry_other m (request.GetDocument name mask w) = read_limit_other m w (request.GetDocument name mask w)
+retry_other m (request.BatchGetDocuments database names mask w) = read_limit_other m w (request.BatchGetDocuments database names mask w)
+retry_other m (request.RunQuery database query w) = read_limit_other m w (request.RunQuery database query w)
+retry_other m (request.BeginTransaction database o) = tt
+retry_other m (request.Rollback database transaction) = tt
+
+-- ---- transactions and times
+
+expired_not_memory : (id : ℕ) (since now : ℤ) → IsOther (Expired id since now)
+expired_not_memory id since now e = cc
+
+not_open_not_memory : (id : ℕ) → IsOther (NotOpen id)
+not_open_not_memory id e = cc
+
+gone_other : (id : ℕ) (gone : Option Gone) (found : Option Txn) → AreOther (refusal_unless id gone found)
+gone_other id gone (Some t) = tt
+gone_other id (Some e) None = expired_not_memory id e.since e.now
+gone_other id None None = not_open_not_memory id
+
+open_one_other : (ts : Transactions) (id : ℕ) → AreOther (closed_refusal ts id)
+open_one_other ts id = gone_other id (expired_of id ts.expired) (txn_of id ts.open)
+
+read_only_not_memory : (id : ℕ) → IsOther (ReadOnly id)
+read_only_not_memory id e = cc
+
+writing_other : (writes : List Write) (id : ℕ) (reads : Bool) → AreOther (writing_refusal writes id reads)
+writing_other [] id reads = tt
+writing_other (w ∷ writes) id true = read_only_not_memory id
+writing_other (w ∷ writes) id false = tt
+
+author_other : (m : Machine) (writes : List Write) (transaction : Option ℕ) → AreOther (author_refusal m writes transaction)
+author_other m writes None = tt
+author_other m writes (Some id) =
+    closed_other (closed_refusal m.txns id) (writing_refusal writes id (only_reads m (Some id))) (open_one_other m.txns id) (writing_other writes id (only_reads m (Some id)))
 
 either_other : (b c : Bool) (old new : Reason) → IsOther old → IsOther new → AreOther (cond b (Some (refusal_of old)) (cond c (Some (refusal_of new)) None))
 either_other true c old new o n = o
@@ -112,38 +196,118 @@ too_new t released e = cc
 time_other : (p : Past) (t : ℤ) → AreOther (time_refusal p t)
 time_other p t = either_other (int_lt t p.floor) (int_lt p.released t) (TooOld t p.floor) (TooNew t p.released) (too_old t p.floor) (too_new t p.released)
 
+when_other : (m : Machine) (w : When) → AreOther (when_refusal m w)
+when_other m when.Released = tt
+when_other m (when.At time) = time_other m.past time
+when_other m (when.In id) = open_one_other m.txns id
+
+begin_time_other : (m : Machine) (o : TransactionOptions) → AreOther (begin_time_refusal m o)
+begin_time_other m options.ReadWrite = tt
+begin_time_other m (options.ReadOnly None) = tt
+begin_time_other m (options.ReadOnly (Some time)) = time_other m.past time
+
+check_other : (m : Machine) (q : Request) → AreOther (check_refusal m q)
+check_other m (request.Commit database writes transaction) = author_other m writes transaction
+check_other m (request.GetDocument name mask w) = when_other m w
+check_other m (request.BatchGetDocuments database names mask w) = when_other m w
+check_other m (request.RunQuery database query w) = when_other m w
+check_other m (request.BeginTransaction database o) = begin_time_other m o
+check_other m (request.Rollback database transaction) = open_one_other m.txns transaction
+
+-- ---- answers
+
+abbrev IsNot : Answer → Type 0
+IsNot a = a ≡ Refused (refusal_of Memory) → ⊥
+
+refused_reason : {r s : Refusal} → Refused r ≡ Refused s → r.reason ≡ s.reason
+refused_reason {r} {s} e = let same : r ≡ s = cc in reason_of same
+
+reply_not : (reply : Message) → IsNot (Reply reply)
+reply_not reply e = cc
+
+conflict_not_memory : (id : ℕ) → IsOther (Conflict id)
+conflict_not_memory id e = cc
+
+unless_not : (m : Machine) (t : Txn) (found : Option ℕ) → IsNot (committed_answer_unless m t found)
+unless_not m t (Some other) e = conflict_not_memory other (refused_reason e)
+unless_not m t None e = cc
+
+if_not : (m : Machine) (r : ParkedRequest) (writes : List Write) (t : Txn) (b : Bool)
+    → IsNot (cond b (committed_answer_unless m t (conflict m.config.mode m.past m.txns.open t writes)) (Reply (message.Commit r.envelope.id t.read_time [])))
+if_not m r writes t true = unless_not m t (conflict m.config.mode m.past m.txns.open t writes)
+if_not m r writes t false = reply_not (message.Commit r.envelope.id t.read_time [])
+
+in_not : (m : Machine) (r : ParkedRequest) (writes : List Write) (found : Option Txn) → IsNot (committed_answer_in m r writes found)
+in_not m r writes None e = cc
+in_not m r writes (Some t) e = if_not m r writes t (is_read_write t.kind) e
+
+committed_not : (m : Machine) (r : ParkedRequest) (writes : List Write) (transaction : Option ℕ) → IsNot (committed_answer m r writes transaction)
+committed_not m r writes None e = cc
+committed_not m r writes (Some id) e = in_not m r writes (txn_of id m.txns.open) e
+
 no_document : (t : ℤ) → IsOther (NoDocument t)
 no_document t e = cc
 
-document_other : (id : Option (List ℕ)) (t : ℤ) (mask : Option (List FieldPath)) (o : Option Document) → document_answer id t mask o ≡ Refused (refusal_of Memory) → ⊥
-document_other id t mask None e = no_document t (refused_reason e)
-document_other id t mask (Some d) e = cc
+document_not : (id : Option (List ℕ)) (t : ℤ) (mask : Option (List FieldPath)) (o : Option Document) → IsNot (document_answer id t mask o)
+document_not id t mask None e = no_document t (refused_reason e)
+document_not id t mask (Some d) e = cc
 
-reply_other : (m : Message) → Reply m ≡ Refused (refusal_of Memory) → ⊥
-reply_other m e = cc
+carried_not : (m : Machine) (r : ParkedRequest) (q : Request) → IsNot (answer_by m r q)
+carried_not m r (request.Commit database writes transaction) = committed_not m r writes transaction
+carried_not m r (request.GetDocument name mask w) = let t = read_time m w in document_not r.envelope.id t mask (get (at m.past.history t) name)
+carried_not m r (request.BatchGetDocuments database names mask w) = let t = read_time m w in reply_not (message.BatchGetDocuments r.envelope.id (batch_answers (at m.past.history t) t mask names))
+carried_not m r (request.RunQuery database query w) = let t = read_time m w in reply_not (message.RunQuery r.envelope.id (query_answer (at m.past.history t) query) t)
+carried_not m r (request.BeginTransaction database o) = reply_not (message.BeginTransaction r.envelope.id r.id)
+carried_not m r (request.Rollback database transaction) = reply_not (message.Rollback r.envelope.id)
 
-read_other : (m : Machine) (session : ℕ) (t : ℤ) (a : Answer) → (a ≡ Refused (refusal_of Memory) → ⊥) → unless_refused (outbox_refusal m session) (unless_refused (time_refusal m.past t) a) ≡ Refused (refusal_of Memory) → ⊥
-read_other m session t a not =
-    unless_other (outbox_refusal m session) (unless_refused (time_refusal m.past t) a) (passed_other (outbox_is_full m session) (codes "outbox") m.limits.outbox None tt)
-    (unless_other (time_refusal m.past t) a (time_other m.past t) not)
+-- ---- what becomes of a request
 
-rule_not_memory : (rule : Rule) (place : List ℕ) → IsOther (reasons.Rule rule place)
-rule_not_memory rule place e = cc
+abbrev AreNot : Decision → Type 0
+AreNot (Decision.refused refusal) = IsOther refusal.reason
+AreNot (Decision.held id) = Unit {0}
+AreNot Decision.goes_on = Unit {0}
 
-rule_other : (o : Option QueryRule) → AreOther (option_map (λ rule. refusal_of (reasons.Rule (Q rule.number rule.count) (member_place (codes "runQuery") (codes "structuredQuery")))) o)
-rule_other None = tt
-rule_other (Some rule) = rule_not_memory (Q rule.number rule.count) (member_place (codes "runQuery") (codes "structuredQuery"))
+held_not : (found : Option ℕ) → AreNot (unless_held found)
+held_not None = tt
+held_not (Some id) = tt
 
-pub request_not : (m : Machine) (session : ℕ) (e : Envelope) (r : Request) → request_answer m session e r ≡ Refused (refusal_of Memory) → ⊥
-request_not m session e (request.Commit database writes) = limited_other m (arrived m session e) writes (commit_refusal m session writes) (commit_other m session writes)
-request_not m session e (request.GetDocument name mask time) =
-    let t = read_time m.past time in
-    read_other m session t (document_answer e.id t mask (get (at m.past.history t) name)) (document_other e.id t mask (get (at m.past.history t) name))
-request_not m session e (request.BatchGetDocuments database names mask time) =
-    let t = read_time m.past time in
-    let reply = message.BatchGetDocuments e.id (batch_answers (at m.past.history t) t mask names) in
-    read_other m session t (Reply reply) (reply_other reply)
-request_not m session e (request.RunQuery database query time) =
-    let t = read_time m.past time in
-    let reply = message.RunQuery e.id (query_answer (at m.past.history t) query) t in
-    unless_other (query_refusal query) (read_answer m session (run_answer m.past e.id query t)) (rule_other (rule_of_query query)) (read_other m session t (Reply reply) (reply_other reply))
+refused_not : (o : Option Refusal) (d : Decision) → AreOther o → AreNot d → AreNot (unless_refused o d)
+refused_not (Some refusal) d other rest = other
+refused_not None d other rest = rest
+
+decision_not : (m : Machine) (q : Request) → AreNot (decision m q)
+decision_not m q = refused_not (check_refusal m q) (unless_held (held_by m q)) (check_other m q) (held_not (held_by m q))
+
+full_by : (m : Machine) (id : ℕ) (b : Bool) → AreNot (cond b (Decision.refused (at_limit (codes "parked") m.limits.parked)) (Decision.held id))
+full_by m id true = other_limit (codes "parked") m.limits.parked
+full_by m id false = tt
+
+full_not : (m : Machine) (d : Decision) → AreNot d → AreNot (unless_full m d)
+full_not m (Decision.refused refusal) other = other
+full_not m (Decision.held id) other = full_by m id (nat_le m.limits.parked (length m.parked))
+full_not m Decision.goes_on other = tt
+
+decided_not : (m : Machine) (r : ParkedRequest) (d : Decision) → AreNot d → IsNot (decided_answer m r d)
+decided_not m r (Decision.refused refusal) other e = other (refused_reason e)
+decided_not m r (Decision.held id) other e = cc
+decided_not m r Decision.goes_on other e = carried_not m r r.envelope.request e
+
+answered_not : (m : Machine) (r : ParkedRequest) (o : Option Refusal) → AreOther o → IsNot (answered_unless o m r)
+answered_not m r (Some refusal) other e = other (refused_reason e)
+answered_not m r None other e =
+    decided_not (drawn m r.envelope.request) r (unless_full m (decision m r.envelope.request)) (full_not m (decision m r.envelope.request) (decision_not m r.envelope.request)) e
+
+pub request_not : (m : Machine) (session : ℕ) (e : Envelope) → IsNot (answered m session e)
+request_not m session e = answered_not m (arrived m session e) (arrival_refusal m session e.request) (arrival_other m session e.request)
+
+tried_not : (m : Machine) (r : ParkedRequest) → IsNot (tried_answer m r)
+tried_not m r =
+    let q = r.envelope.request in
+    decided_not m r (retry_decision m q) (refused_not (retry_refusal m q) (decision m q) (retry_other m q) (decision_not m q))
+
+found_not : (m : Machine) (found : Option ParkedRequest) → Some (Refused (refusal_of Memory)) ≡ option_map (tried_answer m) found → ⊥
+found_not m None e = cc
+found_not m (Some r) e = let same : tried_answer m r ≡ Refused (refusal_of Memory) = cc in tried_not m r same
+
+pub retry_not : (m : Machine) (place : ℕ) → Some (Refused (refusal_of Memory)) ≡ retry_answer m place → ⊥
+retry_not m place e = found_not m (slice_get m.parked place) e

@@ -1,15 +1,27 @@
--- A request that waits at a place, and is tried again.
+-- A request that waits at a place, and is tried again: where that leads, by what becomes of it.
 use Rattle.std.proofs.Common.{◌≡◌, ◌⊎◌, inl, inr, arith, ℕ, ◌<◌, List, Option, Some, None, refl, sym, ap, ◌∙◌, subst}
-use Rattle.std.specs.Prelude.{IsSome, length, option_map, slice_get}
+use Rattle.std.specs.Prelude.{length, option_map, remove, slice_get}
 use Rattle.std.proofs.lemmas.Option.{slice_get_cases}
 use Rattle.fs_status.specs.declared.refusal.Refusal.{Refusal}
-use Rattle.fs_machine.specs.Behind.{behind}
-use Rattle.fs_machine.specs.Commit.{Decision, carried_answer, retry_refusal}
-use Rattle.fs_machine.specs.Retry.{retried, retried_if, retry_answer, tried, tried_answer, unless_past, unparked, waits_for, writes_of}
+use Rattle.fs_txn.specs.Transactions.{Transactions}
+use Rattle.fs_machine.specs.Commit.{unless_closed}
+use Rattle.fs_machine.specs.Event.{Event}
+use Rattle.fs_machine.specs.Facts.{Facts}
+use Rattle.fs_machine.specs.Limits.{AreAllowed}
+use Rattle.fs_machine.specs.Past.{Past}
+use Rattle.fs_machine.specs.Request.{Decision, answer_by, carried_by, check_refusal, decided_answer, decision, held_by, retry_refusal, unless_held, unless_refused}
+use Rattle.fs_machine.specs.Retry.{retried, retried_if, retry_answer, retry_decision, tried, tried_answer, unparked}
 use Rattle.fs_machine.specs.State.{Machine}
-use Rattle.fs_machine.specs.declared.answer.Answer.TheVariants.{Refused}
+use Rattle.fs_machine.specs.declared.answer.Answer.{Answer}
+use Rattle.fs_machine.specs.declared.answer.Answer.TheVariants.{Held, Refused}
 use Rattle.fs_machine.specs.declared.parked_request.ParkedRequest.{ParkedRequest}
-use Rattle.fs_server.specs.Waits.{writes_at, writes_if}
+use Rattle.fs_machine.proofs.Holding.{beside}
+use Rattle.fs_machine.proofs.Runs.{keeps}
+use Rattle.fs_server.specs.Changes.{Does, asking, changed, past_changed, txns_changed}
+use Rattle.fs_server.specs.declared.changes.Change.{Change}
+use Rattle.fs_server.specs.Kept.{IsKept}
+use Rattle.fs_server.proofs.Asking.{kept_of}
+use Rattle.fs_server.proofs.Beside.{carried_beside}
 
 -- it stands there
 pub there : (rs : List ParkedRequest) (place : ℕ) → place < length rs → (r : ParkedRequest) × (slice_get rs place ≡ Some r)
@@ -17,27 +29,60 @@ there rs place within =
     elim (slice_get_cases rs place).1
     [ inl h ↦ (h.0, h.2) | inr h ↦ absurd (omega (arith, within, h.0)) ]
 
-some_there : (found : Option ParkedRequest) (r : ParkedRequest) → found ≡ Some r → IsSome found
-some_there None r is = absurd (cc)
-some_there (Some x) r is = refl
+module _ (m : Machine) (place : ℕ) (r : ParkedRequest) (here : slice_get m.parked place ≡ Some r) where
+  leads : retried m place ≡ tried m place r (retry_decision m r.envelope.request)
+  leads = ap (retried_if m place) here
 
-pub is_there : (rs : List ParkedRequest) (place : ℕ) → place < length rs → IsSome (slice_get rs place)
-is_there rs place within = let at = there rs place within in some_there (slice_get rs place) at.0 at.1
+  tells : retry_answer m place ≡ Some (decided_answer m r (retry_decision m r.envelope.request))
+  tells = ap (option_map (tried_answer m)) here
 
--- ---- a limit would be passed by now
+  refused_by : (l c : Option Refusal) (d : Decision) (refusal : Refusal) → unless_closed l c ≡ Some refusal → unless_refused l (unless_refused c d) ≡ Decision.refused refusal
+  refused_by None None d refusal is = absurd (cc)
+  refused_by None (Some x) d refusal is = let same : x ≡ refusal = cc in ap Decision.refused same
+  refused_by (Some x) c d refusal is = let same : x ≡ refusal = cc in ap Decision.refused same
 
-told_if : (m : Machine) (found : Option ParkedRequest) (refusal : Refusal) → IsSome found → retry_refusal m (writes_if found) ≡ Some refusal → Some (Refused refusal) ≡ option_map (tried_answer m) found
-told_if m None refusal some is = absurd (cc)
-told_if m (Some r) refusal some is = ap (λ o. Some (carried_answer m.past r (unless_past o (waits_for (behind m.past (writes_of r.envelope.request)))))) (sym is)
+  module _ (refusal : Refusal) (is : unless_closed (retry_refusal m r.envelope.request) (check_refusal m r.envelope.request) ≡ Some refusal) where
+    refused : retry_decision m r.envelope.request ≡ Decision.refused refusal
+    refused = refused_by (retry_refusal m r.envelope.request) (check_refusal m r.envelope.request) (unless_held (held_by m r.envelope.request)) refusal is
 
-state_if : (m : Machine) (place : ℕ) (found : Option ParkedRequest) (refusal : Refusal) → IsSome found → retry_refusal m (writes_if found) ≡ Some refusal → unparked m place ≡ retried_if m place found
-state_if m place None refusal some is = absurd (cc)
-state_if m place (Some r) refusal some is =
-    let ws = writes_of r.envelope.request in
-    ap (λ o. tried m place r ws (unless_past o (waits_for (behind m.past ws)))) (sym is)
+    pub state_refused : unparked m place ≡ retried m place
+    state_refused = sym (leads ∙ ap (tried m place r) refused)
 
-pub refused_told : (m : Machine) (place : ℕ) (refusal : Refusal) → IsSome (slice_get m.parked place) → retry_refusal m (writes_at m.parked place) ≡ Some refusal → Some (Refused refusal) ≡ retry_answer m place
-refused_told m place refusal some is = told_if m (slice_get m.parked place) refusal some is
+    pub told_refused : Some (Refused refusal) ≡ retry_answer m place
+    told_refused = sym (tells ∙ ap (λ d. Some (decided_answer m r d)) refused)
 
-pub refused_state : (m : Machine) (place : ℕ) (refusal : Refusal) → IsSome (slice_get m.parked place) → retry_refusal m (writes_at m.parked place) ≡ Some refusal → unparked m place ≡ retried m place
-refused_state m place refusal some is = state_if m place (slice_get m.parked place) refusal some is
+  module _ (limits : retry_refusal m r.envelope.request ≡ None) (check : check_refusal m r.envelope.request ≡ None) where
+    decided : (h : Option ℕ) → held_by m r.envelope.request ≡ h → retry_decision m r.envelope.request ≡ unless_held h
+    decided h by = λ i. unless_refused (limits i) (unless_refused (check i) (unless_held (by i)))
+
+    module _ (id : ℕ) (held : held_by m r.envelope.request ≡ Some id) where
+      pub state_held : m ≡ retried m place
+      state_held = sym (leads ∙ ap (tried m place r) (decided (Some id) held))
+
+      pub told_held : Some (Held id) ≡ retry_answer m place
+      told_held = sym (tells ∙ ap (λ d. Some (decided_answer m r d)) (decided (Some id) held))
+
+    module _ (free : held_by m r.envelope.request ≡ None) (d : Answer × Change)
+        (does : Does m (answer_by m (asking r.session r.id r.envelope) r.envelope.request) (carried_by m (asking r.session r.id r.envelope) r.envelope.request) d) where
+      pub state_goes : beside (changed m d.1) m.numbers (remove m.parked place) ≡ retried m place
+      state_goes =
+          ap (λ n. beside n m.numbers (remove m.parked place)) does.state
+          ∙ sym (leads ∙ ap (tried m place r) (decided None free) ∙ carried_beside m m.numbers (remove m.parked place) r r.envelope.request)
+
+      pub told_goes : Some d.0 ≡ retry_answer m place
+      told_goes = ap Some does.told ∙ sym (tells ∙ ap (λ x. Some (decided_answer m r x)) (decided None free))
+
+-- ---- as the code has it: the server as it was made of, and what its parts are then
+
+module _ (m0 m : Machine) (view : m0 ≡ m) (place : ℕ) (r : ParkedRequest) (here : slice_get m.parked place ≡ Some r) (limits : retry_refusal m r.envelope.request ≡ None) (check : check_refusal m r.envelope.request ≡ None)
+    (free : held_by m r.envelope.request ≡ None) (d : Answer × Change)
+    (does : Does m (answer_by m (asking r.session r.id r.envelope) r.envelope.request) (carried_by m (asking r.session r.id r.envelope) r.envelope.request) d)
+    (p : Past) (ts : Transactions) (ps : List ParkedRequest) (past : p ≡ past_changed m0.past d.1) (txns : ts ≡ txns_changed m0.txns m0.past.moment d.1) (less : ps ≡ remove m0.parked place) where
+  pub went_on : record m0 { past = p; txns = ts; parked = ps } ≡ retried m place
+  went_on =
+      (λ i. record m0 { past = past i; txns = txns i; parked = less i })
+      ∙ ap (λ (k : Machine). beside (changed k d.1) k.numbers (remove k.parked place)) view
+      ∙ state_goes m place r here limits check free d does
+
+  pub went_on_kept : AreAllowed m0.limits → Facts m → IsKept m0.config m0.limits p ts m0.sessions ps m0.numbers
+  went_on_kept allowed facts = kept_of (record m0 { past = p; txns = ts; parked = ps }) allowed (subst Facts (sym went_on) (keeps m (Event.retrying place) facts))

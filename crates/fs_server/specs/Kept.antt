@@ -1,15 +1,19 @@
 -- Only the model of a server cites this: what it is made of. What was committed keeps its own promises.
 use Rattle.std.specs.Prelude.{List}
+use Rattle.fs_txn.specs.Transactions.{Transactions}
 use Rattle.fs_machine.specs.IdsAreDrawn.{IdsAreDrawn}
 use Rattle.fs_machine.specs.Limits.{AreAllowed}
 use Rattle.fs_machine.specs.Past.{Past}
 use Rattle.fs_machine.specs.SessionsNumbered.{SessionsNumbered}
+use Rattle.fs_machine.specs.TransactionsHold.{TransactionsHold}
+use Rattle.fs_machine.specs.declared.config.Config.{Config}
 use Rattle.fs_machine.specs.declared.limits.Limits.{Limits}
 use Rattle.fs_machine.specs.declared.numbers.Numbers.{Numbers}
 use Rattle.fs_machine.specs.declared.parked_request.ParkedRequest.{ParkedRequest}
 use Rattle.fs_machine.specs.declared.session.Session.{Session}
 
-pub record IsKept (limits : Limits) (past : Past) (sessions : List Session) (parked : List ParkedRequest) (numbers : Numbers) : Type 0 where
+pub record IsKept (config : Config) (limits : Limits) (past : Past) (txns : Transactions) (sessions : List Session) (parked : List ParkedRequest) (numbers : Numbers) : Type 0 where
   pub allowed : AreAllowed limits
-  pub drawn : IdsAreDrawn past parked numbers.ids
+  pub drawn : IdsAreDrawn past txns parked numbers.ids
+  pub held : TransactionsHold config.mode past txns.open
   pub numbered : SessionsNumbered sessions numbers.sessions

@@ -1,4 +1,5 @@
 pub mod Place
 pub mod Settling
-pub mod Waits
+pub mod Noted
+pub mod Changes
 pub mod Kept

@@ -1,263 +1,198 @@
-//! Commits, up to their time.
-ghost use Rattle.std.specs.Prelude.{◌≡◌, IfOk, Some};
-ghost use Rattle.fs_status.specs.Refusal.{at_limit};
-
+//! Commits that are carried out.
+use crate::changes::Change;
 use crate::server::Server;
-use fs_history::{Batch, Reads, commit_size};
-use fs_machine::{Answer, ParkedRequest, Unreleased};
-use fs_path::Text;
-use fs_rpc::{Envelope, copy_id};
+use fs_history::{Batch, Reads};
+use fs_machine::{Answer, Unreleased};
+use fs_rpc::{Envelope, Message, copy_id};
 use fs_status::{Id, Refusal};
-use fs_write::Writes;
+use fs_txn::{Kind, Txn};
+use fs_write::{WriteResults, Writes};
 use std::alloc::{AllocError, Global};
 
-fn at_limit(alloc: Global, name: &str, number: u64) -> Result<Option<Refusal>, AllocError>
-    ensures { IfOk result (λ r. r ≡ Some (at_limit name.now number)) }
-{
-    Ok(Some(Refusal::at_limit(alloc, name, number)?))
-}
-
 impl Server {
-    ghost use Rattle.std.specs.Prelude.{◌≡◌, ◌<◌, ◌≤◌, ◌+◌, ◌-◌, ◌^◌, min, pos, int_lt, nat_le, nat_lt, false, [], List, None, Some, length, IfNone, IfOk, OnOk, OnErr};
-    ghost use Rattle.fs_history.specs.Bytes.{commit_size};
+    ghost use Rattle.std.specs.Prelude.{◌≡◌, [], None, Some, true, IfOk};
+    ghost use Rattle.fs_rpc.specs.declared.message.Message.TheVariants as message;
     ghost use Rattle.fs_time.specs.Moment.{IsMoment};
-    ghost use Rattle.fs_write.specs.declared.write.Write.{Write};
+    ghost use Rattle.fs_txn.specs.Transactions.{is_read_write, txn_of};
     ghost use Rattle.fs_machine.specs.Behind.{behind};
-    ghost use Rattle.fs_machine.specs.Commit.{after_commit, arrived, carried, carried_answer, commit_answer, commit_refusal, decision, decision_behind, drawn, journal_count, journal_size, next_batch, next_time, outbox_is_full, outbox_refusal, retry_refusal};
+    ghost use Rattle.fs_machine.specs.Commit.{author_refusal, commit_retry_refusal, committed, committed_answer, committed_answer_unless, committed_unless, next_commit, prepared};
+    ghost use Rattle.fs_machine.specs.Conflict.{conflict};
+    ghost use Rattle.fs_machine.specs.IdsAreDrawn.{times_in};
+    ghost use Rattle.fs_machine.specs.Past.{batches};
+    ghost use Rattle.fs_machine.specs.Refusing.{next_time};
+    ghost use Rattle.fs_machine.specs.Request.{writer_behind};
+    ghost use Rattle.fs_machine.specs.Transact.{with_ended};
+    ghost use Rattle.fs_machine.specs.declared.answer.Answer.TheVariants.{Prepared, Reply};
+    ghost use Rattle.fs_server.specs.Changes.{Does, asking};
 
-    /// A commit of these writes comes.
+    /// A commit of these writes that nothing holds: what it is answered, and what it changes.
     /// (docs/DECISIONS.md, "A commit is copied once, into the journal".)
     pub(crate) fn commit(
-        &mut self,
-        alloc: Global,
-        session: u32,
-        envelope: &Envelope,
-        writes: &Writes,
-    ) -> Result<Answer, AllocError>
-        ensures told { IfOk result (λ a. a ≡ commit_answer self.old session envelope.now writes.now) }
-        ensures state { OnOk result (self.new ≡ after_commit self.old session envelope.now writes.now) }
-        ensures err { OnErr result (self.new ≡ self.old) }
-    {
-        match self.commit_refusal(alloc, session, writes)? {
-            Some(refusal) => Ok(Answer::Refused(refusal)),
-            None => self.carry(alloc, session, envelope, writes),
-        }
-    }
-
-    // It passes no limit: it goes on, or waits.
-    fn carry(
-        &mut self,
-        alloc: Global,
-        session: u32,
-        envelope: &Envelope,
-        writes: &Writes,
-    ) -> Result<Answer, AllocError>
-        requires time { IsMoment (next_time self.old.past) }
-        requires ids { self.old.numbers.ids < self.old.limits.ids }
-        requires room { journal_size self.old.past + commit_size writes.now [] ≤ self.old.limits.journal }
-        ensures told { IfOk result (λ a. a ≡ carried_answer self.old.past (arrived self.old session envelope.now) (decision self.old writes.now)) }
-        ensures state { OnOk result (self.new ≡ carried (drawn self.old) (arrived self.old session envelope.now) writes.now (decision self.old writes.now)) }
-        ensures err { OnErr result (self.new ≡ self.old) }
-    {
-        self.stand();
-        self.past.hold_all(alloc)?;
-        let id = Id::new(self.numbers.ids + 1);
-        match self.past.behind(writes.as_slice(), id) {
-            Some(holder) => self.park(alloc, session, envelope, holder),
-            None => self.prepare(alloc, session, envelope, writes),
-        }
-    }
-
-    // It is held by the commit of this number, so it waits, unless as many wait as may.
-    fn park(
-        &mut self,
-        alloc: Global,
-        session: u32,
-        envelope: &Envelope,
-        holder: Id,
-    ) -> Result<Answer, AllocError>
-        requires { self.old.numbers.ids < self.old.limits.ids }
-        ensures told { IfOk result (λ a. a ≡ carried_answer self.old.past (arrived self.old session envelope.now) (decision_behind self.old (Some holder))) }
-        ensures state { OnOk result ((writes : List Write) → self.new ≡ carried (drawn self.old) (arrived self.old session envelope.now) writes (decision_behind self.old (Some holder))) }
-        ensures err { OnErr result (self.new ≡ self.old) }
-    {
-        if self.waiting_is_full() {
-            let refusal = Refusal::at_limit(alloc, "parked", self.limits.parked)?;
-            self.numbers.ids += 1;
-            return Ok(Answer::Refused(refusal));
-        }
-        let request = ParkedRequest {
-            session,
-            id: Id::new(self.numbers.ids + 1),
-            envelope: envelope.copy(alloc)?,
-        };
-        self.waiting.push(request)?;
-        self.numbers.ids += 1;
-        Ok(Answer::Held(holder))
-    }
-
-    // It is held by none.
-    fn prepare(
-        &mut self,
-        alloc: Global,
-        session: u32,
-        envelope: &Envelope,
-        writes: &Writes,
-    ) -> Result<Answer, AllocError>
-        requires time { IsMoment (next_time self.old.past) }
-        requires ids { self.old.numbers.ids < self.old.limits.ids }
-        requires room { journal_size self.old.past + commit_size writes.now [] ≤ self.old.limits.journal }
-        requires free { behind self.old.past writes.now ≡ None }
-        ensures told { IfOk result (λ a. a ≡ carried_answer self.old.past (arrived self.old session envelope.now) (decision_behind self.old None)) }
-        ensures state { OnOk result (self.new ≡ carried (drawn self.old) (arrived self.old session envelope.now) writes.now (decision_behind self.old None)) }
-        ensures err { OnErr result (self.new ≡ self.old) }
-    {
-        let id = Id::new(self.numbers.ids + 1);
-        let time = self.past.next_time();
-        let writes = writes.copy(alloc)?;
-        let commit = self.next_commit(alloc, session, id, &envelope.id, writes)?;
-        self.past.prepare(alloc, commit)?;
-        self.numbers.ids += 1;
-        Ok(Answer::Prepared(id, time))
-    }
-
-    /// The commit of these writes, at the next time.
-    pub(crate) fn next_commit(
         &self,
         alloc: Global,
         session: u32,
         id: Id,
-        request: &Option<Text>,
-        writes: Writes,
+        envelope: &Envelope,
+        writes: &Writes,
+        transaction: &Option<Id>,
+    ) -> Result<(Answer, Change), AllocError>
+        requires limits { commit_retry_refusal self.now writes.now transaction.now ≡ None }
+        requires check { author_refusal self.now writes.now transaction.now ≡ None }
+        requires free { writer_behind self.now writes.now transaction.now ≡ None }
+        requires fresh { transaction.now ≡ None → times_in id (batches self.now.past.unreleased) ≡ 0 }
+        ensures { IfOk result (λ d. Does self.now (committed_answer self.now (asking session id envelope.now) writes.now transaction.now)
+            (committed self.now (asking session id envelope.now) writes.now transaction.now) d) }
+    {
+        match transaction {
+            Some(author) => self.commit_in(alloc, session, id, envelope, writes, *author),
+            None => self.commit_plain(alloc, session, id, envelope, writes),
+        }
+    }
+
+    // One of no transaction.
+    fn commit_plain(
+        &self,
+        alloc: Global,
+        session: u32,
+        id: Id,
+        envelope: &Envelope,
+        writes: &Writes,
+    ) -> Result<(Answer, Change), AllocError>
+        requires limits { commit_retry_refusal self.now writes.now None ≡ None }
+        requires free { writer_behind self.now writes.now None ≡ None }
+        requires fresh { times_in id (batches self.now.past.unreleased) ≡ 0 }
+        ensures { IfOk result (λ d. Does self.now (Prepared id (next_time self.now.past))
+            (prepared self.now (next_commit self.now.past id (asking session id envelope.now) writes.now [])) d) }
+    {
+        self.stand();
+        self.has_time();
+        let reads = Reads::new(alloc);
+        let commit = self.next_commit(alloc, session, id, envelope, writes, reads)?;
+        Ok((
+            Answer::Prepared(id, commit.time()),
+            Change::Prepares(commit),
+        ))
+    }
+
+    // The commit of these writes, whose transaction made these reads, at the next time.
+    fn next_commit(
+        &self,
+        alloc: Global,
+        session: u32,
+        id: Id,
+        envelope: &Envelope,
+        writes: &Writes,
+        reads: Reads,
     ) -> Result<Unreleased, AllocError>
         requires { IsMoment (next_time self.now.past) }
-        ensures { IfOk result (λ u. u ≡ record { batch = next_batch self.now.past id writes []; session = session; request = request.now; results = None }) }
+        ensures { IfOk result (λ u. u ≡ next_commit self.now.past id (asking session id envelope.now) writes.now reads) }
     {
         Ok(Unreleased {
             batch: Batch {
                 time: self.past.next_time(),
                 id,
-                writes,
-                reads: Reads::new(alloc),
+                writes: writes.copy(alloc)?,
+                reads,
             },
             session,
-            request: copy_id(alloc, request)?,
+            request: copy_id(alloc, &envelope.id)?,
             results: None,
         })
     }
 
-    // The limit that a commit would pass, the first of several.
-    fn commit_refusal(
+    // ---- of a transaction
+
+    fn commit_in(
         &self,
         alloc: Global,
         session: u32,
+        id: Id,
+        envelope: &Envelope,
         writes: &Writes,
-    ) -> Result<Option<Refusal>, AllocError>
-        ensures told { IfOk result (λ r. r ≡ commit_refusal self.now session writes.now) }
-        ensures time { IfOk result (λ r. IfNone r (IsMoment (next_time self.now.past))) }
-        ensures ids { IfOk result (λ r. IfNone r (self.now.numbers.ids < self.now.limits.ids)) }
-        ensures room { IfOk result (λ r. IfNone r (journal_size self.now.past + commit_size writes.now [] ≤ self.now.limits.journal)) }
+        author: Id,
+    ) -> Result<(Answer, Change), AllocError>
+        requires limits { commit_retry_refusal self.now writes.now (Some author) ≡ None }
+        requires check { author_refusal self.now writes.now (Some author) ≡ None }
+        requires free { behind self.now.past writes.now ≡ None }
+        ensures { IfOk result (λ d. Does self.now (committed_answer self.now (asking session id envelope.now) writes.now (Some author))
+            (committed self.now (asking session id envelope.now) writes.now (Some author)) d) }
     {
-        let limits = &self.limits;
-        if writes.len() as u64 > limits.writes {
-            return at_limit(alloc, "writes", limits.writes);
+        let txn = self.open_one(author);
+        match txn.kind {
+            Kind::ReadOnly => self.end_reading(alloc, envelope, txn),
+            Kind::ReadWrite => self.commit_writing(alloc, session, id, envelope, writes, txn),
         }
-        if self.outbox_is_full(session) {
-            return at_limit(alloc, "outbox", limits.outbox);
-        }
-        if self.batches_are_full() {
-            return at_limit(alloc, "batches", limits.batches);
-        }
-        if self.is_too_large(alloc, writes) {
-            return at_limit(alloc, "journal", limits.journal);
-        }
-        if self.numbers.ids >= limits.ids {
-            return at_limit(alloc, "ids", limits.ids);
-        }
-        if self.is_late() {
-            return at_limit(alloc, "time", limits.time);
-        }
-        Ok(None)
     }
 
-    /// The limit that one would pass by now that waited, the first of several.
-    pub(crate) fn retry_refusal(
+    // One that only reads ends without a commit. It is told the time at which it read.
+    fn end_reading(
         &self,
         alloc: Global,
-        writes: &Writes,
-    ) -> Result<Option<Refusal>, AllocError>
-        ensures told { IfOk result (λ r. r ≡ retry_refusal self.now writes.now) }
-        ensures time { IfOk result (λ r. IfNone r (IsMoment (next_time self.now.past))) }
-        ensures room { IfOk result (λ r. IfNone r (journal_size self.now.past + commit_size writes.now [] ≤ self.now.limits.journal)) }
+        envelope: &Envelope,
+        txn: &Txn,
+    ) -> Result<(Answer, Change), AllocError>
+        ensures { IfOk result (λ d. Does self.now (Reply (message.Commit envelope.now.id txn.now.read_time [])) (with_ended self.now txn.now.id) d) }
     {
-        let limits = &self.limits;
-        if self.batches_are_full() {
-            return at_limit(alloc, "batches", limits.batches);
-        }
-        if self.is_too_large(alloc, writes) {
-            return at_limit(alloc, "journal", limits.journal);
-        }
-        if self.is_late() {
-            return at_limit(alloc, "time", limits.time);
-        }
-        Ok(None)
+        let reply = Message::Commit {
+            id: copy_id(alloc, &envelope.id)?,
+            time: txn.read_time,
+            results: WriteResults::new(alloc),
+        };
+        Ok((Answer::Reply(reply), Change::Ends(txn.id)))
     }
 
-    // Whether so many messages wait for a session that it may ask nothing.
-    fn outbox_is_full(&self, session: u32) -> bool
-        ensures { result ≡ outbox_is_full self.now session }
-    {
-        self.limits.outbox <= self.sessions.outbox_len(session) as u64
-    }
-
-    // Whether as many requests wait as may.
-    fn waiting_is_full(&self) -> bool
-        ensures { result ≡ nat_le self.now.limits.parked (length self.now.parked) }
-    {
-        self.limits.parked <= self.waiting.len() as u64
-    }
-
-    // Whether there are as many batches as may be.
-    fn batches_are_full(&self) -> bool
-        ensures { result ≡ nat_le self.now.limits.batches (journal_count self.now.past) }
-    {
-        u128::from(self.limits.batches) <= self.past.count()
-    }
-
-    // Whether a batch of these writes would take more than is left.
-    fn is_too_large(&self, alloc: Global, writes: &Writes) -> bool
-        ensures { result ≡ nat_lt self.now.limits.journal (journal_size self.now.past + commit_size writes.now []) }
-    {
-        u128::from(self.limits.journal) < self.size_with(alloc, writes)
-    }
-
-    // What the history and the commits behind it would count with a batch of these writes.
-    fn size_with(&self, alloc: Global, writes: &Writes) -> u128
-        ensures { result ≡ min (journal_size self.now.past + commit_size writes.now []) (2 ^ 128 - 1) }
-    {
-        let size = commit_size(writes, &Reads::new(alloc));
-        self.past.size().saturating_add(size)
-    }
-
-    // Whether the next commit would come later than any may.
-    fn is_late(&self) -> bool
-        ensures told { result ≡ int_lt (pos self.now.limits.time) (next_time self.now.past) }
-        ensures moment { result ≡ false → IsMoment (next_time self.now.past) }
-    {
-        self.past.last().get() >= self.limits.time as i64
-    }
-
-    /// Why a session may ask nothing.
-    pub(crate) fn outbox_refusal(
+    // One that is in conflict is aborted.
+    fn commit_writing(
         &self,
         alloc: Global,
         session: u32,
-    ) -> Result<Option<Refusal>, AllocError>
-        ensures { IfOk result (λ r. r ≡ outbox_refusal self.now session) }
+        id: Id,
+        envelope: &Envelope,
+        writes: &Writes,
+        txn: &Txn,
+    ) -> Result<(Answer, Change), AllocError>
+        requires limits { commit_retry_refusal self.now writes.now (Some txn.now.id) ≡ None }
+        requires there { txn_of txn.now.id self.now.txns.open ≡ Some txn.now }
+        requires kind { is_read_write txn.now.kind ≡ true }
+        requires free { behind self.now.past writes.now ≡ None }
+        ensures { IfOk result (λ d. Does self.now
+            (committed_answer_unless self.now txn.now (conflict self.now.config.mode self.now.past self.now.txns.open txn.now writes.now))
+            (committed_unless self.now (asking session id envelope.now) writes.now txn.now (conflict self.now.config.mode self.now.past self.now.txns.open txn.now writes.now)) d) }
     {
-        match self.outbox_is_full(session) {
-            true => at_limit(alloc, "outbox", self.limits.outbox),
-            false => Ok(None),
+        match self.conflict(alloc, txn, writes)? {
+            Some(other) => Ok((
+                Answer::Refused(Refusal::conflict_with(other)),
+                Change::Ends(txn.id),
+            )),
+            None => self.commit_free(alloc, session, id, envelope, writes, txn),
         }
+    }
+
+    // It is in conflict with nothing.
+    fn commit_free(
+        &self,
+        alloc: Global,
+        session: u32,
+        id: Id,
+        envelope: &Envelope,
+        writes: &Writes,
+        txn: &Txn,
+    ) -> Result<(Answer, Change), AllocError>
+        requires limits { commit_retry_refusal self.now writes.now (Some txn.now.id) ≡ None }
+        requires there { txn_of txn.now.id self.now.txns.open ≡ Some txn.now }
+        requires kind { is_read_write txn.now.kind ≡ true }
+        requires free { behind self.now.past writes.now ≡ None }
+        requires none { conflict self.now.config.mode self.now.past self.now.txns.open txn.now writes.now ≡ None }
+        ensures { IfOk result (λ d. Does self.now (Prepared txn.now.id (next_time self.now.past))
+            (prepared (with_ended self.now txn.now.id) (next_commit self.now.past txn.now.id (asking session id envelope.now) writes.now txn.now.reads)) d) }
+    {
+        self.stand();
+        self.has_time();
+        let reads = txn.reads.copy(alloc)?;
+        let commit = self.next_commit(alloc, session, txn.id, envelope, writes, reads)?;
+        Ok((
+            Answer::Prepared(txn.id, commit.time()),
+            Change::Commits(commit),
+        ))
     }
 }

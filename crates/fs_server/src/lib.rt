@@ -2,7 +2,12 @@
 //! Each call is one event of the server, and its contract is that event's definition.
 #![tactic(auto)]
 
+mod carry;
+mod changes;
+mod check;
 mod commit;
+mod limits;
+mod numbers;
 mod open;
 mod read;
 mod request;
@@ -10,7 +15,9 @@ mod retry;
 mod server;
 mod sessions;
 mod settle;
+mod shown;
 mod waiting;
+mod waits;
 
 pub use fs_machine::{Answer, Config, Limits, Messages, Mode, Outcome, Parked, Settled};
 pub use fs_past::Version;

@@ -1,5 +1,5 @@
 //! Reads as of a time.
-ghost use Rattle.std.specs.Prelude.{◌≡◌, ◌≤ℤ◌, IfOk, IfNone, Some, map, codes};
+ghost use Rattle.std.specs.Prelude.{◌≡◌, ◌≤ℤ◌, IfOk, Some, map, codes};
 ghost use Rattle.fs_path.specs.Place.{member_place};
 ghost use Rattle.fs_path.specs.declared.place.Rule.TheVariants.{Q};
 ghost use Rattle.fs_status.specs.Refusal.{refusal_of};
@@ -7,7 +7,7 @@ ghost use Rattle.fs_status.specs.declared.reason.Reason.TheVariants as reasons;
 ghost use Rattle.fs_machine.specs.Request.{query_refusal};
 ghost use Rattle.std.specs.FinMap.{get, values};
 ghost use Rattle.fs_history.specs.History.{at};
-ghost use Rattle.fs_machine.specs.Read.{batch_answers, batch_get_answer, document_answer, get_answer, masked, query_answer, read_time, run_answer, time_refusal, told_of};
+ghost use Rattle.fs_machine.specs.Read.{batch_answers, batch_get_answer, get_answer, masked, query_answer, run_answer, time_refusal, told_of};
 ghost use Rattle.fs_query.specs.AnswerTo.{answer_to};
 
 use fs_machine::Answer;
@@ -20,21 +20,9 @@ use fs_time::Micros;
 use fs_value::{Document, Documents};
 use std::alloc::{AllocError, Global};
 
-/// The time of a read: the one that is asked for, or the released one.
-pub(crate) fn read_time(past: &Past, asked: Option<Micros>) -> Micros
-    ensures { result ≡ read_time past.now asked }
-{
-    match asked {
-        Some(time) => time,
-        None => past.released(),
-    }
-}
-
-// Why a time can't be read.
-fn time_refusal(past: &Past, time: Micros) -> Option<Refusal>
+/// Why a time can't be read.
+pub(crate) fn time_refusal(past: &Past, time: Micros) -> Option<Refusal>
     ensures value { result ≡ time_refusal past.now time }
-    ensures from { IfNone result (past.now.floor ≤ℤ time) }
-    ensures to { IfNone result (time ≤ℤ past.now.released) }
 {
     let floor = past.floor();
     if time < floor {
@@ -59,24 +47,8 @@ fn masked(alloc: Global, document: &Document, mask: &Option<Paths>) -> Result<Do
 
 // ---- one document
 
-/// Reads a document.
+/// Reads a document, at a time that can be read.
 pub(crate) fn read_document(
-    alloc: Global,
-    past: &Past,
-    id: &Option<Text>,
-    name: &DocName,
-    mask: &Option<Paths>,
-    time: Micros,
-) -> Result<Answer, AllocError>
-    ensures { IfOk result (λ a. a ≡ get_answer past.now id.now name.now mask.now time) }
-{
-    match time_refusal(past, time) {
-        Some(refusal) => Ok(Answer::Refused(refusal)),
-        None => document_at(alloc, past, id, name, mask, time),
-    }
-}
-
-fn document_at(
     alloc: Global,
     past: &Past,
     id: &Option<Text>,
@@ -86,7 +58,7 @@ fn document_at(
 ) -> Result<Answer, AllocError>
     requires from { past.now.floor ≤ℤ time }
     requires to { time ≤ℤ past.now.released }
-    ensures { IfOk result (λ a. a ≡ document_answer id.now time mask.now (get (at past.now.history time) name.now)) }
+    ensures { IfOk result (λ a. a ≡ get_answer past.now id.now name.now mask.now time) }
 {
     match past.get(name, time) {
         Some(document) => Ok(Answer::Reply(Message::GetDocument {
@@ -99,7 +71,7 @@ fn document_at(
 
 // ---- several documents
 
-/// Reads several documents, in the order of their names in the request.
+/// Reads several documents, in the order of their names in the request, at a time that can be read.
 pub(crate) fn read_batch(
     alloc: Global,
     past: &Past,
@@ -108,15 +80,14 @@ pub(crate) fn read_batch(
     mask: &Option<Paths>,
     time: Micros,
 ) -> Result<Answer, AllocError>
+    requires from { past.now.floor ≤ℤ time }
+    requires to { time ≤ℤ past.now.released }
     ensures { IfOk result (λ a. a ≡ batch_get_answer past.now id.now names.now mask.now time) }
 {
-    match time_refusal(past, time) {
-        Some(refusal) => Ok(Answer::Refused(refusal)),
-        None => Ok(Answer::Reply(Message::BatchGetDocuments {
-            id: copy_id(alloc, id)?,
-            answers: all_at(alloc, past, names, mask, time)?,
-        })),
-    }
+    Ok(Answer::Reply(Message::BatchGetDocuments {
+        id: copy_id(alloc, id)?,
+        answers: all_at(alloc, past, names, mask, time)?,
+    }))
 }
 
 fn all_at(
@@ -175,7 +146,7 @@ fn broken(alloc: Global, rule: QueryRule) -> Result<Refusal, AllocError>
     Ok(Refusal::of(Reason::Rule(Rule::Q(rule.number, rule.count), place)))
 }
 
-/// Runs a query. Only the documents that it answers are copied.
+/// Runs a query, at a time that can be read. Only the documents that it answers are copied.
 pub(crate) fn read_query(
     alloc: Global,
     past: &Past,
@@ -183,16 +154,15 @@ pub(crate) fn read_query(
     query: &Query,
     time: Micros,
 ) -> Result<Answer, AllocError>
+    requires from { past.now.floor ≤ℤ time }
+    requires to { time ≤ℤ past.now.released }
     ensures { IfOk result (λ a. a ≡ run_answer past.now id.now query.now time) }
 {
-    match time_refusal(past, time) {
-        Some(refusal) => Ok(Answer::Refused(refusal)),
-        None => Ok(Answer::Reply(Message::RunQuery {
-            id: copy_id(alloc, id)?,
-            documents: answer_at(alloc, past, query, time)?,
-            time,
-        })),
-    }
+    Ok(Answer::Reply(Message::RunQuery {
+        id: copy_id(alloc, id)?,
+        documents: answer_at(alloc, past, query, time)?,
+        time,
+    }))
 }
 
 fn answer_at(

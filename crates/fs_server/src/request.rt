@@ -1,29 +1,33 @@
 //! Requests.
-use crate::read::{query_refusal, read_batch, read_document, read_query, read_time};
+use crate::changes::make;
+use crate::numbers::{ids_after, number_of};
 use crate::server::Server;
-use fs_machine::Answer;
-use fs_path::{DocName, Names, Paths, Text};
-use fs_query::Query;
-use fs_rpc::{Envelope, Request};
-use fs_status::{Reason, Refusal};
-use fs_time::Micros;
+use fs_history::Reads;
+use fs_machine::{Answer, ParkedRequest};
+use fs_rpc::Envelope;
+use fs_status::{Id, Reason, Refusal};
 use std::alloc::{AllocError, Global};
 
 impl Server {
-    ghost use Rattle.std.specs.Prelude.{◌≡◌, ◌≢◌, IfOk, OnOk, OnErr};
+    ghost use Rattle.std.specs.Prelude.{◌≡◌, ◌≢◌, None, Some, nat_le, length, IfOk, OnOk, OnErr};
     ghost use Rattle.fs_status.specs.Refusal.{refusal_of};
     ghost use Rattle.fs_status.specs.declared.reason.Reason.TheVariants.{Memory};
-    ghost use Rattle.fs_machine.specs.Read.{batch_get_answer, get_answer, read_time, run_answer, unless_refused};
-    ghost use Rattle.fs_machine.specs.Request.{answered, asked, query_refusal, read_answer};
     ghost use Rattle.fs_machine.specs.Grows.{Grows};
+    ghost use Rattle.fs_machine.specs.Request.{answered, arrival_refusal, asked, check_refusal, held_by};
     ghost use Rattle.fs_machine.specs.declared.answer.Answer.TheVariants.{Refused};
+    ghost use Rattle.fs_server.specs.Noted.{noted_reads};
 
     /// A request comes on a session: what it is answered at once. A commit that passes no limit is prepared, and its reply comes
     /// to the outbox of the session once it is settled and released. One that writes a name which a commit writes that isn't released
-    /// yet waits (`Held`), until it is tried again. Reads are answered as of the time that they ask for, or of what is released. Of
-    /// several refusals the first of these is told: a rule of queries that is broken; limits, in the order in which `Limits` has them; a
-    /// read time that is too old or too new; that as many requests wait as may; that no document is there. Where memory runs out, all is
-    /// as before. (v1 reference, "Commit", "GetDocument", "BatchGetDocuments", "RunQuery".)
+    /// yet waits (`Held`), until it is tried again; in pessimistic mode a commit of no transaction waits too for the open transactions that
+    /// have read what it writes, and a read in a read-write transaction for the commits that aren't released and write what it reads.
+    /// Reads are answered as of the time that they ask for, or of what is released, or of their transaction's. A transaction begins, and
+    /// ends by its commit or a rollback; the commit of one that is in conflict is aborted.
+    ///
+    /// Of several refusals the first of these is told: a rule of queries that is broken; limits, in the order in which `Limits` has them; a
+    /// transaction that isn't open, or only reads and is to write; a read time that is too old or too new; that as many requests wait as
+    /// may; a conflict; that no document is there. Where memory runs out, all is as before. (v1 reference, "Commit", "GetDocument",
+    /// "BatchGetDocuments", "RunQuery", "BeginTransaction", "Rollback".)
     pub fn request(&mut self, alloc: Global, session: u32, envelope: &Envelope) -> Answer
         ensures told { result ≢ Refused (refusal_of Memory) → result ≡ answered self.old session envelope.now }
         ensures state { result ≢ Refused (refusal_of Memory) → self.new ≡ asked self.old session envelope.now }
@@ -47,105 +51,118 @@ impl Server {
         ensures state { OnOk result (self.new ≡ asked self.old session envelope.now) }
         ensures err { OnErr result (self.new ≡ self.old) }
     {
-        let id = &envelope.id;
-        match &envelope.request {
-            Request::Commit { writes, .. } => self.commit(alloc, session, envelope, writes),
-            Request::GetDocument {
-                name,
-                mask,
-                read_time,
-            } => self.get(alloc, session, id, name, mask, *read_time),
-            Request::BatchGetDocuments {
-                documents,
-                mask,
-                read_time,
-                ..
-            } => self.batch_get(alloc, session, id, documents, mask, *read_time),
-            Request::RunQuery {
-                query,
-                read_time,
-                ..
-            } => self.run(alloc, session, id, query, *read_time),
+        let reads = self.shown(alloc, &envelope.request)?;
+        match self.arrival_refusal(alloc, session, &envelope.request, &reads)? {
+            Some(refusal) => Ok(Answer::Refused(refusal)),
+            None => self.arrive(alloc, session, envelope, reads),
         }
     }
 
-    fn get(
-        &self,
+    // It passes no limit: it draws its number, if it draws one.
+    fn arrive(
+        &mut self,
         alloc: Global,
         session: u32,
-        id: &Option<Text>,
-        name: &DocName,
-        mask: &Option<Paths>,
-        asked: Option<Micros>,
+        envelope: &Envelope,
+        reads: Reads,
     ) -> Result<Answer, AllocError>
-        ensures { IfOk result (λ a. a ≡ read_answer self.now session
-            (get_answer self.now.past id.now name.now mask.now (read_time self.now.past asked))) }
+        requires limits { arrival_refusal self.old session envelope.now.request ≡ None }
+        requires reads { reads ≡ noted_reads self.old envelope.now.request }
+        ensures told { IfOk result (λ a. a ≡ answered self.old session envelope.now) }
+        ensures state { OnOk result (self.new ≡ asked self.old session envelope.now) }
+        ensures err { OnErr result (self.new ≡ self.old) }
     {
-        match self.outbox_refusal(alloc, session)? {
-            Some(refusal) => Ok(Answer::Refused(refusal)),
-            None => {
-                let time = read_time(&self.past, asked);
-                read_document(alloc, &self.past, id, name, mask, time)
+        self.stand();
+        match self.check_refusal(&envelope.request) {
+            Some(refusal) => {
+                self.numbers.ids = ids_after(self.numbers.ids, &envelope.request);
+                Ok(Answer::Refused(refusal))
             }
+            None => self.wait_or_go(alloc, session, envelope, reads),
         }
     }
 
-    fn batch_get(
-        &self,
+    // It waits, or nothing holds it.
+    fn wait_or_go(
+        &mut self,
         alloc: Global,
         session: u32,
-        id: &Option<Text>,
-        names: &Names,
-        mask: &Option<Paths>,
-        asked: Option<Micros>,
+        envelope: &Envelope,
+        reads: Reads,
     ) -> Result<Answer, AllocError>
-        ensures { IfOk result (λ a. a ≡ read_answer self.now session
-            (batch_get_answer self.now.past id.now names.now mask.now (read_time self.now.past asked))) }
+        requires limits { arrival_refusal self.old session envelope.now.request ≡ None }
+        requires check { check_refusal self.old envelope.now.request ≡ None }
+        requires reads { reads ≡ noted_reads self.old envelope.now.request }
+        ensures told { IfOk result (λ a. a ≡ answered self.old session envelope.now) }
+        ensures state { OnOk result (self.new ≡ asked self.old session envelope.now) }
+        ensures err { OnErr result (self.new ≡ self.old) }
     {
-        match self.outbox_refusal(alloc, session)? {
-            Some(refusal) => Ok(Answer::Refused(refusal)),
-            None => {
-                let time = read_time(&self.past, asked);
-                read_batch(alloc, &self.past, id, names, mask, time)
-            }
+        self.past.hold_all(alloc)?;
+        match self.holder(alloc, &envelope.request, &reads)? {
+            Some(holder) => self.park(alloc, session, envelope, holder),
+            None => self.go(alloc, session, envelope, reads),
         }
     }
 
-    fn run(
-        &self,
+    // It waits for the one of this number, unless as many wait as may.
+    fn park(
+        &mut self,
         alloc: Global,
         session: u32,
-        id: &Option<Text>,
-        query: &Query,
-        asked: Option<Micros>,
+        envelope: &Envelope,
+        holder: Id,
     ) -> Result<Answer, AllocError>
-        ensures { IfOk result (λ a. a ≡ unless_refused (query_refusal query.now) (read_answer self.now session
-            (run_answer self.now.past id.now query.now (read_time self.now.past asked)))) }
+        requires limits { arrival_refusal self.old session envelope.now.request ≡ None }
+        requires check { check_refusal self.old envelope.now.request ≡ None }
+        requires held { held_by self.old envelope.now.request ≡ Some holder }
+        ensures told { IfOk result (λ a. a ≡ answered self.old session envelope.now) }
+        ensures state { OnOk result (self.new ≡ asked self.old session envelope.now) }
+        ensures err { OnErr result (self.new ≡ self.old) }
     {
-        match query_refusal(alloc, query)? {
-            Some(refusal) => Ok(Answer::Refused(refusal)),
-            None => self.run_permitted(alloc, session, id, query, asked),
+        self.stand();
+        if self.waiting_is_full() {
+            let refusal = Refusal::at_limit(alloc, "parked", self.limits.parked)?;
+            self.numbers.ids = ids_after(self.numbers.ids, &envelope.request);
+            return Ok(Answer::Refused(refusal));
         }
+        let request = ParkedRequest {
+            session,
+            id: number_of(self.numbers.ids, &envelope.request),
+            envelope: envelope.copy(alloc)?,
+        };
+        self.waiting.push(request)?;
+        self.numbers.ids = ids_after(self.numbers.ids, &envelope.request);
+        Ok(Answer::Held(holder))
     }
 
-    // Its query breaks no rule.
-    fn run_permitted(
-        &self,
+    // Nothing holds it.
+    fn go(
+        &mut self,
         alloc: Global,
         session: u32,
-        id: &Option<Text>,
-        query: &Query,
-        asked: Option<Micros>,
+        envelope: &Envelope,
+        reads: Reads,
     ) -> Result<Answer, AllocError>
-        ensures { IfOk result (λ a. a ≡ read_answer self.now session
-            (run_answer self.now.past id.now query.now (read_time self.now.past asked))) }
+        requires limits { arrival_refusal self.old session envelope.now.request ≡ None }
+        requires check { check_refusal self.old envelope.now.request ≡ None }
+        requires free { held_by self.old envelope.now.request ≡ None }
+        requires reads { reads ≡ noted_reads self.old envelope.now.request }
+        ensures told { IfOk result (λ a. a ≡ answered self.old session envelope.now) }
+        ensures state { OnOk result (self.new ≡ asked self.old session envelope.now) }
+        ensures err { OnErr result (self.new ≡ self.old) }
     {
-        match self.outbox_refusal(alloc, session)? {
-            Some(refusal) => Ok(Answer::Refused(refusal)),
-            None => {
-                let time = read_time(&self.past, asked);
-                read_query(alloc, &self.past, id, query, time)
-            }
-        }
+        self.stand();
+        let id = number_of(self.numbers.ids, &envelope.request);
+        let (answer, change) = self.carry_out(alloc, session, id, envelope, reads)?;
+        make(alloc, &mut self.past, &mut self.txns, change)?;
+        self.numbers.ids = ids_after(self.numbers.ids, &envelope.request);
+        Ok(answer)
+    }
+
+    // Whether as many requests wait as may.
+    fn waiting_is_full(&self) -> bool
+        ensures { result ≡ nat_le self.now.limits.parked (length self.now.parked) }
+    {
+        self.limits.parked <= self.waiting.len() as u64
     }
 }

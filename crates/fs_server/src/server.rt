@@ -9,12 +9,13 @@ use fs_past::{Past, Version};
 use fs_path::{DocName, Root};
 use fs_status::Id;
 use fs_time::Micros;
+use fs_txn::Txns;
 use std::alloc::{AllocError, Global};
 use std::marker::Model;
 
 /// A Cloud Firestore server. A commit is first prepared, which gives it its time, then what its writes come to is told, and
 /// with that it is settled. Any number may be pending, and they may be settled in any order; one is seen, and answered, once those before
-/// it are settled too.
+/// it are settled too. A transaction is open from its begin to its commit, or until it is rolled back or expires.
 ///
 ///     open                        session 0
 ///     request: commit of c/a      commit 1 is pending at t1, and nobody sees it
@@ -24,12 +25,21 @@ use std::marker::Model;
 ///     outcome and settle of 1     c/a and c/b can be read at t2, and session 0 has both replies to take, that of t1 first
 ///     retry of the first          commit 3 is pending at t3
 ///     tick to t9, compact to t5   once 3 is settled, times from t5 to t9 can be read
+///
+/// In pessimistic mode, where 3 was drawn last and nothing is pending:
+///
+///     request: begin              transaction 4 is open
+///     request: 4 reads c/a        answered, and noted
+///     request: commit of c/a      it draws 5, and waits for transaction 4, which has read c/a
+///     request: commit of c/b in 4 commit 4 is pending, and transaction 4 isn't open any more
+///     retry of the first          commit 5 is pending
 /// (docs/DECISIONS.md, "A server's state is cut into groups".)
 #[derive(Drop)]
 pub struct Server {
     pub(crate) config: Config,
     pub(crate) limits: Limits,
     pub(crate) past: Past,
+    pub(crate) txns: Txns,
     pub(crate) sessions: Sessions,
     // those that wait, in the order of their arrival
     pub(crate) waiting: Waiting,
@@ -49,12 +59,13 @@ impl Model for Server {
       config = s.config;
       limits = s.limits;
       past = s.past;
+      txns = s.txns;
       sessions = s.sessions;
       parked = s.waiting;
       numbers = s.numbers;
     } };
 
-    ghost invariant = { λ s. IsKept s.limits s.past s.sessions s.waiting s.numbers };
+    ghost invariant = { λ s. IsKept s.config s.limits s.past s.txns s.sessions s.waiting s.numbers };
 }
 
 impl Server {
@@ -83,6 +94,7 @@ impl Server {
             config,
             limits,
             past: Past::new(alloc, start),
+            txns: Txns::new(alloc),
             sessions: Sessions::new(alloc),
             waiting: Waiting::new(alloc),
             numbers: Numbers {
@@ -132,7 +144,7 @@ impl Server {
     }
 
     /// A session ends, if it is open. Messages that it was still to be sent are lost, and its requests that wait are withdrawn; its
-    /// pending commit goes on. It takes no memory.
+    /// pending commits go on, and so do its transactions. It takes no memory.
     pub fn leave(&mut self, session: u32)
         ensures state { self.new ≡ departed self.old session }
         ensures grows { Grows self.old.past self.new.past }
@@ -142,8 +154,8 @@ impl Server {
         self.waiting.withdraw(session);
     }
 
-    /// The clock goes on to a moment, and what can be is released: the time up to which can be read now. Where memory runs out,
-    /// the clock has gone on, and the release is owed: the next tick or settling makes it.
+    /// The clock goes on to a moment: transactions expire whose time has run out, and what can be is released: the time up to which can be
+    /// read now. Where memory runs out, the clock has gone on, and the release is owed: the next tick or settling makes it.
     pub fn tick(&mut self, alloc: Global, now: Micros) -> Result<Micros, AllocError>
         ensures ok { OnOk result (self.new ≡ ticked self.old now) }
         ensures told { IfOk result (λ t. t ≡ self.new.past.released) }
@@ -152,19 +164,20 @@ impl Server {
     {
         self.stand();
         self.past.advance(now);
+        self.txns.expire(now);
         release(alloc, &mut self.past, &mut self.sessions)?;
         Ok(self.past.released())
     }
 
-    /// Times before this one are given up, as far as what is released: the earliest time that can be read now. It takes no
-    /// memory. (Cloud Firestore documentation, "Point-in-time recovery": how far back can be read.)
+    /// Times before this one are given up, as far as what is released and no open transaction reads: the earliest time that can be read
+    /// now. It takes no memory. (Cloud Firestore documentation, "Point-in-time recovery": how far back can be read.)
     pub fn compact(&mut self, to: Micros) -> Micros
         ensures state { self.new ≡ compacted self.old to }
         ensures told { result ≡ self.new.past.floor }
         ensures grows { Grows self.old.past self.new.past }
     {
         self.stand();
-        self.past.compact(to)
+        self.past.compact(to, self.txns.oldest())
     }
 
     /// A session's messages, of which it has none left; none, where it isn't open. It takes no memory.
@@ -180,6 +193,7 @@ impl Server {
     // What stands at every moment, and whatever comes.
     pub(crate) fn stand(&self)
         ensures facts { Facts self.now }
+        ensures allowed { AreAllowed self.now.limits }
         ensures grows { AlwaysGrows }
     {
         machines_are_lawful();

@@ -1,16 +1,42 @@
 //! Requests as steps write them.
 use crate::short::{cut, moment, name_of, query, root, writes};
 use fs_path::Names;
-use fs_rpc::Request;
+use fs_rpc::{Request, TransactionOptions, When};
+use fs_status::Id;
 use fs_time::Micros;
 use std::alloc::Global;
 use std::process::Abort;
+
+fn id_of(rt: &impl Abort, text: &str) -> Id {
+    Id::new(text.parse::<u64>().expect(rt, "a number"))
+}
 
 // The time as of which something is read, if one is asked for.
 fn time_of(rt: &impl Abort, text: &str) -> Option<Micros> {
     match text {
         "" => None,
         _ => Some(moment(rt, text)),
+    }
+}
+
+// What stands before ` in 2`, and the transaction 2; or no transaction.
+fn in_transaction<'a>(rt: &impl Abort, text: &'a str) -> (&'a str, Option<Id>) {
+    match cut(text, " in ") {
+        (what, "") => (what, None),
+        (what, number) => (what, Some(id_of(rt, number))),
+    }
+}
+
+// What is read, which stands before ` in 2` or ` @1`, and when.
+fn when_of<'a>(rt: &impl Abort, text: &'a str) -> (&'a str, When) {
+    let (what, transaction) = in_transaction(rt, text);
+    if let Some(id) = transaction {
+        return (what, When::In(id));
+    }
+    let (what, time) = cut(text, " @");
+    match time_of(rt, time) {
+        Some(time) => (what, When::At(time)),
+        None => (what, When::Released),
     }
 }
 
@@ -23,46 +49,68 @@ fn names(rt: &impl Abort, alloc: Global, paths: &str) -> Names {
 }
 
 fn commit(rt: &impl Abort, alloc: Global, text: &str) -> Request {
+    let (text, transaction) = in_transaction(rt, text);
     Request::Commit {
         database: root(rt, alloc),
         writes: writes(rt, alloc, text),
+        transaction,
     }
 }
 
-fn batch_get_documents(
-    rt: &impl Abort,
-    alloc: Global,
-    paths: &str,
-    read_time: Option<Micros>,
-) -> Request {
+fn get_document(rt: &impl Abort, alloc: Global, text: &str) -> Request {
+    let (path, when) = when_of(rt, text);
+    Request::GetDocument {
+        name: name_of(rt, alloc, path),
+        mask: None,
+        when,
+    }
+}
+
+fn batch_get_documents(rt: &impl Abort, alloc: Global, text: &str) -> Request {
+    let (paths, when) = when_of(rt, text);
     Request::BatchGetDocuments {
         database: root(rt, alloc),
         documents: names(rt, alloc, paths),
         mask: None,
-        read_time,
+        when,
     }
 }
 
-fn run_query(rt: &impl Abort, alloc: Global, scope: &str, read_time: Option<Micros>) -> Request {
+fn run_query(rt: &impl Abort, alloc: Global, text: &str) -> Request {
+    let (scope, when) = when_of(rt, text);
     Request::RunQuery {
         database: root(rt, alloc),
         query: query(rt, alloc, scope),
-        read_time,
+        when,
     }
 }
 
-/// The request of a method, as `commit` and `c/a=1`, or `get` and `c/a @1`: what is read stands before ` @` and a time.
+// One that reads and writes, or one that only reads: `reading`, or `reading @1`.
+fn begin(rt: &impl Abort, alloc: Global, text: &str) -> Request {
+    let (kind, time) = cut(text, " @");
+    let options = match kind {
+        "reading" => TransactionOptions::ReadOnly {
+            read_time: time_of(rt, time),
+        },
+        _ => TransactionOptions::ReadWrite,
+    };
+    Request::BeginTransaction {
+        database: root(rt, alloc),
+        options,
+    }
+}
+
+/// The request of a method, as `commit` and `c/a=1 in 2`, `get` and `c/a @1`, or `begin` and `reading`.
 pub(crate) fn request(rt: &impl Abort, alloc: Global, method: &str, text: &str) -> Request {
-    let (what, time) = cut(text, " @");
-    let read_time = time_of(rt, time);
     match method {
-        "commit" => commit(rt, alloc, what),
-        "all" => batch_get_documents(rt, alloc, what, read_time),
-        "query" => run_query(rt, alloc, what, read_time),
-        "get" => Request::GetDocument {
-            name: name_of(rt, alloc, what),
-            mask: None,
-            read_time,
+        "commit" => commit(rt, alloc, text),
+        "all" => batch_get_documents(rt, alloc, text),
+        "query" => run_query(rt, alloc, text),
+        "get" => get_document(rt, alloc, text),
+        "begin" => begin(rt, alloc, text),
+        "rollback" => Request::Rollback {
+            database: root(rt, alloc),
+            transaction: id_of(rt, text),
         },
         _ => panic!(rt; "no such step"),
     }

@@ -1,6 +1,6 @@
 //! Limits as cases write them.
 use crate::short::cut;
-use fs_server::Limits;
+use fs_server::{Limits, Mode};
 use std::process::Abort;
 
 // Another number under a name, as `ids 2`.
@@ -11,12 +11,22 @@ fn set_limit(rt: &impl Abort, limits: &mut Limits, text: &str) {
         "writes" => limits.writes = number,
         "outbox" => limits.outbox = number,
         "sessions" => limits.sessions = number,
+        "transactions" => limits.transactions = number,
         "parked" => limits.parked = number,
         "batches" => limits.batches = number,
         "journal" => limits.journal = number,
+        "reads" => limits.reads = number,
         "ids" => limits.ids = number,
         "time" => limits.time = number,
         _ => panic!(rt; "no such limit"),
+    }
+}
+
+/// Optimistic where the limits begin so, else pessimistic; and the rest of them.
+pub(crate) fn mode_of(text: &str) -> (Mode, &str) {
+    match text.strip_prefix("optimistic, ") {
+        Some(limits) => (Mode::Optimistic, limits),
+        None => (Mode::Pessimistic, text),
     }
 }
 

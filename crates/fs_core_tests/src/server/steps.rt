@@ -3,26 +3,27 @@ ghost use Rattle.std.specs.Prelude.{◌<◌, IsSome, length};
 ghost use Rattle.fs_machine.specs.Settle.{pending_of};
 
 use crate::server::asked::request;
-use crate::server::limits::limits_of;
+use crate::server::limits::{limits_of, mode_of};
 use crate::server::told::{
     push_answer, push_chain, push_count, push_messages, push_open, push_outcome, push_parked,
     push_settled,
 };
 use crate::short::{cut, micros, moment, name_of, push_moment, root};
 use fs_rpc::Envelope;
-use fs_server::{Config, Mode, Server};
+use fs_server::{Config, Server};
 use fs_status::Id;
 use std::alloc::{AllocError, Global};
 use std::fmt::Write as _;
 use std::process::Abort;
 
-/// A server with these limits, at moment 0.
+/// A server with these limits, at moment 0; optimistic where they begin so.
 pub(crate) fn server(rt: &impl Abort, alloc: Global, limits: &str) -> Server {
+    let (mode, limits) = mode_of(limits);
     let limits = limits_of(rt, limits);
     assert!(rt; limits.are_allowed());
     let config = Config {
         root: root(rt, alloc),
-        mode: Mode::Pessimistic,
+        mode,
         shards: 4,
     };
     Server::new(alloc, config, limits, micros(rt, 0))

@@ -86,7 +86,37 @@ greatest | open = 0 | tick 9 = 9 | get 0 c/a = none at 9 | tick 5 = 9 | commit 0
 // times are given up as far as what is released, and for good
 greatest | open = 0 | commit 0 c/a=1 = pending 1 at 1 | settle = released at 1 | tick 9 = 9 | compact 5 = 5 | compact 3 = 5 | get 0 c/a @4 = 4 is before 5 | get 0 c/a @5 = 1 | get 0 c/a @9 = 1 | get 0 c/a @10 = 10 is after 9 | compact 12 = 9 | get 0 c/a @8 = 8 is before 9 | get 0 c/a = 1
 // a deleted document's chain ends with its times
-greatest | open = 0 | commit 0 c/a=1 = pending 1 at 1 | settle = released at 1 | commit 0 c/a=- = pending 2 at 2 | settle = released at 2 | chain c/a = 1:1 2:- | compact 1 = 1 | chain c/a = 1:1 2:- | compact 2 = 2 | chain c/a = none | chain c/b = none"#;
+greatest | open = 0 | commit 0 c/a=1 = pending 1 at 1 | settle = released at 1 | commit 0 c/a=- = pending 2 at 2 | settle = released at 2 | chain c/a = 1:1 2:- | compact 1 = 1 | chain c/a = 1:1 2:- | compact 2 = 2 | chain c/a = none | chain c/b = none
+// what one has read is held from plain commits until it ends, and the documents of a query's scope are
+greatest | open = 0 | begin 0 = begun 1 | get 0 c/a in 1 = none at 0 | query 0 c/a/d in 1 = at 0 | commit 0 c/a=1 = held behind 1 | commit 0 c/a/d/x=1 = held behind 1 | commit 0 c/b=1 = pending 4 at 1 | waits 1 = 0 held behind 1 | rollback 0 1 = rolled back | retry 0 = pending 2 at 2 | retry 0 = pending 3 at 3
+// of two that have read a name, the first that writes it is aborted and open no more
+greatest | open = 0 | begin 0 = begun 1 | begin 0 = begun 2 | get 0 c/a in 1 = none at 0 | all 0 c/a c/b in 2 = - - | commit 0 c/a=1 in 1 = conflict with 2 | get 0 c/a in 1 = transaction 1 is not open | commit 0 c/a=2 in 2 = pending 2 at 1 | settle = released at 1 | take 0 = at 1: 1 | commit 0  in 2 = transaction 2 is not open
+// one reads what is released, and waits for a commit that isn't
+greatest | open = 0 | begin 0 = begun 1 | commit 0 c/a=1 = pending 2 at 1 | get 0 c/b in 1 = none at 0 | all 0 c/b c/a in 1 = held behind 2 | query 0 c in 1 = held behind 2 | get 0 c/a = none at 0 | settle = released at 1 | retry 0 = - 1 | retry 0 = 1 at 1
+// its commit waits for one that writes a name of its own, and the transaction is open till then
+greatest | open = 0 | begin 0 = begun 1 | commit 0 c/a=1 = pending 2 at 1 | commit 0 c/a=2 in 1 = held behind 2 | get 0 c/b in 1 = none at 0 | settle = released at 1 | retry 0 = pending 1 at 2 | get 0 c/b in 1 = transaction 1 is not open
+// or is rolled back
+greatest | open = 0 | begin 0 = begun 1 | commit 0 c/a=1 = pending 2 at 1 | commit 0 c/a=2 in 1 = held behind 2 | rollback 0 1 = rolled back | retry 0 = transaction 1 is not open | parked = 0
+// in optimistic mode one reads as it began, and is aborted by the least commit since that touches what it has read
+optimistic, greatest | open = 0 | begin 0 = begun 1 | commit 0 c/a=1 = pending 2 at 1 | settle = released at 1 | get 0 c/a in 1 = none at 0 | commit 0 c/a=2 = pending 3 at 2 | query 0 c in 1 = at 0 | commit 0 c/b=1 in 1 = conflict with 2 | commit 0 c/a=3 in 1 = transaction 1 is not open
+// a commit that isn't released counts, and one that is dropped doesn't
+optimistic, greatest | open = 0 | begin 0 = begun 1 | begin 0 = begun 2 | get 0 c/a in 1 = none at 0 | get 0 c/a in 2 = none at 0 | commit 0 ?c/a=1 = pending 3 at 1 | commit 0 c/b=1 in 1 = conflict with 3 | settle = dropped | commit 0 c/b=1 in 2 = pending 2 at 2
+// nobody waits for it
+optimistic, greatest | open = 0 | begin 0 = begun 1 | get 0 c/a in 1 = none at 0 | commit 0 c/a=1 = pending 2 at 1 | settle = released at 1 | commit 0 c/b=1 in 1 = conflict with 2
+// one that only reads has its time, holds nothing, waits for nobody and ends without a commit
+greatest | open = 0 | begin 0 reading = begun 1 | commit 0 c/a=1 = pending 2 at 1 | get 0 c/a in 1 = none at 0 | settle = released at 1 | get 0 c/a in 1 = none at 0 | begin 0 reading @1 = begun 3 | get 0 c/a in 3 = 1 | commit 0 c/a=2 in 1 = transaction 1 is read-only | commit 0  in 1 = at 0: | commit 0  in 1 = transaction 1 is not open | rollback 0 3 = rolled back | rollback 0 3 = transaction 3 is not open
+// a time that can't be read is refused, and its number is drawn
+greatest | open = 0 | begin 0 reading @1 = 1 is after 0 | tick 9 = 9 | compact 5 = 5 | begin 0 reading @4 = 4 is before 5 | begin 0 = begun 3
+// compaction stops at the time at which an open one reads
+greatest | open = 0 | tick 9 = 9 | begin 0 = begun 1 | tick 20 = 20 | compact 15 = 9 | get 0 c/a in 1 = none at 20 | rollback 0 1 = rolled back | compact 15 = 15
+// as many are open as the limit; it comes before numbers and behind outboxes
+transactions 1, ids 2 | open = 0 | begin 0 = begun 1 | begin 0 = limit transactions 1 | rollback 0 1 = rolled back | begin 0 = begun 2 | rollback 0 2 = rolled back | begin 0 = limit ids 2
+// what the open ones were shown is limited
+reads 62 | open = 0 | commit 0 c/a=1 = pending 1 at 1 | settle = released at 1 | begin 0 = begun 2 | get 0 c/a in 2 = 1 | get 0 c/b in 2 = none at 1 | all 0 c/a in 2 = limit reads 62 | get 0 c/a = 1 | begin 0 reading = begun 3 | get 0 c/a in 3 = 1 | rollback 0 2 = rolled back | begin 0 = begun 4 | query 0 c in 4 = 1 at 1
+// what a commit's transaction was shown counts in the journal, and one that only reads passes no limit of it
+journal 188, batches 2 | open = 0 | commit 0 c/a=1 = pending 1 at 1 | settle = released at 1 | begin 0 = begun 2 | get 0 c/a in 2 = 1 | commit 0  in 2 = limit journal 188 | begin 0 reading = begun 3 | commit 0  in 3 = at 1:
+// sixty seconds after its last use one expires, and a microsecond before it doesn't
+greatest | open = 0 | begin 0 = begun 1 | tick 59999999 = 59999999 | get 0 c/a in 1 = none at 59999999 | tick 119999998 = 119999998 | get 0 c/a in 1 = none at 119999998 | tick 179999998 = 179999998 | get 0 c/a in 1 = transaction 1 expired: since 1970-01-01T00:01:59.999998Z, now 1970-01-01T00:02:59.999998Z"#;
 
 /// A history of three documents. Its first moment is 0.
 pub(crate) const HISTORY: &str = r#"open = 0

@@ -72,6 +72,11 @@ fn push_found(text: &mut String, documents: &Documents, time: Micros) -> Result<
     write!(text, " at {time}")
 }
 
+fn push_begun(text: &mut String, transaction: Id) -> Result<(), AllocError> {
+    let transaction = transaction.get();
+    write!(text, "begun {transaction}")
+}
+
 fn push_message(text: &mut String, message: &Message) -> Result<(), AllocError> {
     match message {
         Message::Commit { time, results, .. } => push_committed(text, *time, results),
@@ -82,6 +87,8 @@ fn push_message(text: &mut String, message: &Message) -> Result<(), AllocError> 
             time,
             ..
         } => push_found(text, documents, *time),
+        Message::BeginTransaction { transaction, .. } => push_begun(text, *transaction),
+        Message::Rollback { .. } => text.push_str("rolled back"),
         Message::Error { message, .. } => text.push_str(message.as_str()),
     }
 }

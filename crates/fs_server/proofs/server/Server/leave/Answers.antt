@@ -13,7 +13,8 @@ invariant_of-self c =
     record {
       allowed = c.self.invariant.allowed;
       drawn =
-          subst (λ rs. IdsAreDrawn s.past rs s.numbers.ids) (sym c.withdraw.ensures)
-          (ids_fewer s.past s.waiting s.past (of_others session s.waiting) s.numbers.ids (fewer_departed s.past s.waiting session) c.self.invariant.drawn);
+          subst (λ rs. IdsAreDrawn s.past s.txns rs s.numbers.ids) (sym c.withdraw.ensures)
+          (ids_fewer s.past s.txns s.waiting s.past s.txns (of_others session s.waiting) s.numbers.ids (fewer_departed s.past s.txns s.waiting session) c.self.invariant.drawn);
+      held = c.self.invariant.held;
       numbered = subst (λ ss. SessionsNumbered ss s.numbers.sessions) (sym c.remove.ensures) (sessions_departed s.sessions session s.numbers.sessions c.self.invariant.numbered);
     }

@@ -9,6 +9,7 @@ invariant_of-self-2 c =
     record {
       allowed = c.self.invariant.allowed;
       drawn = c.self.invariant.drawn;
+      held = c.self.invariant.held;
       numbered =
           subst (λ ss. SessionsNumbered ss (s.numbers.sessions + 1)) (sym c.in_ok-add.ensures.ok)
           (sessions_opened s.sessions s.numbers.sessions c.self.invariant.numbered);

@@ -9,9 +9,7 @@ use Rattle.fs_server.proofs.Refusing.{request_not}
 use Rattle.fs_server.proofs.server.Server.request.Goals as goal
 
 pub returns-in-Ok-clause-memory : goal.returns-in-Ok-clause-memory
-returns-in-Ok-clause-memory c = λ memory.
-    let e = c.args.envelope.now in
-    absurd (request_not c.args.self.now c.args.session c.args.envelope.now e.request (subst (λ a. a ≡ Refused (refusal_of Memory)) c.in-Ok.ensures.told memory))
+returns-in-Ok-clause-memory c = λ memory. absurd (request_not c.args.self.now c.args.session c.args.envelope.now (subst (λ a. a ≡ Refused (refusal_of Memory)) c.in-Ok.ensures.told memory))
 
 pub returns-in-Ok-clause-grows : goal.returns-in-Ok-clause-grows
 returns-in-Ok-clause-grows c =

@@ -13,7 +13,7 @@ pub invariant_of-self-2 : goal.invariant_of-self-2
 invariant_of-self-2 c =
     let s = c.self.inside in
     let id = c.args.commit in
-    let m : Machine = record { config = s.config; limits = s.limits; past = s.past; sessions = s.sessions; parked = s.waiting; numbers = s.numbers } in
+    let m : Machine = record { config = s.config; limits = s.limits; past = s.past; txns = s.txns; sessions = s.sessions; parked = s.waiting; numbers = s.numbers } in
     let comes = subst (λ (k : Machine). ComesTo k.past id c.args.outcome) (sym c.self.view_is) c.requires in
     let facts = subst Facts (sym c.self.view_is) c.stand.ensures.facts in
     let decided = keeps m (Event.deciding id) facts in
@@ -21,18 +21,18 @@ invariant_of-self-2 c =
       | in-Ok w ↦
           let is = is_settled m id c.args.outcome c.decide.new.past c.release.new.past c.decide.new.sessions c.release.new.sessions comes c.in_default.ensures.ok w.in-Ok.ensures.past w.in-Ok.ensures.told in
           let kept = subst Facts (sym is) (keeps _ Event.releasing decided) in
-          record { allowed = c.self.invariant.allowed; drawn = kept.ids; numbered = kept.sessions }
+          record { allowed = c.self.invariant.allowed; drawn = kept.ids; held = kept.txns; numbered = kept.sessions }
       | in-Err-release w ↦
           let is = is_decided m id c.args.outcome c.decide.new.past c.release.new.past c.decide.new.sessions c.release.new.sessions comes c.in_default.ensures.ok w.in-Err-release.ensures.err w.in-Err-release.ensures.err_told in
           let kept = subst Facts (sym is) decided in
-          record { allowed = c.self.invariant.allowed; drawn = kept.ids; numbered = kept.sessions }
+          record { allowed = c.self.invariant.allowed; drawn = kept.ids; held = kept.txns; numbered = kept.sessions }
     ]
 
 pub returns-clause-settles : goal.returns-clause-settles
 returns-clause-settles c =
     let s = c.self.inside in
     let id = c.args.commit in
-    let m : Machine = record { config = s.config; limits = s.limits; past = s.past; sessions = s.sessions; parked = s.waiting; numbers = s.numbers } in
+    let m : Machine = record { config = s.config; limits = s.limits; past = s.past; txns = s.txns; sessions = s.sessions; parked = s.waiting; numbers = s.numbers } in
     let n : Machine = record m { past = c.release.new.past; sessions = c.release.new.sessions } in
     let comes = subst (λ (k : Machine). ComesTo k.past id c.args.outcome) (sym c.self.view_is) c.requires in
     subst (λ (k : Machine). Settles k n id c.match-release.result) c.self.view_is

@@ -9,5 +9,6 @@ invariant_of-self c =
     record {
       allowed = c.self.invariant.allowed;
       drawn = c.self.invariant.drawn;
+      held = c.self.invariant.held;
       numbered = subst (λ ss. SessionsNumbered ss s.numbers.sessions) (sym c.take.ensures.list) (sessions_changed s.sessions c.args.session s.numbers.sessions (λ ms. []) c.self.invariant.numbered);
     }

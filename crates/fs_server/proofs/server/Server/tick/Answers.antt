@@ -1,27 +1,35 @@
 use Rattle.std.proofs.Common.{[], ◌∷◌, sym, ap, ◌∙◌, subst}
 use Rattle.fs_machine.specs.Event.{Event}
-use Rattle.fs_machine.specs.IdsAreDrawn.{IdsAreDrawn}
-use Rattle.fs_machine.proofs.IdsAreDrawn.{ids_ticked}
+use Rattle.fs_machine.specs.Facts.{Facts}
 use Rattle.fs_machine.specs.Grows.{Grows}
 use Rattle.fs_machine.specs.Past.{Past}
-use Rattle.fs_machine.specs.Release.{past_released, replies_out}
-use Rattle.fs_machine.specs.SessionsNumbered.{SessionsNumbered}
-use Rattle.fs_machine.proofs.SessionsNumbered.{sessions_told}
+use Rattle.fs_machine.specs.Release.{all_delivered, past_released, replies_out}
 use Rattle.fs_machine.specs.State.{Machine}
 use Rattle.fs_machine.specs.Tick.{past_advanced}
-use Rattle.fs_machine.specs.UnreleasedRise.{UnreleasedRise}
+use Rattle.fs_machine.proofs.Runs.{keeps}
+use Rattle.fs_server.proofs.Asking.{kept_of}
 use Rattle.fs_server.proofs.server.Server.tick.Goals as goal
 
+-- the clock has gone on
+pub invariant_of-self : goal.invariant_of-self
+invariant_of-self c =
+    let s = c.self.inside in
+    let m : Machine = record { config = s.config; limits = s.limits; past = s.past; txns = s.txns; sessions = s.sessions; parked = s.waiting; numbers = s.numbers } in
+    let facts = keeps m (Event.advancing c.args.now) (subst Facts (sym c.self.view_is) c.stand.ensures.facts) in
+    let p = c.in_err-release.ensures.err ∙ c.advance.ensures in
+    kept_of (record m { past = c.release.new.past; txns = c.expire.new.self; sessions = c.release.new.sessions }) c.self.invariant.allowed
+    (subst Facts (sym (λ i. record m { past = p i; txns = c.expire.ensures i; sessions = c.in_err-release.ensures.err_told i })) facts)
+
+-- and what can be is released
 pub invariant_of-self-2 : goal.invariant_of-self-2
 invariant_of-self-2 c =
     let s = c.self.inside in
-    let is = c.in_ok-release.ensures.past ∙ ap past_released c.advance.ensures in
-    let above = subst (λ (n : Machine). UnreleasedRise n.past) (sym c.self.view_is) c.stand.ensures.facts.past.unreleased in
-    record {
-      allowed = c.self.invariant.allowed;
-      drawn = subst (λ p. IdsAreDrawn p s.waiting s.numbers.ids) (sym is) (ids_ticked s.past s.waiting c.args.now s.numbers.ids above c.self.invariant.drawn);
-      numbered = subst (λ ss. SessionsNumbered ss s.numbers.sessions) (sym c.in_ok-release.ensures.told) (sessions_told (replies_out c.advance.new.self) s.sessions s.numbers.sessions c.self.invariant.numbered);
-    }
+    let m : Machine = record { config = s.config; limits = s.limits; past = s.past; txns = s.txns; sessions = s.sessions; parked = s.waiting; numbers = s.numbers } in
+    let facts = keeps _ Event.releasing (keeps m (Event.advancing c.args.now) (subst Facts (sym c.self.view_is) c.stand.ensures.facts)) in
+    let p = c.in_ok-release.ensures.past ∙ ap past_released c.advance.ensures in
+    let told = c.in_ok-release.ensures.told ∙ ap (λ (q : Past). all_delivered (replies_out q) s.sessions) c.advance.ensures in
+    kept_of (record m { past = c.release.new.past; txns = c.expire.new.self; sessions = c.release.new.sessions }) c.self.invariant.allowed
+    (subst Facts (sym (λ i. record m { past = p i; txns = c.expire.ensures i; sessions = told i })) facts)
 
 pub returns-clause-grows : goal.returns-clause-grows
 returns-clause-grows c =

@@ -1,0 +1,128 @@
+-- A request comes, and passes no limit: where that leads, by what becomes of it.
+use Rattle.std.proofs.Common.{◌≡◌, ℕ, Bool, true, false, cond, List, [], ◌∷◌, ◌++◌, Option, Some, None, length, refl, sym, ap, ◌∙◌, subst}
+use Rattle.std.specs.Prelude.{nat_le, codes}
+use Rattle.fs_rpc.specs.declared.request.Envelope.{Envelope}
+use Rattle.fs_rpc.specs.declared.request.Request.{Request}
+use Rattle.fs_status.specs.Refusal.{at_limit}
+use Rattle.fs_status.specs.declared.refusal.Refusal.{Refusal}
+use Rattle.fs_txn.specs.Transactions.{Transactions}
+use Rattle.fs_machine.specs.Event.{Event}
+use Rattle.fs_machine.specs.Facts.{Facts}
+use Rattle.fs_machine.specs.Limits.{AreAllowed}
+use Rattle.fs_machine.specs.Past.{Past}
+use Rattle.fs_machine.specs.Request.{Decision, answer_by, answered, answered_unless, arrival_refusal, arrived, arrives, asked, asked_unless, carried_by, check_refusal, decided_answer, decision, held_by, unless_full, unless_held, unless_refused}
+use Rattle.fs_machine.specs.State.{Machine}
+use Rattle.fs_machine.specs.declared.answer.Answer.{Answer}
+use Rattle.fs_machine.specs.declared.answer.Answer.TheVariants.{Held, Refused}
+use Rattle.fs_machine.specs.declared.parked_request.ParkedRequest.{ParkedRequest}
+use Rattle.fs_machine.proofs.Holding.{beside}
+use Rattle.fs_machine.proofs.Runs.{keeps}
+use Rattle.fs_server.specs.Changes.{Does, asking, changed, past_changed, txns_changed}
+use Rattle.fs_server.specs.Kept.{IsKept}
+use Rattle.fs_server.specs.Noted.{ids_after, own_number}
+use Rattle.fs_server.specs.declared.changes.Change.{Change}
+use Rattle.fs_server.proofs.Beside.{carried_beside, drawn_is, own_carried, own_held, own_told, then_drawn, told_beside}
+
+-- what stands at every moment is what is kept
+pub kept_of : (m : Machine) → AreAllowed m.limits → Facts m → IsKept m.config m.limits m.past m.txns m.sessions m.parked m.numbers
+kept_of m allowed facts = record { allowed = allowed; drawn = facts.ids; held = facts.txns; numbered = facts.sessions }
+
+module _ (m : Machine) (session : ℕ) (e : Envelope) (passes : arrival_refusal m session e.request ≡ None) where
+  abbrev r : ParkedRequest
+  r = arrived m session e
+
+  abbrev then : Machine
+  then = then_drawn m e.request
+
+  leads : asked m session e ≡ arrives then r (unless_full m (decision m e.request))
+  leads = ap (λ o. asked_unless o m r) passes ∙ ap (λ n. arrives n r (unless_full m (decision m e.request))) (drawn_is m e.request)
+
+  tells : answered m session e ≡ decided_answer then r (unless_full m (decision m e.request))
+  tells = ap (λ o. answered_unless o m r) passes ∙ ap (λ n. decided_answer n r (unless_full m (decision m e.request))) (drawn_is m e.request)
+
+  decided : (c : Option Refusal) (h : Option ℕ) → check_refusal m e.request ≡ c → held_by m e.request ≡ h → decision m e.request ≡ unless_refused c (unless_held h)
+  decided c h is by = λ i. unless_refused (is i) (unless_held (by i))
+
+  module _ (refusal : Refusal) (check : check_refusal m e.request ≡ Some refusal) where
+    pub state_refused : then ≡ asked m session e
+    state_refused = sym (leads ∙ ap (λ d. arrives then r (unless_full m d)) (decided (Some refusal) (held_by m e.request) check refl))
+
+    pub told_refused : Refused refusal ≡ answered m session e
+    told_refused = sym (tells ∙ ap (λ d. decided_answer then r (unless_full m d)) (decided (Some refusal) (held_by m e.request) check refl))
+
+  module _ (check : check_refusal m e.request ≡ None) where
+    abbrev as_full : ℕ → Bool → Decision
+    as_full id full = cond full (Decision.refused (at_limit (codes "parked") m.limits.parked)) (Decision.held id)
+
+    waits : (id : ℕ) (full : Bool) → nat_le m.limits.parked (length m.parked) ≡ full → held_by m e.request ≡ Some id → unless_full m (decision m e.request) ≡ as_full id full
+    waits id full is held = ap (unless_full m) (decided None (Some id) check held) ∙ ap (as_full id) is
+
+    module _ (id : ℕ) (held : held_by m e.request ≡ Some id) where
+      pub state_full : nat_le m.limits.parked (length m.parked) ≡ true → then ≡ asked m session e
+      state_full full = sym (leads ∙ ap (arrives then r) (waits id true full held))
+
+      pub told_full : nat_le m.limits.parked (length m.parked) ≡ true → Refused (at_limit (codes "parked") m.limits.parked) ≡ answered m session e
+      told_full full = sym (tells ∙ ap (decided_answer then r) (waits id true full held))
+
+      pub state_held : nat_le m.limits.parked (length m.parked) ≡ false
+          → record then { parked = m.parked ++ asking session (own_number m.numbers.ids e.request) e ∷ [] } ≡ asked m session e
+      state_held room =
+          ap (λ n. record then { parked = m.parked ++ asking session n e ∷ [] }) (own_held m e.request m.numbers.ids id held)
+          ∙ sym (leads ∙ ap (arrives then r) (waits id false room held))
+
+      pub told_held : nat_le m.limits.parked (length m.parked) ≡ false → Held id ≡ answered m session e
+      told_held room = sym (tells ∙ ap (decided_answer then r) (waits id false room held))
+
+    module _ (free : held_by m e.request ≡ None) (d : Answer × Change)
+        (does : Does m (answer_by m (asking session (own_number m.numbers.ids e.request) e) e.request) (carried_by m (asking session (own_number m.numbers.ids e.request) e) e.request) d) where
+      goes : unless_full m (decision m e.request) ≡ Decision.goes_on
+      goes = ap (unless_full m) (decided None None check free)
+
+      pub state_goes : beside (changed m d.1) (record m.numbers { ids = ids_after m.numbers.ids e.request }) m.parked ≡ asked m session e
+      state_goes =
+          ap (λ n. beside n (record m.numbers { ids = ids_after m.numbers.ids e.request }) m.parked) (does.state ∙ own_carried m session m.numbers.ids e e.request)
+          ∙ sym (leads ∙ ap (arrives then r) goes ∙ carried_beside m (record m.numbers { ids = ids_after m.numbers.ids e.request }) m.parked r e.request)
+
+      pub told_goes : d.0 ≡ answered m session e
+      told_goes =
+          does.told ∙ own_told m session m.numbers.ids e e.request
+          ∙ sym (tells ∙ ap (decided_answer then r) goes ∙ told_beside m (record m.numbers { ids = ids_after m.numbers.ids e.request }) m.parked r e.request)
+
+-- ---- as the code has it: the server as it was made of, and what its parts are then
+
+module _ (m0 m : Machine) (view : m0 ≡ m) (session : ℕ) (e : Envelope) (passes : arrival_refusal m session e.request ≡ None) (check : check_refusal m e.request ≡ None)
+    (id ids : ℕ) (number : id ≡ own_number m0.numbers.ids e.request) (last : ids ≡ ids_after m0.numbers.ids e.request) where
+  number_is : id ≡ own_number m.numbers.ids e.request
+  number_is = number ∙ ap (λ (k : Machine). own_number k.numbers.ids e.request) view
+
+  -- it is carried out
+  module _ (free : held_by m e.request ≡ None) (d : Answer × Change) (does : Does m (answer_by m (asking session id e) e.request) (carried_by m (asking session id e) e.request) d)
+      (p : Past) (ts : Transactions) (past : p ≡ past_changed m0.past d.1) (txns : ts ≡ txns_changed m0.txns m0.past.moment d.1) where
+    own_does : Does m (answer_by m (asking session (own_number m.numbers.ids e.request) e) e.request) (carried_by m (asking session (own_number m.numbers.ids e.request) e) e.request) d
+    own_does = subst (λ n. Does m (answer_by m (asking session n e) e.request) (carried_by m (asking session n e) e.request) d) number_is does
+
+    pub went : record m0 { past = p; txns = ts; numbers = record m0.numbers { ids = ids } } ≡ asked m session e
+    went =
+        (λ i. record m0 { past = past i; txns = txns i; numbers = record m0.numbers { ids = last i } })
+        ∙ ap (λ (k : Machine). beside (changed k d.1) (record k.numbers { ids = ids_after k.numbers.ids e.request }) k.parked) view
+        ∙ state_goes m session e passes check free d own_does
+
+    pub went_told : d.0 ≡ answered m session e
+    went_told = told_goes m session e passes check free d own_does
+
+    pub went_kept : AreAllowed m0.limits → Facts m → IsKept m0.config m0.limits p ts m0.sessions m0.parked (record m0.numbers { ids = ids })
+    went_kept allowed facts =
+        kept_of (record m0 { past = p; txns = ts; numbers = record m0.numbers { ids = ids } }) allowed (subst Facts (sym went) (keeps m (Event.asking session e) facts))
+
+  -- it waits
+  module _ (by : ℕ) (held : held_by m e.request ≡ Some by) (room : nat_le m.limits.parked (length m.parked) ≡ false) (ps : List ParkedRequest) (more : ps ≡ m0.parked ++ asking session id e ∷ []) where
+    pub waits_on : record m0 { parked = ps; numbers = record m0.numbers { ids = ids } } ≡ asked m session e
+    waits_on =
+        (λ i. record m0 { parked = more i; numbers = record m0.numbers { ids = last i } })
+        ∙ ap (λ n. record m0 { parked = m0.parked ++ asking session n e ∷ []; numbers = record m0.numbers { ids = ids_after m0.numbers.ids e.request } }) number
+        ∙ ap (λ (k : Machine). record (then_drawn k e.request) { parked = k.parked ++ asking session (own_number k.numbers.ids e.request) e ∷ [] }) view
+        ∙ state_held m session e passes check by held room
+
+    pub waits_kept : AreAllowed m0.limits → Facts m → IsKept m0.config m0.limits m0.past m0.txns m0.sessions ps (record m0.numbers { ids = ids })
+    waits_kept allowed facts =
+        kept_of (record m0 { parked = ps; numbers = record m0.numbers { ids = ids } }) allowed (subst Facts (sym waits_on) (keeps m (Event.asking session e) facts))
