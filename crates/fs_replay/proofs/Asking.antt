@@ -1,38 +1,38 @@
 -- What a request comes to before its line is closed: it is answered, and what was committed stays; or it waits, and nothing is told;
 -- or it is a commit that is prepared, and nothing is told yet.
-use Rattle.std.proofs.Common.{◌≡◌, ℕ, ℤ, Bool, true, false, cond, List, [], Option, Some, None, Result, Ok, Err, refl}
-use Rattle.std.specs.Prelude.{◌&&◌, codes, is_none, length, nat_le}
+use Rattle.std.proofs.Common.{◌≡◌, ℕ, Bool, true, false, cond, List, [], ◌∷◌, ◌++◌, Option, Some, None, Result, Ok, Err, refl, sym, ap, ◌∙◌, subst}
+use Rattle.std.specs.Prelude.{codes}
 use Rattle.fs_json.specs.declared.bad.Bad.{Bad}
-use Rattle.fs_path.specs.declared.field.FieldPath.{FieldPath}
-use Rattle.fs_path.specs.declared.name.Root.{Root}
+use Rattle.fs_history.specs.declared.read.Read.{Read}
 use Rattle.fs_rpc.specs.MessageJson.{message_json_on, refused}
 use Rattle.fs_rpc.specs.declared.envelope.SessionRequest.{SessionRequest}
+use Rattle.fs_rpc.specs.declared.request.Envelope.{Envelope}
 use Rattle.fs_rpc.specs.declared.request.Request.{Request}
-use Rattle.fs_rpc.specs.declared.request.Request.TheVariants.{Commit, GetDocument, BatchGetDocuments, RunQuery}
 use Rattle.fs_status.specs.Refusal.{at_limit, refusal_of}
 use Rattle.fs_status.specs.declared.refusal.Refusal.{Refusal}
-use Rattle.fs_value.specs.declared.document.Document.{Document}
 use Rattle.fs_write.specs.declared.write.Write.{Write}
-use Rattle.fs_machine.specs.Behind.{behind}
-use Rattle.fs_machine.specs.Commit.{Decision, after_limits, answer_after_limits, arrived, carried, carried_answer, commit_refusal, decision_behind, drawn, next_commit, outbox_refusal, past_prepared}
+use Rattle.fs_machine.specs.Commit.{next_commit, past_prepared}
 use Rattle.fs_machine.specs.Open.{is_full, with_session}
-use Rattle.fs_machine.specs.Read.{batch_get_answer, document_answer, get_answer, run_answer, read_time, time_refusal, unless_refused}
-use Rattle.fs_machine.specs.Request.{query_refusal, read_answer}
+use Rattle.fs_machine.specs.Request.{answered, arrived, asked, carried_by}
 use Rattle.fs_machine.specs.State.{Machine}
 use Rattle.fs_machine.specs.declared.answer.Answer.{Answer}
 use Rattle.fs_machine.specs.declared.answer.Answer.TheVariants.{Reply, Prepared, Held, Refused}
 use Rattle.fs_machine.specs.declared.parked_request.ParkedRequest.{ParkedRequest}
+use Rattle.fs_machine.proofs.Carried.{carried_rest}
 use Rattle.fs_replay.specs.Directory.{number_of}
-use Rattle.fs_replay.specs.Laws.{IsOneLine, commits_in, commits_on, commits_opened}
+use Rattle.fs_replay.specs.Laws.{IsOneLine, commits_in, commits_on, commits_opened, is_prepared, writes_of}
 use Rattle.fs_replay.specs.Line.{reason_of}
 use Rattle.fs_replay.specs.Outboxes.{reply_output}
 use Rattle.fs_replay.specs.Played.{Played}
 use Rattle.fs_replay.specs.Step.{asks, asks_if, in_session, named_if}
 use Rattle.fs_replay.specs.declared.state.State.{State}
-use Rattle.fs_replay.proofs.Ended.{behind_none}
+use Rattle.fs_replay.proofs.Becoming.{Becomes, asked_becomes, with_numbers}
+use Rattle.fs_replay.proofs.Going.{Goes, carried_goes, is_told}
 use Rattle.fs_replay.proofs.Kept.{with_one, with_server}
 use Rattle.fs_replay.proofs.Known.{has_number, known, knows_it}
 use Rattle.fs_replay.proofs.OneLine.{json_one_line}
+use Rattle.fs_replay.proofs.Readers.{ReadOn, ReadsOn}
+use Rattle.fs_replay.proofs.Staying.{HasRoom, IsKept, has_room, held_kept}
 
 -- it is answered
 pub record Answers (s : State) (commits : Bool) (played : Played) : Type 0 where
@@ -41,17 +41,23 @@ pub record Answers (s : State) (commits : Bool) (played : Played) : Type 0 where
   pub line : IsOneLine played.output
   pub no : commits ≡ false
 
--- it waits, so some commit is under way
+-- it waits: where no commit is under way, a transaction keeps it
 pub record Waits (s : State) (commits : Bool) (played : Played) : Type 0 where
+  pub request : ParkedRequest
   pub past : played.state.server.past ≡ s.server.past
-  pub busy : s.server.past.unreleased ≡ [] → ⊥
+  pub parked : played.state.server.parked ≡ s.server.parked ++ request ∷ []
+  pub reads : ReadsOn s.server played.state.server
+  pub kept : s.server.past.unreleased ≡ [] → IsKept s.server.config.mode s.server.txns.open request.envelope.request
+  pub room : HasRoom s.server.limits s.server.past.history s.server.past.unreleased s.server.past.last request.envelope.request
   pub no : commits ≡ false
 
 -- it is a commit, and prepared
 pub record Prepares (s : State) (commits : Bool) (played : Played) : Type 0 where
   pub request : ParkedRequest
+  pub id : ℕ
   pub writes : List Write
-  pub past : played.state.server.past ≡ past_prepared s.server.past (next_commit s.server.past request writes)
+  pub reads : List Read
+  pub past : played.state.server.past ≡ past_prepared s.server.past (next_commit s.server.past id request writes reads)
   pub parked : played.state.server.parked ≡ s.server.parked
   pub knows : has_number request.session played.state.directory ≡ true
   pub output : played.output ≡ []
@@ -64,99 +70,91 @@ pub data Comes (s : State) (commits : Bool) (played : Played) : Type 0 where
 
 -- ---- answers
 
--- whether an answer is told at once
-abbrev is_told : Answer → Bool
-is_told (Reply message) = true
-is_told (Prepared id time) = false
-is_told (Held id) = false
-is_told (Refused refusal) = true
-
 told_line : (name : List ℕ) (id : Option (List ℕ)) (answer : Answer) → is_told answer ≡ true → IsOneLine (reply_output name id answer)
 told_line name id (Reply message) told = json_one_line (message_json_on name message)
 told_line name id (Prepared commit time) told = absurd (cc)
 told_line name id (Held commit) told = absurd (cc)
 told_line name id (Refused refusal) told = json_one_line (message_json_on name (refused id refusal))
 
-told_unless : (refusal : Option Refusal) (answer : Answer) → is_told answer ≡ true → is_told (unless_refused refusal answer) ≡ true
-told_unless None answer told = told
-told_unless (Some refusal) answer told = refl
-
-document_told : (id : Option (List ℕ)) (t : ℤ) (mask : Option (List FieldPath)) (found : Option Document) → is_told (document_answer id t mask found) ≡ true
-document_told id t mask None = refl
-document_told id t mask (Some document) = refl
+told_no : (answer : Answer) → is_told answer ≡ true → is_prepared answer ≡ false
+told_no (Reply message) told = refl
+told_no (Prepared commit time) told = absurd (cc)
+told_no (Held commit) told = refl
+told_no (Refused refusal) told = refl
 
 -- ---- a request on a session
 
-some_busy : (found : Option ℕ) (id : ℕ) → found ≡ Some id → found ≡ None → ⊥
-some_busy found id is none = cc
+module _ (on : State) (name : List ℕ) (number : ℕ) (knows : has_number number on.directory ≡ true) where
+  abbrev comes_to : Envelope → Machine → Answer → Type 0
+  comes_to e n a = Comes on (is_prepared a) (record { state = with_server on n; output = reply_output name e.id a })
 
-module _ (on : State) (name : List ℕ) (number : ℕ) (knows : has_number number on.directory ≡ true) (id : Option (List ℕ)) where
-  -- what is told and left where a commit is refused at a limit, or not
-  abbrev limited : Root → List Write → Option Refusal → Played
-  limited database writes refusal =
-      let r = arrived on.server number (record { id = id; request = Commit database writes }) in
-      record { state = with_server on (after_limits refusal on.server r writes); output = reply_output name id (answer_after_limits refusal on.server r writes) }
-
-  -- and where it is behind another one, or not
-  abbrev decided : Root → List Write → Option ℕ → Played
-  decided database writes found =
-      let r = arrived on.server number (record { id = id; request = Commit database writes }) in
-      let d = decision_behind on.server found in
-      record { state = with_server on (carried (drawn on.server) r writes d); output = reply_output name id (carried_answer on.server.past r d) }
-
-  -- where it is behind one, and as many wait as may, or not
-  abbrev behind_one : Root → List Write → ℕ → Bool → Played
-  behind_one database writes of full =
-      let r = arrived on.server number (record { id = id; request = Commit database writes }) in
-      let d = cond full (Decision.refused (at_limit (codes "parked") on.server.limits.parked)) (Decision.held of) in
-      record { state = with_server on (carried (drawn on.server) r writes d); output = reply_output name id (carried_answer on.server.past r d) }
-
-  parks : (database : Root) (writes : List Write) (of : ℕ) (full : Bool) → behind on.server.past writes ≡ Some of → Comes on false (behind_one database writes of full)
-  parks database writes of true is =
-      answers (record { past = refl; parked = refl; line = json_one_line (message_json_on name (refused id (at_limit (codes "parked") on.server.limits.parked))); no = refl })
-  parks database writes of false is =
-      waits (record { past = refl; busy = λ idle. some_busy (behind on.server.past writes) of is (behind_none on.server.past writes idle); no = refl })
-
-  decided_comes : (database : Root) (writes : List Write) (found : Option ℕ) → behind on.server.past writes ≡ found → Comes on (is_none found) (decided database writes found)
-  decided_comes database writes None is =
+  goes_comes : (e : Envelope) (n : Machine) (a : Answer) → n.parked ≡ on.server.parked → Goes (arrived on.server number e) (writes_of e.request) on.server.past n.past a → comes_to e n a
+  goes_comes e n a parked (Goes.answers same told) = answers (record { past = same; parked = parked; line = told_line name e.id a told; no = told_no a told })
+  goes_comes e n a parked (Goes.prepares id reads same told) =
       prepares (record {
-        request = arrived on.server number (record { id = id; request = Commit database writes });
-        writes = writes;
-        past = refl;
-        parked = refl;
+        request = arrived on.server number e;
+        id = id;
+        writes = writes_of e.request;
+        reads = reads;
+        past = same;
+        parked = parked;
         knows = knows;
-        output = refl;
-        yes = refl;
+        output = ap (reply_output name e.id) told;
+        yes = ap is_prepared told;
       })
-  decided_comes database writes (Some of) is = parks database writes of (nat_le on.server.limits.parked (length on.server.parked)) is
 
-  commit_comes : (database : Root) (writes : List Write) (refusal : Option Refusal) → Comes on (is_none refusal && is_none (behind on.server.past writes)) (limited database writes refusal)
-  commit_comes database writes (Some refusal) = answers (record { past = refl; parked = refl; line = json_one_line (message_json_on name (refused id refusal)); no = refl })
-  commit_comes database writes None = decided_comes database writes (behind on.server.past writes) refl
+  becomes_comes : (e : Envelope) (n : Machine) (a : Answer) → Becomes on.server (arrived on.server number e) n a → comes_to e n a
+  becomes_comes e n a (Becomes.refused k refusal is told) =
+      answers (record {
+        past = ap (λ (m : Machine). m.past) is;
+        parked = ap (λ (m : Machine). m.parked) is;
+        line = told_line name e.id a (ap is_told told);
+        no = ap is_prepared told;
+      })
+  becomes_comes e n a (Becomes.held k by is told behind may) =
+      waits (record {
+        request = arrived on.server number e;
+        past = ap (λ (m : Machine). m.past) is;
+        parked = ap (λ (m : Machine). m.parked) is;
+        reads = record {
+          config = ap (λ (m : Machine). m.config) is;
+          limits = ap (λ (m : Machine). m.limits) is;
+          reads = subst (λ (m : Machine). ReadOn on.server.txns.open m.txns.open) (sym is) (λ ws none. none);
+        };
+        kept = λ idle. held_kept on.server e.request by idle behind;
+        room = has_room on.server e.request may;
+        no = ap is_prepared told;
+      })
+  becomes_comes e n a (Becomes.goes_on k is told goes) =
+      let m = with_numbers on.server k in
+      let r = arrived on.server number e in
+      let q = e.request in
+      let parked : n.parked ≡ on.server.parked = ap (λ (x : Machine). x.parked) (is ∙ carried_rest m r q) in
+      goes_comes e n a parked
+      (subst (λ (x : Machine). Goes r (writes_of q) on.server.past x.past a) (sym is)
+      (subst (λ b. Goes r (writes_of q) on.server.past (carried_by m r q).past b) (sym told) (carried_goes m r q goes)))
 
-  read_comes : (answer : Answer) → is_told answer ≡ true → Comes on false (record { state = on; output = reply_output name id (read_answer on.server number answer) })
-  read_comes answer told = answers (record { past = refl; parked = refl; line = told_line name id (read_answer on.server number answer) (told_unless (outbox_refusal on.server number) answer told); no = refl })
-
-  query_comes : (refusal : Option Refusal) (answer : Answer) → is_told answer ≡ true → Comes on false (record { state = on; output = reply_output name id (unless_refused refusal answer) })
-  query_comes refusal answer told = answers (record { past = refl; parked = refl; line = told_line name id (unless_refused refusal answer) (told_unless refusal answer told); no = refl })
-
-  asked_comes : (r : Result Request Bad) → Comes on (commits_on on.server number r) (asks on name number id r)
-  asked_comes (Ok (Commit database writes)) = commit_comes database writes (commit_refusal on.server number writes)
-  asked_comes (Ok (GetDocument document mask time)) = read_comes (get_answer on.server.past id document mask (read_time on.server.past time))
-      (told_unless (time_refusal on.server.past (read_time on.server.past time)) _ (document_told id (read_time on.server.past time) mask _))
-  asked_comes (Ok (BatchGetDocuments database names mask time)) =
-      read_comes (batch_get_answer on.server.past id names mask (read_time on.server.past time)) (told_unless (time_refusal on.server.past (read_time on.server.past time)) _ refl)
-  asked_comes (Ok (RunQuery database query time)) = query_comes (query_refusal query) (read_answer on.server number (run_answer on.server.past id query (read_time on.server.past time)))
-      (told_unless (outbox_refusal on.server number) _ (told_unless (time_refusal on.server.past (read_time on.server.past time)) _ refl))
-  asked_comes (Err bad) = answers (record { past = refl; parked = refl; line = json_one_line (message_json_on name (refused id (refusal_of (reason_of bad)))); no = refl })
+  asked_comes : (id : Option (List ℕ)) (r : Result Request Bad) → Comes on (commits_on on.server number id r) (asks on name number id r)
+  asked_comes id (Ok request) =
+      let e : Envelope = record { id = id; request = request } in
+      becomes_comes e (asked on.server number e) (answered on.server number e) (asked_becomes on.server number e)
+  asked_comes id (Err bad) = answers (record { past = refl; parked = refl; line = json_one_line (message_json_on name (refused id (refusal_of (reason_of bad)))); no = refl })
 
 -- ---- the session of a line
 
 -- what was committed and what waits is the same after one opened
 with_one_comes : (s : State) (name : List ℕ) (commits : Bool) (p : Played) → Comes (with_one s name) commits p → Comes s commits p
 with_one_comes s name commits p (answers a) = answers (record { past = a.past; parked = a.parked; line = a.line; no = a.no })
-with_one_comes s name commits p (waits w) = waits (record { past = w.past; busy = w.busy; no = w.no })
-with_one_comes s name commits p (prepares c) = prepares (record { request = c.request; writes = c.writes; past = c.past; parked = c.parked; knows = c.knows; output = c.output; yes = c.yes })
+with_one_comes s name commits p (waits w) = waits (record {
+  request = w.request;
+  past = w.past;
+  parked = w.parked;
+  reads = record { config = w.reads.config; limits = w.reads.limits; reads = w.reads.reads };
+  kept = w.kept;
+  room = w.room;
+  no = w.no;
+})
+with_one_comes s name commits p (prepares c) = prepares (record { request = c.request; id = c.id; writes = c.writes; reads = c.reads; past = c.past; parked = c.parked; knows = c.knows; output = c.output; yes = c.yes })
 
 -- the server with it, unless as many are open as may be
 abbrev with_one_unless : Bool → Machine → Machine
@@ -172,7 +170,7 @@ opens_unless full refusal s a = asks_if (named_if (with_server s (with_one_unles
 
 -- whether that is a commit
 abbrev commits_unless : Bool → Refusal → Machine → SessionRequest → Bool
-commits_unless full refusal m a = commits_opened (with_one_unless full m) a.request (number_unless full refusal m)
+commits_unless full refusal m a = commits_opened (with_one_unless full m) a (number_unless full refusal m)
 
 opening_comes : (s : State) (a : SessionRequest) (full : Bool) (refusal : Refusal) → Comes s (commits_unless full refusal s.server a) (opens_unless full refusal s a)
 opening_comes s a true refusal = answers (record { past = refl; parked = refl; line = json_one_line (message_json_on a.session (refused a.id refusal)); no = refl })

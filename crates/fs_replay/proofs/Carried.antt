@@ -1,5 +1,5 @@
 -- A line that was read is carried out.
-use Rattle.std.proofs.Common.{◌≡◌, ℕ, List, ◌++◌, ap, subst}
+use Rattle.std.proofs.Common.{◌≡◌, ℕ, List, ◌++◌, subst}
 use Rattle.fs_replay.specs.Line.{line_of}
 use Rattle.fs_replay.specs.Played.{Plays}
 use Rattle.fs_replay.specs.Step.{after_line, line_output, line_played}

@@ -1,11 +1,12 @@
 -- What closing a line comes to. Where nothing is left to settle, or the script settles by hand, it changes nothing; where one commit is
--- under way and nothing waits, that is settled, and told on one line.
+-- under way and nothing waits, that is settled, and told on one line; and what a transaction keeps takes no time.
 use Rattle.std.proofs.Common.{◌≡◌, ℕ, Bool, true, false, cond, List, [], ◌∷◌, ◌++◌, Some, None, refl, sym, ap, ◌∙◌, subst}
 use Rattle.std.specs.Prelude.{length, slice_get, ℤ}
 use Rattle.std.proofs.lemmas.List.{append-nil}
 use Rattle.fs_rpc.specs.MessageJson.{message_json_on}
 use Rattle.fs_rpc.specs.declared.message.Message.{Message}
-use Rattle.fs_machine.specs.Past.{Past}
+use Rattle.fs_machine.specs.Request.{Decision}
+use Rattle.fs_machine.specs.Retry.{retried, retry_decision, tried}
 use Rattle.fs_machine.specs.Settle.{settled}
 use Rattle.fs_machine.specs.State.{Machine}
 use Rattle.fs_machine.specs.declared.parked_request.ParkedRequest.{ParkedRequest}
@@ -13,23 +14,21 @@ use Rattle.fs_machine.specs.declared.unreleased.Unreleased.{Unreleased}
 use Rattle.fs_replay.specs.Laws.{IsOneLine, IsSettled}
 use Rattle.fs_replay.specs.Outboxes.{drained, drain_output}
 use Rattle.fs_replay.specs.Played.{Played, nothing, followed_by}
-use Rattle.fs_replay.specs.Settling.{closed, did_something, emptied, left_to_do, settles, settles_if, settling, tries_all, turn, unless_by_hand}
+use Rattle.fs_replay.specs.Settling.{closed, did_something, left_to_do, settles, settles_if, settling, tries_all, turn, unless_by_hand}
 use Rattle.fs_replay.specs.declared.state.State.{State}
-use Rattle.fs_replay.proofs.Drained.{IsToldOnce, delivering, drain_delivered, drain_none, drained_delivered, drained_same}
-use Rattle.fs_replay.proofs.Emptied.{drained_parked, drained_past}
-use Rattle.fs_replay.proofs.Ended.{Empty, nothing_left}
-use Rattle.fs_replay.proofs.Falling.{settled_last, settled_parked}
-use Rattle.fs_replay.proofs.Kept.{Keeps, closed_kept, with_server}
+use Rattle.fs_replay.proofs.Drained.{IsToldOnce, delivering, drain_delivered, drained_delivered}
+use Rattle.fs_replay.proofs.Each.{all_at, all_removed}
+use Rattle.fs_replay.proofs.Ended.{Empty, empty_closing, emptied_none, settled_by_none, settled_turn}
+use Rattle.fs_replay.proofs.Falling.{retried_is, settled_is, settled_last}
+use Rattle.fs_replay.proofs.Kept.{Keeps, closed_kept}
 use Rattle.fs_replay.proofs.Known.{has_number, known_open}
 use Rattle.fs_replay.proofs.Lone.{Told, is_next, told_once}
 use Rattle.fs_replay.proofs.OneLine.{json_one_line}
 use Rattle.fs_replay.proofs.Standing.{Stands}
+use Rattle.fs_replay.proofs.Staying.{AllKept, IsKept, kept_waits}
 use Rattle.fs_replay.proofs.Turns.{Settled, idle_turns, none_tried, settling_step}
 
 -- ---- where nothing is to be done
-
-emptied_none : (s : State) → Empty s → emptied s ≡ nothing s
-emptied_none s empty = λ i. record { state = with_server s (drained_same s.directory s.server empty i); output = drain_none s.directory s.server empty i }
 
 closed_from : (s : State) → Empty s → closed s ≡ unless_by_hand s
 closed_from s empty = ap (λ (p : Played). followed_by p unless_by_hand) (emptied_none s empty)
@@ -37,26 +36,22 @@ closed_from s empty = ap (λ (p : Played). followed_by p unless_by_hand) (emptie
 pub closed_by_hand : (s : State) → Empty s → s.manual ≡ true → closed s ≡ nothing s
 closed_by_hand s empty manual = closed_from s empty ∙ ap (λ b. cond b (nothing s) (settling s)) manual
 
-pub settling_none : (s : State) → IsSettled s.server → settling s ≡ nothing s
-settling_none s settled = idle_turns s (left_to_do s.server) (nothing_left s settled)
+settling_none : (s : State) → Empty s → IsSettled s.server → settling s ≡ nothing s
+settling_none s empty settled = idle_turns s (left_to_do s.server) (settled_turn s empty settled)
 
 closed_by_script : (s : State) → Empty s → s.manual ≡ false → closed s ≡ settling s
 closed_by_script s empty manual = closed_from s empty ∙ ap (λ b. cond b (nothing s) (settling s)) manual
 
 pub closed_settled : (s : State) → Empty s → s.manual ≡ false → IsSettled s.server → closed s ≡ nothing s
-closed_settled s empty manual settled = closed_by_script s empty manual ∙ settling_none s settled
+closed_settled s empty manual settled = closed_by_script s empty manual ∙ settling_none s empty settled
 
-stays_by : (s t : State) (manual : Bool) → s.manual ≡ manual → t.server.past ≡ s.server.past → (s.manual ≡ false → IsSettled t.server) → (cond manual (nothing t) (settling t)).state.server.past ≡ s.server.past
-stays_by s t true is same settled = same
-stays_by s t false is same settled = ap (λ (p : Played). p.state.server.past) (settling_none t (settled is)) ∙ same
+quiet_by : (s : State) (manual : Bool) → s.manual ≡ manual → Empty s → (s.manual ≡ false → IsSettled s.server) → closed s ≡ nothing s
+quiet_by s true is empty settled = closed_by_hand s empty is
+quiet_by s false is empty settled = closed_settled s empty is (settled is)
 
--- what was committed stays then, whatever waits to be told
-pub closed_stays : (s : State) → (s.manual ≡ false → IsSettled s.server) → (closed s).state.server.past ≡ s.server.past
-closed_stays s settled =
-    let past = drained_past s.directory s.server in
-    let parked = drained_parked s.directory s.server in
-    stays_by s (emptied s).state s.manual refl past
-    (λ manual. record { released = ap (λ (p : Past). p.unreleased) past ∙ (settled manual).released; parked = parked ∙ (settled manual).parked })
+-- where nothing waits to be told, and nothing is left to settle or the script settles by hand
+pub closed_quiet : (s : State) → Empty s → (s.manual ≡ false → IsSettled s.server) → closed s ≡ nothing s
+closed_quiet s empty settled = quiet_by s s.manual refl empty settled
 
 -- ---- where one commit is under way
 
@@ -64,9 +59,9 @@ told_one_line : (message : Message) (output : List ℕ) → IsToldOnce message o
 told_one_line message output once = subst IsOneLine (sym once.1) (json_one_line (message_json_on once.0 message))
 
 -- nothing more is played once it is settled
-settled_behind : (s t : State) (b : Bool) → IsSettled t.server → cond b (settling t) (nothing t) ≡ nothing t
-settled_behind s t true settled = settling_none t settled
-settled_behind s t false settled = refl
+settled_behind : (t : State) (b : Bool) → Empty t → IsSettled t.server → cond b (settling t) (nothing t) ≡ nothing t
+settled_behind t true empty settled = settling_none t empty settled
+settled_behind t false empty settled = refl
 
 module _ (s : State) (u : Unreleased) (stands : Stands s) (empty : Empty s) (alone : s.server.past.unreleased ≡ u ∷ []) (pending : u.results ≡ None) (parked : s.server.parked ≡ [])
     (knows : has_number u.session s.directory ≡ true) where
@@ -85,8 +80,14 @@ module _ (s : State) (u : Unreleased) (stands : Stands s) (empty : Empty s) (alo
   rest_is =
       ap (drained s.directory) told.is ∙ drained_delivered s.directory (record s.server { past = after.past }) u.session told.message empty knows
 
+  rest_parked : rest.server.parked ≡ []
+  rest_parked = ap (λ (m : Machine). m.parked) rest_is ∙ parked
+
   rest_settled : IsSettled rest.server
-  rest_settled = record { released = ap (λ (m : Machine). m.past.unreleased) rest_is ∙ told.none; parked = ap (λ (m : Machine). m.parked) rest_is ∙ parked }
+  rest_settled = settled_by_none rest.server (ap (λ (m : Machine). m.past.unreleased) rest_is ∙ told.none) rest_parked
+
+  rest_empty : Empty rest
+  rest_empty = (empty_closing.by_settling s u.batch.id (stands, empty)).1
 
   output_one_line : IsOneLine (settles s u.batch.id).output
   output_one_line =
@@ -98,13 +99,13 @@ module _ (s : State) (u : Unreleased) (stands : Stands s) (empty : Empty s) (alo
   turn_is : turn s ≡ followed_by (settles s u.batch.id) nothing
   turn_is =
       ap (λ next. followed_by (settles_if s next) tries_all) (is_next s.server u alone pending stands.facts.past.unreleased)
-      ∙ ap (λ (p : Played). followed_by (settles s u.batch.id) (λ t. p)) (none_tried rest (length rest.server.parked) (ap length rest_settled.parked))
+      ∙ ap (λ (p : Played). followed_by (settles s u.batch.id) (λ t. p)) (none_tried rest (length rest.server.parked) (ap length rest_parked))
 
   settling_is : settling s ≡ followed_by (settles s u.batch.id) nothing
   settling_is =
       settling_step s
       ∙ ap (λ (p : Played). followed_by p (Settled s)) turn_is
-      ∙ ap (λ (p : Played). followed_by (followed_by (settles s u.batch.id) nothing) (λ t. p)) (settled_behind s rest (did_something s rest) rest_settled)
+      ∙ ap (λ (p : Played). followed_by (followed_by (settles s u.batch.id) nothing) (λ t. p)) (settled_behind rest (did_something s rest) rest_empty rest_settled)
       ∙ ap (λ (o : List ℕ). record { state = rest; output = o }) (append-nil ((settles s u.batch.id).output ++ []))
 
   pub closed_one_line : s.manual ≡ false → IsOneLine (closed s).output
@@ -112,21 +113,30 @@ module _ (s : State) (u : Unreleased) (stands : Stands s) (empty : Empty s) (alo
       subst (λ (p : Played). IsOneLine p.output) (sym (closed_by_script s empty manual ∙ settling_is))
       (subst IsOneLine (sym (append-nil (settles s u.batch.id).output)) output_one_line)
 
--- ---- where none waits, no time is issued
+-- ---- where whatever waits is kept by a transaction, no time is issued
 
 pub record SameLast (time : ℤ) (s : State) : Type 0 where
-  pub parked : s.server.parked ≡ []
+  pub kept : AllKept s.server s.server.parked
   pub last : s.server.past.last ≡ time
 
-none_at : (rs : List ParkedRequest) (place : ℕ) (r : ParkedRequest) → rs ≡ [] → slice_get rs place ≡ Some r → ⊥
-none_at rs place r none is = let never : None ≡ Some r = sym (ap (λ (l : List ParkedRequest). slice_get l place) none) ∙ is in absurd (cc)
+-- none of them goes on
+tried_last : (m : Machine) (place : ℕ) (r : ParkedRequest) (d : Decision) → retry_decision m r.envelope.request ≡ d → IsKept m.config.mode m.txns.open r.envelope.request → AllKept m m.parked
+    → AllKept (tried m place r d) (tried m place r d).parked × ((tried m place r d).past.last ≡ m.past.last)
+tried_last m place r (Decision.refused refusal) is here all = (all_removed (λ (q : ParkedRequest). IsKept m.config.mode m.txns.open q.envelope.request) m.parked place all, refl)
+tried_last m place r (Decision.held id) is here all = (all, refl)
+tried_last m place r Decision.goes_on is here all = absurd (kept_waits m r.envelope.request here is)
+
+retried_last : (m : Machine) (place : ℕ) (r : ParkedRequest) → slice_get m.parked place ≡ Some r → AllKept m m.parked → AllKept (retried m place) (retried m place).parked × ((retried m place).past.last ≡ m.past.last)
+retried_last m place r at all =
+    subst (λ (n : Machine). AllKept n n.parked × (n.past.last ≡ m.past.last)) (sym (retried_is m place r at))
+    (tried_last m place r (retry_decision m r.envelope.request) refl (all_at (λ (q : ParkedRequest). IsKept m.config.mode m.txns.open q.envelope.request) m.parked place r at all) all)
 
 same_last : (time : ℤ) → Keeps (SameLast time)
 same_last time = record {
-  by_settling = λ s id is. record { parked = settled_parked s.server id ∙ is.parked; last = settled_last s.server id ∙ is.last };
-  by_retrying = λ s place r at is. absurd (none_at s.server.parked place r is.parked at);
-  by_taking = λ s number is. record { parked = is.parked; last = is.last };
+  by_settling = λ s id is. record { kept = subst (λ (m : Machine). AllKept m m.parked) (sym (settled_is s.server id)) is.kept; last = settled_last s.server id ∙ is.last };
+  by_retrying = λ s place r at is. let both = retried_last s.server place r at is.kept in record { kept = both.0; last = both.1 ∙ is.last };
+  by_taking = λ s number is. record { kept = is.kept; last = is.last };
 }
 
-pub closed_last : (s : State) → s.server.parked ≡ [] → (closed s).state.server.past.last ≡ s.server.past.last
-closed_last s parked = (closed_kept (SameLast s.server.past.last) (same_last s.server.past.last) s (record { parked = parked; last = refl })).last
+pub closed_last : (s : State) → AllKept s.server s.server.parked → (closed s).state.server.past.last ≡ s.server.past.last
+closed_last s kept = (closed_kept (SameLast s.server.past.last) (same_last s.server.past.last) s (record { kept = kept; last = refl })).last

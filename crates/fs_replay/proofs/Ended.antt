@@ -1,119 +1,160 @@
 -- Turns end where nothing is left to settle, and after a line nothing waits to be told: so the state is one between lines.
-use Rattle.std.proofs.Common.{◌≡◌, ℕ, ◌+◌, ◌*◌, ◌≤◌, ◌<◌, Bool, true, false, cond, List, [], ◌∷◌, Option, Some, None, refl, sym, ap, ◌∙◌, subst, arith, suc, zero}
+use Rattle.std.proofs.Common.{◌≡◌, ◌⊎◌, inl, inr, ℕ, ◌+◌, ◌≤◌, drop, Bool, true, false, cond, List, [], ◌∷◌, Option, Some, None, refl, sym, ap, ◌∙◌, subst, arith, suc, zero}
 use Rattle.std.specs.Prelude.{◌&&◌, is_some, length, nat_lt, slice_get}
-use Rattle.std.specs.List.{AllByRecursion, count_by}
+use Rattle.std.specs.List.{AllByRecursion}
+use Rattle.std.specs.Option.{option_map_or}
 use Rattle.std.proofs.lemmas.Bool.{and_parts, or_parts}
 use Rattle.std.proofs.lemmas.Bool.Decides.{nat_tests}
-use Rattle.std.proofs.lemmas.List.{nil_from_length}
-use Rattle.fs_status.specs.declared.refusal.Refusal.{Refusal}
-use Rattle.fs_write.specs.declared.write.Write.{Write}
-use Rattle.fs_machine.specs.Behind.{behind, least, writing_same}
-use Rattle.fs_machine.specs.Commit.{retry_refusal}
+use Rattle.std.proofs.lemmas.List.{at_drop_more, drop_all, nil_from_length}
 use Rattle.fs_machine.specs.Compact.{compacted}
-use Rattle.fs_machine.specs.Past.{Past, is_pending}
-use Rattle.fs_machine.specs.Pending.{next_pending}
-use Rattle.fs_machine.specs.Retry.{retried, unless_past, waits_for, writes_of}
+use Rattle.fs_machine.specs.Pending.{next_in, next_pending}
+use Rattle.fs_machine.specs.Request.{Decision, decided_answer}
+use Rattle.fs_machine.specs.Retry.{retried, retry_decision, tried}
 use Rattle.fs_machine.specs.Settle.{pending_of, settled}
+use Rattle.fs_machine.specs.State.{Machine}
 use Rattle.fs_machine.specs.Tick.{later}
 use Rattle.fs_machine.specs.declared.parked_request.ParkedRequest.{ParkedRequest}
-use Rattle.fs_replay.specs.Directory.{number_of}
-use Rattle.fs_replay.specs.Laws.{HasNothing, IsBetweenLines, IsSettled}
+use Rattle.fs_replay.specs.Directory.{name_of, number_of}
+use Rattle.fs_replay.specs.Laws.{HasNothing, IsBetweenLines, IsHeld, IsHeldStill, IsSettled}
 use Rattle.fs_replay.specs.Played.{Played, nothing, followed_by}
-use Rattle.fs_replay.specs.Settling.{closed, did_something, emptied, left_to_do, place_after, settles, settles_if, settling, tries, tries_all, tries_from, turn, turns}
+use Rattle.fs_replay.specs.Settling.{closed, did_something, emptied, left_to_do, place_after, retry_output, settles, settles_if, settling, tries, tries_all, tries_from, tries_if, turn, turns, waits_on}
 use Rattle.fs_replay.specs.Step.{clocked, does_not_apply, in_session, leaves, line_played}
 use Rattle.fs_replay.specs.declared.request.Line.{Line}
 use Rattle.fs_replay.specs.declared.request.Line.TheVariants as line
 use Rattle.fs_replay.specs.declared.state.State.{State}
+use Rattle.fs_replay.proofs.Drained.{drain_none, drained_same}
+use Rattle.fs_replay.proofs.Each.{all_at}
 use Rattle.fs_replay.proofs.Emptied.{drained_nothing}
-use Rattle.fs_replay.proofs.Falling.{IsHeld, fewer_wait, none_next, tries_from_falls, turn_did}
+use Rattle.fs_replay.proofs.Falling.{fewer_wait, none_next, place_is, retried_is, tries_from_falls, turn_did}
 use Rattle.fs_replay.proofs.Kept.{Closes, all_tried_kept, asked_kept, departed_by, emptied_kept, keeps_closes, turn_kept, turns_kept, with_server}
+use Rattle.fs_replay.proofs.Playing.{found_at}
 use Rattle.fs_replay.proofs.Released.{none_under_way, starts_pending}
 use Rattle.fs_replay.proofs.Standing.{Any, Stands, any_read, stands_all, stands_asking, stands_closing}
-use Rattle.fs_replay.proofs.Turns.{idle_turn, less_left}
+use Rattle.fs_replay.proofs.Turns.{less_left}
 
 -- ---- a turn that does nothing
-
-none_of : (o : Option ℕ) → is_some o ≡ false → o ≡ None
-none_of None is = refl
-none_of (Some n) is = absurd (cc)
-
--- where no commit is under way, a commit waits behind none
-pub behind_none : (p : Past) (writes : List Write) → p.unreleased ≡ [] → behind p writes ≡ None
-behind_none p writes idle = ap (λ us. least (writing_same us writes)) idle
-
-never_held : (refusal : Option Refusal) (found : Option ℕ) → found ≡ None → IsHeld (unless_past refusal (waits_for found)) → ⊥
-never_held (Some refusal) found none held = held
-never_held None None none held = held
-never_held None (Some id) none held = absurd (cc)
-
--- so one that waits moves on
-moves_on : (s : State) (r : ParkedRequest) (rs : List ParkedRequest) → s.server.past.unreleased ≡ [] → s.server.parked ≡ r ∷ rs → length (tries_all s).state.server.parked < length s.server.parked
-moves_on s r rs idle is =
-    let writes = writes_of r.envelope.request in
-    let t = (tries s 0).state in
-    let there : slice_get s.server.parked 0 ≡ Some r = ap (λ l. slice_get l 0) is in
-    let one = fewer_wait s 0 r there (never_held (retry_refusal s.server writes) (behind s.server.past writes) (behind_none s.server.past writes idle)) in
-    let many : length s.server.parked ≡ suc (length rs) = ap length is in
-    let rest : length (tries_from (suc (length rs)) 0 s).state.server.parked ≤ length t.server.parked = (tries_from_falls (length rs) (place_after s.server 0) t).fewer in
-    let all : length (tries_all s).state.server.parked ≤ length t.server.parked = subst (λ n. length (tries_from n 0 s).state.server.parked ≤ length t.server.parked) (sym many) rest in
-    omega (arith, one, all)
-
-nobody_waits : (s : State) (rs : List ParkedRequest) → s.server.past.unreleased ≡ [] → s.server.parked ≡ rs → nat_lt (length (tries_all s).state.server.parked) (length s.server.parked) ≡ false → s.server.parked ≡ []
-nobody_waits s [] idle is stays = is
-nobody_waits s (r ∷ rs) idle is stays =
-    let less = moves_on s r rs idle is in
-    absurd (grind (arith, nat_tests, less, stays))
-
--- nothing is left to do where all is settled
-pub nothing_left : (s : State) → IsSettled s.server → left_to_do s.server ≡ 0
-nothing_left s settled = λ i. 2 * length (settled.parked i) + count_by is_pending (settled.released i)
-
-turn_of_tries : (s : State) → next_pending s.server.past ≡ None → turn s ≡ tries_all s
-turn_of_tries s none = ap (λ next. followed_by (settles_if s next) tries_all) none
-
-pub settled_at_end : (s : State) → Stands s → did_something s (turn s).state ≡ false → IsSettled s.server
-settled_at_end s stands idle =
-    let both = or_parts (is_some (next_pending s.server.past)) (nat_lt (length (turn s).state.server.parked) (length s.server.parked)) (sym (turn_did s) ∙ idle) in
-    let none = none_of (next_pending s.server.past) both.0 in
-    let free = none_under_way s.server.past.unreleased (starts_pending s.server.past stands.facts.past.unreleased stands.fits.released) none in
-    let stays = ap (λ (p : Played). nat_lt (length p.state.server.parked) (length s.server.parked)) (sym (turn_of_tries s none)) ∙ both.1 in
-    record { released = free; parked = nobody_waits s s.server.parked free refl stays }
-
--- ---- settling ends
-
-settled_where_none : (s : State) → Stands s → left_to_do s.server ≡ 0 → IsSettled s.server
-settled_where_none s stands none = record {
-  released = none_under_way s.server.past.unreleased (starts_pending s.server.past stands.facts.past.unreleased stands.fits.released) (none_next s.server.past.unreleased (omega (arith, none)));
-  parked = nil_from_length s.server.parked (omega (arith, none));
-}
-
-ends_next : (n : ℕ) (s : State) (b : Bool) → did_something s (turn s).state ≡ b → Stands s → (b ≡ true → IsSettled (turns n (turn s).state).state.server)
-    → IsSettled (cond b (turns n (turn s).state) (nothing (turn s).state)).state.server
-ends_next n s true is stands more = more refl
-ends_next n s false is stands more =
-    let settled = settled_at_end s stands is in
-    subst (λ (p : Played). IsSettled p.state.server) (sym (idle_turn s (nothing_left s settled))) settled
-
-ends_settled : (n : ℕ) (s : State) → left_to_do s.server ≤ n → Stands s → IsSettled (turns n s).state.server
-ends_settled zero s within stands = settled_where_none s stands (omega (arith, within))
-ends_settled (suc n) s within stands =
-    let t = (turn s).state in
-    ends_next n s (did_something s t) refl stands (λ did. ends_settled n t (less_left s t n did within) (turn_kept Stands (keeps_closes Stands stands_closing) s stands))
-
-pub settling_ends : (s : State) → Stands s → IsSettled (settling s).state.server
-settling_ends s stands = ends_settled (left_to_do s.server) s (omega arith) stands
-
--- ---- a line that closes
 
 -- nothing waits to be told
 abbrev pub Empty : State → Type 0
 Empty s = AllByRecursion HasNothing s.server.sessions
 
-pub emptied_empty : (s : State) → Stands s → Empty (emptied s).state
-emptied_empty s stands = drained_nothing s.directory s.server 0 s.server.numbers.sessions stands.fits.known stands.facts.sessions
+pub emptied_none : (s : State) → Empty s → emptied s ≡ nothing s
+emptied_none s empty = λ i. record { state = with_server s (drained_same s.directory s.server empty i); output = drain_none s.directory s.server empty i }
+
+untold : (found : Option (List ℕ)) → option_map_or {U = List ℕ} (λ name. []) found [] ≡ []
+untold None = refl
+untold (Some name) = refl
+
+-- one that is held is tried in vain
+vain_by : (s : State) (place : ℕ) (r : ParkedRequest) (d : Decision) → slice_get s.server.parked place ≡ Some r → retry_decision s.server r.envelope.request ≡ d → IsHeld d → Empty s
+    → (tries s place ≡ nothing s) × (place_after s.server place ≡ place + 1)
+vain_by s place r (Decision.refused refusal) at is held empty = absurd held
+vain_by s place r (Decision.held id) at is held empty = (
+  ap (tries_if s place) at
+      ∙ (λ i. followed_by (record { state = with_server s ((retried_is s.server place r at ∙ ap (tried s.server place r) is) i); output = retry_output s.directory r (decided_answer s.server r (is i)) }) emptied)
+      ∙ ap (λ (o : List ℕ). followed_by (record { state = s; output = o }) emptied) (untold (name_of r.session s.directory))
+      ∙ ap (λ (p : Played). followed_by (nothing s) (λ t. p)) (emptied_none s empty),
+  place_is s.server place r at ∙ ap (λ (c : Decision). cond (waits_on (Some (decided_answer s.server r c))) (place + 1) place) is,
+)
+vain_by s place r Decision.goes_on at is held empty = absurd held
+
+tried_in_vain : (s : State) (place : ℕ) (r : ParkedRequest) → slice_get s.server.parked place ≡ Some r → IsHeldStill s.server r → Empty s → (tries s place ≡ nothing s) × (place_after s.server place ≡ place + 1)
+tried_in_vain s place r at held empty = vain_by s place r (retry_decision s.server r.envelope.request) at refl held empty
+
+-- and so are all
+none_moves : (n place : ℕ) (s : State) → Empty s → AllByRecursion (IsHeldStill s.server) s.server.parked → place + n ≤ length s.server.parked → tries_from n place s ≡ nothing s
+none_moves zero place s empty all within = refl
+none_moves (suc n) place s empty all within =
+    let at = found_at s.server.parked place (omega (arith, within)) in
+    let vain = tried_in_vain s place at.0 at.1 (all_at (IsHeldStill s.server) s.server.parked place at.0 at.1 all) empty in
+    ap (λ (p : Played). followed_by p (tries_from n (place_after s.server place))) vain.0
+    ∙ ap (λ (k : ℕ). followed_by (nothing s) (tries_from n k)) vain.1
+    ∙ ap (λ (p : Played). followed_by (nothing s) (λ t. p)) (none_moves n (place + 1) s empty all (omega (arith, within)))
+
+turn_of_tries : (s : State) → next_pending s.server.past ≡ None → turn s ≡ tries_all s
+turn_of_tries s none = ap (λ next. followed_by (settles_if s next) tries_all) none
+
+pub settled_turn : (s : State) → Empty s → IsSettled s.server → turn s ≡ nothing s
+settled_turn s empty settled = turn_of_tries s (ap next_in settled.released) ∙ none_moves (length s.server.parked) 0 s empty settled.held (omega arith)
+
+-- ---- where a turn does nothing
+
+none_of : (o : Option ℕ) → is_some o ≡ false → o ≡ None
+none_of None is = refl
+none_of (Some n) is = absurd (cc)
+
+held_or : (d : Decision) → IsHeld d ⊎ (IsHeld d → ⊥)
+held_or (Decision.refused refusal) = inr (λ held. held)
+held_or (Decision.held id) = inl tt
+held_or Decision.goes_on = inr (λ held. held)
+
+-- as many wait then as before
+abbrev NoneLess : State → Played → Type 0
+NoneLess s p = nat_lt (length p.state.server.parked) (length s.server.parked) ≡ false
+
+moves_less : (n place : ℕ) (s : State) (r : ParkedRequest) → slice_get s.server.parked place ≡ Some r → (IsHeldStill s.server r → ⊥) → NoneLess s (tries_from (suc n) place s) → ⊥
+moves_less n place s r at moves none =
+    let t = (tries s place).state in
+    let one = fewer_wait s place r at moves in
+    let rest = (tries_from_falls n (place_after s.server place) t).fewer in
+    grind (arith, nat_tests, one, rest, none)
+
+-- so each is held still
+held_next : (n place : ℕ) (s : State) (r : ParkedRequest) → Empty s → slice_get s.server.parked place ≡ Some r → drop place s.server.parked ≡ r ∷ drop (place + 1) s.server.parked
+    → IsHeldStill s.server r ⊎ (IsHeldStill s.server r → ⊥) → NoneLess s (tries_from (suc n) place s)
+    → (NoneLess s (tries_from n (place + 1) s) → AllByRecursion (IsHeldStill s.server) (drop (place + 1) s.server.parked)) → AllByRecursion (IsHeldStill s.server) (drop place s.server.parked)
+held_next n place s r empty at cut (inr moves) none more = absurd (moves_less n place s r at moves none)
+held_next n place s r empty at cut (inl held) none more =
+    let vain = tried_in_vain s place r at held empty in
+    let same : tries_from (suc n) place s ≡ followed_by (nothing s) (tries_from n (place + 1)) =
+    ap (λ (p : Played). followed_by p (tries_from n (place_after s.server place))) vain.0 ∙ ap (λ (k : ℕ). followed_by (nothing s) (tries_from n k)) vain.1 in
+    subst (AllByRecursion (IsHeldStill s.server)) (sym cut) (held, more (subst (NoneLess s) same none))
+
+held_from : (n place : ℕ) (s : State) → Empty s → place + n ≡ length s.server.parked → NoneLess s (tries_from n place s) → AllByRecursion (IsHeldStill s.server) (drop place s.server.parked)
+held_from zero place s empty within none = subst (AllByRecursion (IsHeldStill s.server)) (sym (drop_all place s.server.parked (omega (arith, within)))) tt
+held_from (suc n) place s empty within none =
+    let rs = s.server.parked in
+    let at = found_at rs place (omega (arith, within)) in
+    let cut : drop place rs ≡ at.0 ∷ drop (place + 1) rs = at_drop_more (λ (l : List ParkedRequest). l) rs place at.0 (omega (arith, within)) ∙ ap (λ r. r ∷ drop (place + 1) rs) (sym at.2) in
+    held_next n place s at.0 empty at.1 cut (held_or (retry_decision s.server at.0.envelope.request)) none (λ less. held_from n (place + 1) s empty (omega (arith, within)) less)
 
 abbrev pub StandsEmpty : State → Type 0
 StandsEmpty s = Stands s × Empty s
+
+pub settled_at_end : (s : State) → StandsEmpty s → did_something s (turn s).state ≡ false → IsSettled s.server
+settled_at_end s both idle =
+    let stands = both.0 in
+    let parts = or_parts (is_some (next_pending s.server.past)) (nat_lt (length (turn s).state.server.parked) (length s.server.parked)) (sym (turn_did s) ∙ idle) in
+    let none = none_of (next_pending s.server.past) parts.0 in
+    record {
+      released = none_under_way s.server.past.unreleased (starts_pending s.server.past stands.facts.past.unreleased stands.fits.released) none;
+      held = held_from (length s.server.parked) 0 s both.1 (omega arith) (subst (NoneLess s) (turn_of_tries s none) parts.1);
+    }
+
+-- ---- settling ends
+
+none_held : (m : Machine) (rs : List ParkedRequest) → rs ≡ [] → AllByRecursion (IsHeldStill m) rs
+none_held m rs none = subst (AllByRecursion (IsHeldStill m)) (sym none) tt
+
+-- where nothing is under way, and nothing waits
+pub settled_by_none : (m : Machine) → m.past.unreleased ≡ [] → m.parked ≡ [] → IsSettled m
+settled_by_none m idle none = record { released = idle; held = none_held m m.parked none }
+
+settled_where_none : (s : State) → Stands s → left_to_do s.server ≡ 0 → IsSettled s.server
+settled_where_none s stands none =
+    settled_by_none s.server
+    (none_under_way s.server.past.unreleased (starts_pending s.server.past stands.facts.past.unreleased stands.fits.released) (none_next s.server.past.unreleased (omega (arith, none))))
+    (nil_from_length s.server.parked (omega (arith, none)))
+
+ends_next : (n : ℕ) (s : State) (b : Bool) → did_something s (turn s).state ≡ b → StandsEmpty s → (b ≡ true → IsSettled (turns n (turn s).state).state.server)
+    → IsSettled (cond b (turns n (turn s).state) (nothing (turn s).state)).state.server
+ends_next n s true is both more = more refl
+ends_next n s false is both more =
+    let settled = settled_at_end s both is in
+    subst (λ (p : Played). IsSettled p.state.server) (sym (settled_turn s both.1 settled)) settled
+
+pub emptied_empty : (s : State) → Stands s → Empty (emptied s).state
+emptied_empty s stands = drained_nothing s.directory s.server 0 s.server.numbers.sessions stands.fits.known stands.facts.sessions
 
 pub empty_closing : Closes StandsEmpty
 empty_closing =
@@ -123,12 +164,23 @@ empty_closing =
       by_trying = λ s place r is both. (closes.by_trying s place r is both.0, emptied_empty (with_server s (retried s.server place)) (stands_closing.by_retrying s place r is both.0));
     }
 
+ends_settled : (n : ℕ) (s : State) → left_to_do s.server ≤ n → StandsEmpty s → IsSettled (turns n s).state.server
+ends_settled zero s within both = settled_where_none s both.0 (omega (arith, within))
+ends_settled (suc n) s within both =
+    let t = (turn s).state in
+    ends_next n s (did_something s t) refl both (λ did. ends_settled n t (less_left s t n did within) (turn_kept StandsEmpty empty_closing s both))
+
+pub settling_ends : (s : State) → StandsEmpty s → IsSettled (settling s).state.server
+settling_ends s both = ends_settled (left_to_do s.server) s (omega arith) both
+
+-- ---- a line that closes
+
 settling_empty : (s : State) → StandsEmpty s → StandsEmpty (settling s).state
 settling_empty s both = turns_kept StandsEmpty empty_closing (left_to_do s.server) s both
 
 unless_between : (t : State) (manual : Bool) → t.manual ≡ manual → StandsEmpty t → ((cond manual (nothing t) (settling t)).state.manual ≡ false → IsSettled (cond manual (nothing t) (settling t)).state.server) × StandsEmpty (cond manual (nothing t) (settling t)).state
 unless_between t true is both = (λ other. absurd (let never : true ≡ false = sym is ∙ other in cc), both)
-unless_between t false is both = (λ other. settling_ends t both.0, settling_empty t both)
+unless_between t false is both = (λ other. settling_ends t both, settling_empty t both)
 
 pub between_from : (s : State) → (s.manual ≡ false → IsSettled s.server) → StandsEmpty s → IsBetweenLines s
 between_from s settled both = record {

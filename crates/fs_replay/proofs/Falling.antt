@@ -1,5 +1,5 @@
 -- What a turn does makes less of what is left to do.
-use Rattle.std.proofs.Common.{◌≡◌, ℕ, ℤ, ◌+◌, ◌≤◌, ◌<◌, Bool, true, false, cond, List, [], ◌∷◌, ◌++◌, Option, Some, None, Result, Ok, Err, refl, sym, ap, ◌∙◌, subst, arith, suc, zero}
+use Rattle.std.proofs.Common.{◌≡◌, inl, inr, ℕ, ℤ, ◌+◌, ◌≤◌, ◌<◌, Bool, true, false, cond, List, [], ◌∷◌, Option, Some, None, Result, Ok, Err, refl, sym, ap, ◌∙◌, subst, arith, suc, zero}
 use Rattle.std.specs.Prelude.{IsSome, is_some, option_map, not, ◌||◌, length, nat_lt, remove, slice_get}
 use Rattle.std.specs.List.{count_by}
 use Rattle.std.proofs.lemmas.Bool.Decides.{nat_tests}
@@ -8,22 +8,25 @@ use Rattle.std.proofs.lemmas.List.Sums.{sum_by-cons, sum_by_push}
 use Rattle.std.proofs.lemmas.Option.{slice_get_within}
 use Rattle.fs_status.specs.declared.refusal.Refusal.{Refusal}
 use Rattle.fs_write.specs.Batch.{Docs}
-use Rattle.fs_write.specs.declared.write.Write.{Write}
 use Rattle.fs_write.specs.declared.write_result.WriteResult.{WriteResult}
-use Rattle.fs_machine.specs.Commit.{Decision, carried_answer, next_commit}
+use Rattle.fs_machine.specs.Commit.{past_prepared}
 use Rattle.fs_machine.specs.Past.{Past, is_pending}
 use Rattle.fs_machine.specs.Pending.{next_in, next_pending}
 use Rattle.fs_machine.specs.Release.{free_to, is_freed, kept_back, released}
-use Rattle.fs_machine.specs.Retry.{retried, retried_if, retry_decision, tried, tried_answer, writes_of}
+use Rattle.fs_machine.specs.Request.{Decision, answer_by, carried, decided_answer}
+use Rattle.fs_machine.specs.Retry.{retried, retried_if, retry_decision, tried, tried_answer, unparked}
 use Rattle.fs_machine.specs.Settle.{accepted_in, decided_if, decided_with, dropped_from, is_it, outcome_of, pending_in, pending_of, settled}
 use Rattle.fs_machine.specs.State.{Machine}
 use Rattle.fs_machine.specs.declared.parked_request.ParkedRequest.{ParkedRequest}
 use Rattle.fs_machine.specs.declared.unreleased.Unreleased.{Unreleased}
+use Rattle.fs_machine.proofs.Carried.{AtMostPrepares, carried_follows, carried_rest}
 use Rattle.fs_machine.proofs.Pending.{number_found, pending_it}
+use Rattle.fs_replay.specs.Laws.{IsHeld}
 use Rattle.fs_replay.specs.Played.{nothing, followed_by}
 use Rattle.fs_replay.specs.Settling.{did_something, emptied, left_to_do, place_after, settles, settles_if, settles_next, tries, tries_all, tries_from, tries_if, tries_it, turn, waits_on}
 use Rattle.fs_replay.specs.declared.state.State.{State}
 use Rattle.fs_replay.proofs.Emptied.{drained_parked, drained_past}
+use Rattle.fs_replay.proofs.Going.{never_waits}
 
 -- ---- pending commits
 
@@ -208,37 +211,45 @@ with_server s m = record s { server = m }
 one_less : (m : Machine) (place : ℕ) (r : ParkedRequest) → slice_get m.parked place ≡ Some r → length (remove m.parked place) + 1 ≡ length m.parked
 one_less m place r is = length-remove m.parked place (slice_get_within m.parked place r is)
 
-one_more : (p : Past) (r : ParkedRequest) (writes : List Write) → pending_among (p.unreleased ++ next_commit p r writes ∷ []) ≡ pending_among p.unreleased + 1
-one_more p r writes = sum_by_push (λ v. cond (is_pending v) 1 0) p.unreleased (next_commit p r writes)
+-- what a request does to what was committed leaves one commit more pending, at most
+one_by : (b : Bool) → cond b 1 0 ≤ 1
+one_by true = omega arith
+one_by false = omega arith
 
--- it waits on
-abbrev pub IsHeld : Decision → Type 0
-IsHeld (Decision.refused refusal) = ⊥
-IsHeld (Decision.held id) = Unit {0}
-IsHeld Decision.goes_on = ⊥
+one_more : (p q : Past) → AtMostPrepares p q → pending_among q.unreleased ≤ pending_among p.unreleased + 1
+one_more p q (inl same) = let e : pending_among q.unreleased ≡ pending_among p.unreleased = ap (λ (x : Past). pending_among x.unreleased) same in omega (arith, e)
+one_more p q (inr one) =
+    let e : pending_among q.unreleased ≡ pending_among (past_prepared p one.0).unreleased = ap (λ (x : Past). pending_among x.unreleased) one.1 in
+    let more = sum_by_push (λ v. cond (is_pending v) 1 0) p.unreleased one.0 in
+    let by = one_by (is_pending one.0) in
+    omega (arith, e, more, by)
 
-module _ (s : State) (place : ℕ) (r : ParkedRequest) (is : slice_get s.server.parked place ≡ Some r) (writes : List Write) where
-  tried_falls : (d : Decision) → Falls s (with_server s (tried s.server place r writes d))
+-- those that wait are as many
+carried_parked : (m : Machine) (r : ParkedRequest) → (carried m r).parked ≡ m.parked
+carried_parked m r = ap (λ (n : Machine). n.parked) (carried_rest m r r.envelope.request)
+
+module _ (s : State) (place : ℕ) (r : ParkedRequest) (is : slice_get s.server.parked place ≡ Some r) where
+  tried_falls : (d : Decision) → Falls s (with_server s (tried s.server place r d))
   tried_falls (Decision.refused refusal) = let one = one_less s.server place r is in falls_by_one s _ one (omega (arith, one))
   tried_falls (Decision.held id) = falls_none s
   tried_falls Decision.goes_on =
+      let n = unparked s.server place in
       let one = one_less s.server place r is in
-      let more = one_more s.server.past r writes in
-      falls_by_one s _ one (omega (arith, one, more))
+      let waits : length (carried n r).parked ≡ length n.parked = ap length (carried_parked n r) in
+      let more = one_more n.past (carried n r).past (carried_follows n r r.envelope.request) in
+      falls_by_one s _ (omega (arith, one, waits)) (omega (arith, one, waits, more))
 
-  tried_fewer : (d : Decision) → (IsHeld d → ⊥) → length (tried s.server place r writes d).parked + 1 ≡ length s.server.parked
+  tried_fewer : (d : Decision) → (IsHeld d → ⊥) → length (tried s.server place r d).parked + 1 ≡ length s.server.parked
   tried_fewer (Decision.refused refusal) moves = one_less s.server place r is
   tried_fewer (Decision.held id) moves = absurd (moves tt)
-  tried_fewer Decision.goes_on moves = one_less s.server place r is
+  tried_fewer Decision.goes_on moves = ap (λ (rs : List ParkedRequest). length rs + 1) (carried_parked (unparked s.server place) r) ∙ one_less s.server place r is
 
-pub retried_is : (m : Machine) (place : ℕ) (r : ParkedRequest) → slice_get m.parked place ≡ Some r
-    → retried m place ≡ tried m place r (writes_of r.envelope.request) (retry_decision m (writes_of r.envelope.request))
+pub retried_is : (m : Machine) (place : ℕ) (r : ParkedRequest) → slice_get m.parked place ≡ Some r → retried m place ≡ tried m place r (retry_decision m r.envelope.request)
 retried_is m place r is = ap (retried_if m place) is
 
 pub retried_falls : (s : State) (place : ℕ) (r : ParkedRequest) → slice_get s.server.parked place ≡ Some r → Falls s (with_server s (retried s.server place))
 retried_falls s place r is =
-    let writes = writes_of r.envelope.request in
-    subst (λ (m : Machine). Falls s (with_server s m)) (sym (retried_is s.server place r is)) (tried_falls s place r is writes (retry_decision s.server writes))
+    subst (λ (m : Machine). Falls s (with_server s m)) (sym (retried_is s.server place r is)) (tried_falls s place r is (retry_decision s.server r.envelope.request))
 
 tries_it_falls : (s : State) (place : ℕ) (r : ParkedRequest) → slice_get s.server.parked place ≡ Some r → Falls s (tries_it s place r).state
 tries_it_falls s place r is =
@@ -263,34 +274,40 @@ pub tries_all_falls : (s : State) → Falls s (tries_all s).state
 tries_all_falls s = tries_from_falls (length s.server.parked) 0 s
 
 -- one that isn't held waits no more
-pub fewer_wait : (s : State) (place : ℕ) (r : ParkedRequest) → slice_get s.server.parked place ≡ Some r → (IsHeld (retry_decision s.server (writes_of r.envelope.request)) → ⊥)
+pub fewer_wait : (s : State) (place : ℕ) (r : ParkedRequest) → slice_get s.server.parked place ≡ Some r → (IsHeld (retry_decision s.server r.envelope.request) → ⊥)
     → length (tries s place).state.server.parked + 1 ≡ length s.server.parked
 fewer_wait s place r is moves =
-    let writes = writes_of r.envelope.request in
     let t = with_server s (retried s.server place) in
     ap (λ found. length (tries_if s place found).state.server.parked + 1) is
     ∙ ap (λ rs. length rs + 1) (drained_parked s.directory t.server)
     ∙ ap (λ (m : Machine). length m.parked + 1) (retried_is s.server place r is)
-    ∙ tried_fewer s place r is writes (retry_decision s.server writes) moves
+    ∙ tried_fewer s place r is (retry_decision s.server r.envelope.request) moves
+
+-- where the next one stands
+pub place_is : (m : Machine) (place : ℕ) (r : ParkedRequest) → slice_get m.parked place ≡ Some r
+    → place_after m place ≡ cond (waits_on (Some (decided_answer m r (retry_decision m r.envelope.request)))) (place + 1) place
+place_is m place r is = ap (λ found. cond (waits_on (option_map (tried_answer m) found)) (place + 1) place) is
 
 -- the next one stands within those that wait, where as many are still to be tried
-module _ (s : State) (place : ℕ) (r : ParkedRequest) (is : slice_get s.server.parked place ≡ Some r) (writes : List Write) (n : ℕ) (within : place + suc n ≤ length s.server.parked) where
-  within_tried : (d : Decision) → cond (waits_on (Some (carried_answer s.server.past r d))) (place + 1) place + n ≤ length (tried s.server place r writes d).parked
+module _ (s : State) (place : ℕ) (r : ParkedRequest) (is : slice_get s.server.parked place ≡ Some r) (n : ℕ) (within : place + suc n ≤ length s.server.parked) where
+  within_tried : (d : Decision) → cond (waits_on (Some (decided_answer s.server r d))) (place + 1) place + n ≤ length (tried s.server place r d).parked
   within_tried (Decision.refused refusal) = let one = one_less s.server place r is in omega (arith, one, within)
   within_tried (Decision.held id) = omega (arith, within)
-  within_tried Decision.goes_on = let one = one_less s.server place r is in omega (arith, one, within)
+  within_tried Decision.goes_on =
+      let one = one_less s.server place r is in
+      let waits : length (carried (unparked s.server place) r).parked ≡ length (unparked s.server place).parked = ap length (carried_parked (unparked s.server place) r) in
+      let here : cond (waits_on (Some (answer_by s.server r r.envelope.request))) (place + 1) place ≡ place = ap (λ b. cond b (place + 1) place) (never_waits s.server r r.envelope.request) in
+      omega (arith, one, within, waits, here)
 
 pub place_within : (s : State) (place n : ℕ) (r : ParkedRequest) → slice_get s.server.parked place ≡ Some r → place + suc n ≤ length s.server.parked
     → place_after s.server place + n ≤ length (tries s place).state.server.parked
 place_within s place n r is within =
-    let writes = writes_of r.envelope.request in
-    let d = retry_decision s.server writes in
+    let d = retry_decision s.server r.envelope.request in
     let t = with_server s (retried s.server place) in
-    let next : place_after s.server place ≡ cond (waits_on (Some (carried_answer s.server.past r d))) (place + 1) place =
-    ap (λ found. cond (waits_on (option_map (tried_answer s.server) found)) (place + 1) place) is in
-    let waits : length (tries s place).state.server.parked ≡ length (tried s.server place r writes d).parked =
+    let next = place_is s.server place r is in
+    let waits : length (tries s place).state.server.parked ≡ length (tried s.server place r d).parked =
     ap (λ found. length (tries_if s place found).state.server.parked) is ∙ ap length (drained_parked s.directory t.server) ∙ ap (λ (m : Machine). length m.parked) (retried_is s.server place r is) in
-    let all = within_tried s place r is writes n within d in
+    let all = within_tried s place r is n within d in
     omega (arith, next, waits, all)
 
 -- ---- a commit is settled, and all is tried

@@ -1,30 +1,29 @@
 -- What follows from a line, by its kind: what it leaves of what was committed, and how many lines it gives.
-use Rattle.std.proofs.Common.{◌≡◌, ℕ, ℤ, Bool, true, false, List, [], ◌∷◌, ◌++◌, Option, Some, None, refl, sym, ap, ◌∙◌, subst}
-use Rattle.std.specs.Prelude.{pos, ◌+ℤ◌, codes, not}
+use Rattle.std.proofs.Common.{◌≡◌, ◌⊎◌, inl, inr, ℕ, ℤ, Bool, true, false, List, [], ◌∷◌, ◌++◌, Option, Some, None, Result, Ok, Err, refl, sym, ap, ◌∙◌, subst}
+use Rattle.std.specs.Prelude.{pos, ◌+ℤ◌, ◌&&◌, ◌||◌, ◌==◌, codes, not}
 use Rattle.std.specs.List.{AllByRecursion}
+use Rattle.std.proofs.lemmas.Bool.{or_parts}
 use Rattle.std.proofs.lemmas.List.{append-nil}
+use Rattle.fs_json.specs.declared.bad.Bad.{Bad}
 use Rattle.fs_rpc.specs.MessageJson.{error_json}
 use Rattle.fs_rpc.specs.declared.envelope.SessionRequest.{SessionRequest}
 use Rattle.fs_rpc.specs.declared.request.Envelope.{Envelope}
 use Rattle.fs_rpc.specs.declared.request.Request.{Request}
-use Rattle.fs_rpc.specs.declared.request.Request.TheVariants.{Commit, GetDocument, BatchGetDocuments, RunQuery}
 use Rattle.fs_status.specs.declared.code.Code.TheVariants.{Unimplemented}
-use Rattle.fs_status.specs.declared.refusal.Refusal.{Refusal}
-use Rattle.fs_write.specs.declared.write.Write.{Write}
-use Rattle.fs_machine.specs.Behind.{behind}
-use Rattle.fs_machine.specs.Commit.{Decision, after_limits, arrived, carried, commit_refusal, decision_behind, drawn, next_commit}
+use Rattle.fs_machine.specs.Commit.{next_commit}
 use Rattle.fs_machine.specs.Compact.{compacted}
-use Rattle.fs_machine.specs.Leave.{of_others}
+use Rattle.fs_machine.specs.Leave.{departed, of_others}
 use Rattle.fs_machine.specs.Past.{Past}
 use Rattle.fs_machine.specs.Release.{all_delivered, free_to, kept_back}
-use Rattle.fs_machine.specs.Request.{after_request}
+use Rattle.fs_machine.specs.Request.{arrival_refusal, arrived, asked}
 use Rattle.fs_machine.specs.State.{Machine}
 use Rattle.fs_machine.specs.Tick.{later}
 use Rattle.fs_machine.specs.declared.parked_request.ParkedRequest.{ParkedRequest}
 use Rattle.fs_machine.specs.declared.reply.Reply.{Reply}
 use Rattle.fs_machine.specs.declared.unreleased.Unreleased.{Unreleased}
+use Rattle.fs_machine.proofs.Carried.{asked_alone}
 use Rattle.fs_replay.specs.Directory.{number_of}
-use Rattle.fs_replay.specs.Laws.{HasNothing, IsBetweenLines, IsOneLine, IsSettled, is_answered, is_commit, is_silent, may_move}
+use Rattle.fs_replay.specs.Laws.{HasNothing, IsBetweenLines, IsHeldStill, IsOneLine, IsSettled, ends_one, ends_read, is_answered, is_commit, is_silent, keeps_waiting, may_let_on, may_move, none_waits}
 use Rattle.fs_replay.specs.Played.{Played, nothing, followed_by}
 use Rattle.fs_replay.specs.Reply.{line_error, refused_json}
 use Rattle.fs_replay.specs.Settling.{closed}
@@ -32,14 +31,17 @@ use Rattle.fs_replay.specs.Step.{clocked, in_session, leaves, line_played}
 use Rattle.fs_replay.specs.declared.request.Line.{Line}
 use Rattle.fs_replay.specs.declared.request.Line.TheVariants as line
 use Rattle.fs_replay.specs.declared.state.State.{State}
-use Rattle.fs_replay.proofs.Asking.{Comes, answers, comes, prepares, waits}
-use Rattle.fs_replay.proofs.Closing.{closed_by_hand, closed_last, closed_one_line, closed_settled, closed_stays}
-use Rattle.fs_replay.proofs.Ended.{Empty, stands_between}
-use Rattle.fs_replay.proofs.Kept.{KeepsAsking, asked_kept, departed_by, with_server}
+use Rattle.fs_replay.proofs.Asking.{Answers, Comes, Waits, answers, comes, prepares, waits}
+use Rattle.fs_replay.proofs.Closing.{closed_by_hand, closed_last, closed_one_line, closed_quiet, closed_settled}
+use Rattle.fs_replay.proofs.Each.{all_filtered, all_more}
+use Rattle.fs_replay.proofs.Ended.{Empty, settled_by_none, stands_between}
+use Rattle.fs_replay.proofs.Kept.{KeepsAsking, MayRead, asked_kept, departed_by, with_server}
 use Rattle.fs_replay.proofs.OneLine.{json_one_line}
+use Rattle.fs_replay.proofs.Readers.{ReadsOn, asked_reads, reads_same, reads_then}
 use Rattle.fs_replay.proofs.Released.{nobody_told}
 use Rattle.fs_replay.proofs.Standing.{Any, Stands, any_read, stands_asking}
-use Rattle.fs_replay.proofs.Waiting.{nothing_more}
+use Rattle.fs_replay.proofs.Staying.{AllKept, AllStay, StaysOn, all_compacted, all_departed, all_held, all_kept_then, all_stay, all_stay_then, kept_none, stays_then}
+use Rattle.fs_replay.proofs.Waiting.{nothing_left, nothing_more}
 
 never : {A : Type 0} → true ≡ false → A
 never e = absurd (cc)
@@ -47,29 +49,48 @@ never e = absurd (cc)
 -- ---- a request, before its line is closed
 
 -- the sessions but for the one that may open are as they were
-carried_sessions : (m : Machine) (r : ParkedRequest) (writes : List Write) (d : Decision) → (carried (drawn m) r writes d).sessions ≡ m.sessions
-carried_sessions m r writes (Decision.refused refusal) = refl
-carried_sessions m r writes (Decision.held id) = refl
-carried_sessions m r writes Decision.goes_on = refl
-
-limited_sessions : (m : Machine) (r : ParkedRequest) (writes : List Write) (refusal : Option Refusal) → (after_limits refusal m r writes).sessions ≡ m.sessions
-limited_sessions m r writes (Some refusal) = refl
-limited_sessions m r writes None = carried_sessions m r writes (decision_behind m (behind m.past writes))
-
-request_sessions : (m : Machine) (number : ℕ) (e : Envelope) (request : Request) → (after_request m number e request).sessions ≡ m.sessions
-request_sessions m number e (Commit database writes) = limited_sessions m (arrived m number e) writes (commit_refusal m number writes)
-request_sessions m number e (GetDocument name mask time) = refl
-request_sessions m number e (BatchGetDocuments database names mask time) = refl
-request_sessions m number e (RunQuery database query time) = refl
+asked_sessions : (m : Machine) (number : ℕ) (e : Envelope) → (asked m number e).sessions ≡ m.sessions
+asked_sessions m number e = (asked_alone m (arrived m number e) (arrival_refusal m number e.request)).sessions
 
 empty_asking : KeepsAsking Empty Any
 empty_asking = record {
   by_opening = λ s name empty. nothing_more s.server.sessions s.server.numbers.sessions empty;
-  by_asking = λ s number e knows may empty. subst (AllByRecursion HasNothing) (sym (request_sessions s.server number e e.request)) empty;
+  by_asking = λ s number e knows may empty. subst (AllByRecursion HasNothing) (sym (asked_sessions s.server number e)) empty;
 }
 
 manual_asking : (manual : Bool) → KeepsAsking (λ s. s.manual ≡ manual) Any
 manual_asking manual = record { by_opening = λ s name is. is; by_asking = λ s number e knows may is. is }
+
+-- no transaction ends
+abbrev EndsNone : Request → Type 0
+EndsNone q = ends_one q ≡ false
+
+reads_asking : (m : Machine) → KeepsAsking (λ s. ReadsOn m s.server) EndsNone
+reads_asking m = record {
+  by_opening = λ s name on. record { config = on.config; limits = on.limits; reads = on.reads };
+  by_asking = λ s number e knows may on. reads_then m s.server (asked s.server number e) on (asked_reads s.server number e may);
+}
+
+ends_none : (r : Result Request Bad) → ends_read r ≡ false → MayRead EndsNone r
+ends_none (Ok request) ends = ends
+ends_none (Err bad) ends = tt
+
+no_one : (rs : List ParkedRequest) → none_waits rs ≡ true → rs ≡ []
+no_one [] is = refl
+no_one (r ∷ rs) is = never (sym is)
+
+-- no transaction ends, or nothing waits
+lets_none : (ends : Bool) (rs : List ParkedRequest) → (ends && not (none_waits rs)) ≡ false → (ends ≡ false) ⊎ (rs ≡ [])
+lets_none false rs is = inl refl
+lets_none true [] is = inr refl
+lets_none true (r ∷ rs) is = never is
+
+lets_by : (s : State) (a : SessionRequest) → may_let_on s (line.Asked a) ≡ false → s.manual ≡ false → (ends_read a.request ≡ false) ⊎ (s.server.parked ≡ [])
+lets_by s a lets manual = lets_none (ends_read a.request) s.server.parked (sym (ap (λ b. not b && (ends_read a.request && not (none_waits s.server.parked))) manual) ∙ lets)
+
+some_more : (rs : List ParkedRequest) (r : ParkedRequest) → rs ++ r ∷ [] ≡ [] → ⊥
+some_more [] r none = cc
+some_more (q ∷ rs) r none = cc
 
 module _ (s : State) (a : SessionRequest) (b : IsBetweenLines s) where
   abbrev played : Played
@@ -87,29 +108,56 @@ module _ (s : State) (a : SessionRequest) (b : IsBetweenLines s) where
   same_manual : (manual : Bool) → s.manual ≡ manual → asked_state.manual ≡ manual
   same_manual manual is = asked_kept (λ (t : State). t.manual ≡ manual) Any (manual_asking manual) s a (any_read a.request) is
 
-  -- nothing is left to settle where what was committed and what waits is as it was
-  still_settled : s.manual ≡ false → asked_state.server.past ≡ s.server.past → asked_state.server.parked ≡ s.server.parked → IsSettled asked_state.server
-  still_settled manual past parked =
-      let settled = b.settled manual in
-      record { released = ap (λ (p : Past). p.unreleased) past ∙ settled.released; parked = parked ∙ settled.parked }
+  reads : ends_read a.request ≡ false → ReadsOn s.server asked_state.server
+  reads ends = asked_kept (λ (t : State). ReadsOn s.server t.server) EndsNone (reads_asking s.server) s a (ends_none a.request ends) (reads_same s.server)
+
+  -- what waits between lines is kept by transactions
+  stay : s.manual ≡ false → AllStay s.server s.server.parked
+  stay manual = all_stay s.server s.server.parked (b.settled manual).released (b.settled manual).held
 
   abbrev commits : Bool
   commits = is_commit s (line.Asked a)
 
+  abbrev EndsNoneOrNoneWaits : Type 0
+  EndsNoneOrNoneWaits = (ends_read a.request ≡ false) ⊎ (s.server.parked ≡ [])
+
   -- ---- what was committed stays, but for a commit
 
-  settled_then : Comes s commits played → commits ≡ false → s.manual ≡ false → IsSettled asked_state.server
-  settled_then (answers it) other manual = still_settled manual it.past it.parked
-  settled_then (waits it) other manual = absurd (it.busy (b.settled manual).released)
-  settled_then (prepares it) other manual = never (sym it.yes ∙ other)
+  idle_then : s.manual ≡ false → asked_state.server.past ≡ s.server.past → asked_state.server.past.unreleased ≡ []
+  idle_then manual past = ap (λ (p : Past). p.unreleased) past ∙ (b.settled manual).released
+
+  still_settled : s.manual ≡ false → Answers s commits played → EndsNoneOrNoneWaits → IsSettled asked_state.server
+  still_settled manual it (inl ends) =
+      let held = all_held asked_state.server s.server.parked (all_stay_then s.server asked_state.server s.server.parked (reads ends) it.past (stay manual)) in
+      record { released = idle_then manual it.past; held = subst (AllByRecursion (IsHeldStill asked_state.server)) (sym it.parked) held }
+  still_settled manual it (inr none) = settled_by_none asked_state.server (idle_then manual it.past) (it.parked ∙ none)
+
+  -- with one more that waits
+  one_more : s.manual ≡ false → Waits s commits played → IsSettled asked_state.server
+  one_more manual it =
+      let idle = (b.settled manual).released in
+      let m = asked_state.server in
+      let q = it.request.envelope.request in
+      let others = all_stay_then s.server m s.server.parked it.reads it.past (stay manual) in
+      let it_stays = stays_then s.server m q it.reads it.past (record { kept = it.kept idle; room = it.room }) in
+      let all = all_more (λ (r : ParkedRequest). StaysOn m r.envelope.request) s.server.parked it.request others it_stays in
+      record { released = idle_then manual it.past; held = subst (AllByRecursion (IsHeldStill m)) (sym it.parked) (all_held m (s.server.parked ++ it.request ∷ []) all) }
+
+  settled_then : Comes s commits played → commits ≡ false → s.manual ≡ false → EndsNoneOrNoneWaits → IsSettled asked_state.server
+  settled_then (answers it) other manual lets = still_settled manual it lets
+  settled_then (waits it) other manual lets = one_more manual it
+  settled_then (prepares it) other manual lets = never (sym it.yes ∙ other)
 
   same_past : Comes s commits played → commits ≡ false → asked_state.server.past ≡ s.server.past
   same_past (answers it) other = it.past
   same_past (waits it) other = it.past
   same_past (prepares it) other = never (sym it.yes ∙ other)
 
-  pub asked_unmoved : commits ≡ false → (closed asked_state).state.server.past ≡ s.server.past
-  asked_unmoved other = closed_stays asked_state (λ off. settled_then (comes s a) other (sym (same_manual s.manual refl) ∙ off)) ∙ same_past (comes s a) other
+  pub asked_unmoved : commits ≡ false → may_let_on s (line.Asked a) ≡ false → (closed asked_state).state.server.past ≡ s.server.past
+  asked_unmoved other lets =
+      let settled : asked_state.manual ≡ false → IsSettled asked_state.server = λ off.
+      let manual = sym (same_manual s.manual refl) ∙ off in settled_then (comes s a) other manual (lets_by s a lets manual) in
+      ap (λ (p : Played). p.state.server.past) (closed_quiet asked_state empty settled) ∙ same_past (comes s a) other
 
   -- ---- a commit gets the next time
 
@@ -123,52 +171,74 @@ module _ (s : State) (a : SessionRequest) (b : IsBetweenLines s) where
   prepared_parked (waits it) made = never (sym made ∙ it.no)
   prepared_parked (prepares it) made = it.parked
 
-  same_last : (manual : Bool) → s.manual ≡ manual → commits ≡ true → (closed asked_state).state.server.past.last ≡ asked_state.server.past.last
-  same_last true manual made = ap (λ (p : Played). p.state.server.past.last) (closed_by_hand asked_state empty (same_manual true manual))
-  same_last false manual made = closed_last asked_state (prepared_parked (comes s a) made ∙ (b.settled manual).parked)
+  -- and those that wait are kept still
+  still_kept : s.manual ≡ false → asked_state.server.parked ≡ s.server.parked → EndsNoneOrNoneWaits → AllKept asked_state.server asked_state.server.parked
+  still_kept manual same (inl ends) =
+      subst (AllKept asked_state.server) (sym same) (all_kept_then s.server asked_state.server s.server.parked (reads ends) (stay manual))
+  still_kept manual same (inr none) = subst (AllKept asked_state.server) (sym (same ∙ none)) tt
 
-  pub asked_rises : commits ≡ true → (closed asked_state).state.server.past.last ≡ (s.server.past.last +ℤ pos 1)
-  asked_rises made = same_last s.manual refl made ∙ prepared_last (comes s a) made
+  same_last : (manual : Bool) → s.manual ≡ manual → commits ≡ true → may_let_on s (line.Asked a) ≡ false → (closed asked_state).state.server.past.last ≡ asked_state.server.past.last
+  same_last true manual made lets = ap (λ (p : Played). p.state.server.past.last) (closed_by_hand asked_state empty (same_manual true manual))
+  same_last false manual made lets = closed_last asked_state (still_kept manual (prepared_parked (comes s a) made) (lets_by s a lets manual))
+
+  pub asked_rises : commits ≡ true → may_let_on s (line.Asked a) ≡ false → (closed asked_state).state.server.past.last ≡ (s.server.past.last +ℤ pos 1)
+  asked_rises made lets = same_last s.manual refl made lets ∙ prepared_last (comes s a) made
 
   -- ---- one line
 
-  told_one : s.manual ≡ false → Comes s commits played → IsOneLine (followed_by played closed).output
-  told_one manual (answers it) =
-      let same = closed_settled asked_state empty (same_manual false manual) (still_settled manual it.past it.parked) in
+  told_one : s.manual ≡ false → s.server.parked ≡ [] → (Waits s commits played → ⊥) → Comes s commits played → IsOneLine (followed_by played closed).output
+  told_one manual none held (answers it) =
+      let same = closed_settled asked_state empty (same_manual false manual) (still_settled manual it (inr none)) in
       subst (λ (p : Played). IsOneLine (played.output ++ p.output)) (sym same) (subst IsOneLine (sym (append-nil played.output)) it.line)
-  told_one manual (waits it) = absurd (it.busy (b.settled manual).released)
-  told_one manual (prepares it) =
-      let settled = b.settled manual in
-      let u = next_commit s.server.past it.request it.writes in
-      let alone : asked_state.server.past.unreleased ≡ u ∷ [] = ap (λ (p : Past). p.unreleased) it.past ∙ ap (λ us. us ++ u ∷ []) settled.released in
-      let one = closed_one_line asked_state u stands empty alone refl (it.parked ∙ settled.parked) it.knows (same_manual false manual) in
+  told_one manual none held (waits it) = absurd (held it)
+  told_one manual none held (prepares it) =
+      let u = next_commit s.server.past it.id it.request it.writes it.reads in
+      let alone : asked_state.server.past.unreleased ≡ u ∷ [] = ap (λ (p : Past). p.unreleased) it.past ∙ ap (λ us. us ++ u ∷ []) (b.settled manual).released in
+      let one = closed_one_line asked_state u stands empty alone refl (it.parked ∙ none) it.knows (same_manual false manual) in
       subst (λ o. IsOneLine (o ++ (closed asked_state).output)) (sym it.output) one
 
-  pub asked_one_line : s.manual ≡ false → IsOneLine (followed_by played closed).output
-  asked_one_line manual = told_one manual (comes s a)
+  -- it doesn't wait where no transaction keeps any waiting, or nothing waits then
+  unkept : s.manual ≡ false → keeps_waiting s.server ≡ false → Waits s commits played → ⊥
+  unkept manual keeps it = kept_none s.server.config.mode s.server.txns.open it.request.envelope.request keeps (it.kept (b.settled manual).released)
+
+  unheld : s.manual ≡ false → (closed asked_state).state.server.parked ≡ [] → Waits s commits played → ⊥
+  unheld manual after it =
+      let same = closed_settled asked_state empty (same_manual false manual) (one_more manual it) in
+      let waits : s.server.parked ++ it.request ∷ [] ≡ [] = sym it.parked ∙ sym (ap (λ (p : Played). p.state.server.parked) same) ∙ after in
+      some_more s.server.parked it.request waits
+
+  pub asked_one_line : s.manual ≡ false → s.server.parked ≡ [] → (keeps_waiting s.server ≡ false) ⊎ ((closed asked_state).state.server.parked ≡ []) → IsOneLine (followed_by played closed).output
+  asked_one_line manual none (inl keeps) = told_one manual none (unkept manual keeps) (comes s a)
+  asked_one_line manual none (inr after) = told_one manual none (unheld manual after) (comes s a)
 
 -- ---- lines that give nothing
-
--- closed where nothing waits to be told, and by hand or with nothing left to settle
-quiet_closed : (s t : State) (manual : Bool) → t.manual ≡ manual → Empty t → (t.manual ≡ false → IsSettled t.server) → closed t ≡ nothing t
-quiet_closed s t true is empty settled = closed_by_hand t empty is
-quiet_closed s t false is empty settled = closed_settled t empty is (settled is)
 
 no_output : (t : State) → closed t ≡ nothing t → (closed t).output ≡ []
 no_output t same = ap (λ (p : Played). p.output) same
 
-clock_silent : (s : State) (time : ℤ) → IsBetweenLines s → (closed (clocked s time)).output ≡ []
-clock_silent s time b =
+-- by hand, or where nothing waits
+clock_settled : (s : State) (manual : Bool) → s.manual ≡ manual → (manual || none_waits s.server.parked) ≡ true → s.manual ≡ false → s.server.parked ≡ []
+clock_settled s true is quiet off = never (sym is ∙ off)
+clock_settled s false is quiet off = no_one s.server.parked quiet
+
+clock_silent : (s : State) (time : ℤ) → (s.manual || none_waits s.server.parked) ≡ true → IsBetweenLines s → (closed (clocked s time)).output ≡ []
+clock_silent s time quiet b =
     let now = later s.moment time in
     let t = clocked s time in
     let same : t.server.sessions ≡ s.server.sessions = ap (λ (rs : List Reply). all_delivered rs s.server.sessions) (nobody_told s.server.past now b.facts.past.unreleased b.released) in
     let none : s.server.past.unreleased ≡ [] → t.server.past.unreleased ≡ [] = λ idle. ap (λ (us : List Unreleased). kept_back (free_to (later s.server.past.last now) us) us) idle in
-    no_output t (quiet_closed s t t.manual refl (subst (AllByRecursion HasNothing) (sym same) b.empty) (λ manual. record { released = none (b.settled manual).released; parked = (b.settled manual).parked }))
+    no_output t (closed_quiet t (subst (AllByRecursion HasNothing) (sym same) b.empty) (λ manual. settled_by_none t.server (none (b.settled manual).released) (clock_settled s s.manual refl quiet manual)))
+
+-- a compaction lets nothing go on
+compacted_settled : (m : Machine) (time : ℤ) → IsSettled m → IsSettled (compacted m time)
+compacted_settled m time settled =
+    let stay = all_stay m m.parked settled.released settled.held in
+    record { released = settled.released; held = all_held (compacted m time) m.parked (all_compacted m time m.parked stay) }
 
 compact_silent : (s : State) (time : ℤ) → IsBetweenLines s → (closed (with_server s (compacted s.server time))).output ≡ []
 compact_silent s time b =
     let t = with_server s (compacted s.server time) in
-    no_output t (quiet_closed s t t.manual refl b.empty (λ manual. record { released = (b.settled manual).released; parked = (b.settled manual).parked }))
+    no_output t (closed_quiet t b.empty (λ manual. compacted_settled s.server time (b.settled manual)))
 
 hands_silent : (s : State) → IsBetweenLines s → (closed (record s { manual = true })).output ≡ []
 hands_silent s b = let t : State = record s { manual = true } in no_output t (closed_by_hand t b.empty refl)
@@ -177,12 +247,12 @@ manual_silent : (s : State) (on : Bool) → on ≡ true → IsBetweenLines s →
 manual_silent s true is b = hands_silent s b
 manual_silent s false is b = never (sym is)
 
-pub silent : (s : State) (n : ℕ) (l : Line) → is_silent l ≡ true → IsBetweenLines s → (line_played s n l).output ≡ []
+pub silent : (s : State) (n : ℕ) (l : Line) → is_silent s l ≡ true → IsBetweenLines s → (line_played s n l).output ≡ []
 silent s n line.Empty is b = refl
 silent s n line.NotBuilt is b = never (sym is)
 silent s n (line.Refused reason) is b = never (sym is)
 silent s n (line.Asked a) is b = never (sym is)
-silent s n (line.Clock time) is b = clock_silent s time b
+silent s n (line.Clock time) is b = clock_silent s time is b
 silent s n (line.Compact time) is b = compact_silent s time b
 silent s n (line.Leave name) is b = never (sym is)
 silent s n (line.Manual on) is b = manual_silent s on is b
@@ -191,20 +261,29 @@ silent s n line.Retry is b = never (sym is)
 
 -- ---- lines that leave what was committed
 
+-- where a session leaves, the others' requests are held still
+departed_settled : (m : Machine) (number : ℕ) → IsSettled m → IsSettled (departed m number)
+departed_settled m number settled =
+    let stay = all_stay m m.parked settled.released settled.held in
+    let others = all_filtered (λ (r : ParkedRequest). StaysOn m r.envelope.request) (λ r. not (r.session == number)) m.parked stay in
+    record { released = settled.released; held = all_held (departed m number) (of_others number m.parked) (all_departed m number (of_others number m.parked) others) }
+
 leaves_unmoved : (s : State) (n : ℕ) (name : List ℕ) (number : Option ℕ) → IsBetweenLines s → (leaves s n name number).state.server.past ≡ s.server.past
 leaves_unmoved s n name None b = refl
 leaves_unmoved s n name (Some number) b =
-    closed_stays (departed_by s number name) (λ manual. record { released = (b.settled manual).released; parked = ap (of_others number) (b.settled manual).parked })
+    ap (λ (p : Played). p.state.server.past) (closed_quiet (departed_by s number name) (nothing_left s.server.sessions number b.empty) (λ manual. departed_settled s.server number (b.settled manual)))
 
 manual_unmoved : (s : State) (on : Bool) → not on ≡ false → IsBetweenLines s → (closed (record s { manual = on })).state.server.past ≡ s.server.past
-manual_unmoved s true is b = closed_stays (record s { manual = true }) never
+manual_unmoved s true is b = ap (λ (p : Played). p.state.server.past) (closed_by_hand (record s { manual = true }) b.empty refl)
 manual_unmoved s false is b = never is
 
 pub unmoved : (s : State) (n : ℕ) (l : Line) → may_move s l ≡ false → IsBetweenLines s → (line_played s n l).state.server.past ≡ s.server.past
 unmoved s n line.Empty is b = refl
 unmoved s n line.NotBuilt is b = refl
 unmoved s n (line.Refused reason) is b = refl
-unmoved s n (line.Asked a) is b = asked_unmoved s a b is
+unmoved s n (line.Asked a) is b =
+    let both = or_parts (is_commit s (line.Asked a)) (may_let_on s (line.Asked a)) is in
+    asked_unmoved s a b both.0 both.1
 unmoved s n (line.Clock time) is b = never is
 unmoved s n (line.Compact time) is b = never is
 unmoved s n (line.Leave name) is b = leaves_unmoved s n name (number_of name s.directory) b
@@ -214,26 +293,27 @@ unmoved s n line.Retry is b = never is
 
 -- ---- commits, and answers
 
-pub rises : (s : State) (n : ℕ) (l : Line) → is_commit s l ≡ true → IsBetweenLines s → (line_played s n l).state.server.past.last ≡ (s.server.past.last +ℤ pos 1)
-rises s n line.Empty is b = never (sym is)
-rises s n line.NotBuilt is b = never (sym is)
-rises s n (line.Refused reason) is b = never (sym is)
-rises s n (line.Asked a) is b = asked_rises s a b is
-rises s n (line.Clock time) is b = never (sym is)
-rises s n (line.Compact time) is b = never (sym is)
-rises s n (line.Leave name) is b = never (sym is)
-rises s n (line.Manual on) is b = never (sym is)
-rises s n (line.Settle id) is b = never (sym is)
-rises s n line.Retry is b = never (sym is)
+pub rises : (s : State) (n : ℕ) (l : Line) → is_commit s l ≡ true → may_let_on s l ≡ false → IsBetweenLines s → (line_played s n l).state.server.past.last ≡ (s.server.past.last +ℤ pos 1)
+rises s n line.Empty is lets b = never (sym is)
+rises s n line.NotBuilt is lets b = never (sym is)
+rises s n (line.Refused reason) is lets b = never (sym is)
+rises s n (line.Asked a) is lets b = asked_rises s a b is lets
+rises s n (line.Clock time) is lets b = never (sym is)
+rises s n (line.Compact time) is lets b = never (sym is)
+rises s n (line.Leave name) is lets b = never (sym is)
+rises s n (line.Manual on) is lets b = never (sym is)
+rises s n (line.Settle id) is lets b = never (sym is)
+rises s n line.Retry is lets b = never (sym is)
 
-pub answered_once : (s : State) (n : ℕ) (l : Line) → is_answered l ≡ true → s.manual ≡ false → IsBetweenLines s → IsOneLine (line_played s n l).output
-answered_once s n line.Empty is manual b = never (sym is)
-answered_once s n line.NotBuilt is manual b = json_one_line (line_error (error_json Unimplemented (codes "line not read yet")) n)
-answered_once s n (line.Refused reason) is manual b = json_one_line (line_error (refused_json reason) n)
-answered_once s n (line.Asked a) is manual b = asked_one_line s a b manual
-answered_once s n (line.Clock time) is manual b = never (sym is)
-answered_once s n (line.Compact time) is manual b = never (sym is)
-answered_once s n (line.Leave name) is manual b = never (sym is)
-answered_once s n (line.Manual on) is manual b = never (sym is)
-answered_once s n (line.Settle id) is manual b = never (sym is)
-answered_once s n line.Retry is manual b = never (sym is)
+pub answered_once : (s : State) (n : ℕ) (l : Line) → is_answered l ≡ true → s.manual ≡ false → s.server.parked ≡ []
+    → (keeps_waiting s.server ≡ false) ⊎ ((line_played s n l).state.server.parked ≡ []) → IsBetweenLines s → IsOneLine (line_played s n l).output
+answered_once s n line.Empty is manual none held b = never (sym is)
+answered_once s n line.NotBuilt is manual none held b = json_one_line (line_error (error_json Unimplemented (codes "line not read yet")) n)
+answered_once s n (line.Refused reason) is manual none held b = json_one_line (line_error (refused_json reason) n)
+answered_once s n (line.Asked a) is manual none held b = asked_one_line s a b manual none held
+answered_once s n (line.Clock time) is manual none held b = never (sym is)
+answered_once s n (line.Compact time) is manual none held b = never (sym is)
+answered_once s n (line.Leave name) is manual none held b = never (sym is)
+answered_once s n (line.Manual on) is manual none held b = never (sym is)
+answered_once s n (line.Settle id) is manual none held b = never (sym is)
+answered_once s n line.Retry is manual none held b = never (sym is)

@@ -1,5 +1,5 @@
 -- What `parse` gives for the number of a commit.
-use Rattle.std.proofs.Common.{◌≡◌, ◌≢◌, ℕ, ◌<◌, ◌≤◌, ◌^◌, List, length, Bool, true, false, get_or, Result, Ok, Err, ◌&&◌, Some, None, arith, nat_le, nat_lt, if◌then◌else◌}
+use Rattle.std.proofs.Common.{◌≡◌, ◌≢◌, ℕ, ◌<◌, ◌≤◌, ◌^◌, List, length, Bool, true, get_or, Result, Ok, Err, ◌&&◌, Some, None, arith, nat_le, nat_lt, if◌then◌else◌}
 use Rattle.std.proofs.lemmas.Bool.Decides.{nat_tests}
 use Rattle.std.proofs.lemmas.Str.Parse.{parse_plain}
 use Rattle.std.specs.Result.{OkIff, result_ok}

@@ -1,9 +1,8 @@
 -- What holds of all scripts.
-use Rattle.std.proofs.Common.{◌≡◌, ℕ, ◌+◌, ◌<◌, Bool, true, false, cond, eqb, List, [], ◌∷◌, ◌++◌, length, Option, Some, None, ◌≤ℤ◌, pos, ◌+ℤ◌, refl, ap, ◌∙◌, arith}
-use Rattle.std.specs.Prelude.{codes, int_lt, nat_le}
+use Rattle.std.proofs.Common.{◌≡◌, inl, inr, ℕ, ◌+◌, ◌<◌, Bool, true, false, cond, eqb, List, [], ◌∷◌, ◌++◌, length, Option, Some, None, pos, ◌+ℤ◌, refl, sym, ap, ◌∙◌, subst, arith}
+use Rattle.std.specs.Prelude.{codes, nat_le}
 use Rattle.std.proofs.lemmas.Bool.{or_parts}
 use Rattle.std.proofs.lemmas.Bool.Decides.{nat_tests}
-use Rattle.std.proofs.lemmas.Int.{ints}
 use Rattle.std.proofs.lemmas.List.Splits.{length-slice_split}
 use Rattle.std.specs.FinMap.{get}
 use Rattle.std.specs.List.{onto_first}
@@ -11,28 +10,32 @@ use Rattle.fs_path.specs.declared.name.DocName.{DocName}
 use Rattle.fs_rpc.specs.declared.message.Message.{Message}
 use Rattle.fs_rpc.specs.declared.message.Message.TheVariants as message
 use Rattle.fs_rpc.specs.declared.request.Request.TheVariants.{GetDocument}
+use Rattle.fs_rpc.specs.declared.when.When.TheVariants.{Released}
 use Rattle.fs_value.specs.declared.document.Document.{Document}
 use Rattle.fs_write.specs.WrittenName.{is_written}
 use Rattle.fs_history.specs.History.{at, whole}
-use Rattle.fs_machine.specs.Commit.{outbox_refusal, passed}
+use Rattle.fs_history.specs.Serial.{IsSerial}
+use Rattle.fs_history.proofs.Serial.{serial_is}
 use Rattle.fs_machine.specs.Grows.{Grows}
 use Rattle.fs_machine.specs.Laws.{AlwaysGrows, AlwaysKept}
 use Rattle.fs_machine.specs.Limits.{AreAllowed}
-use Rattle.fs_machine.specs.Past.{Past}
-use Rattle.fs_machine.specs.Read.{document_answer, time_refusal, unless_refused}
-use Rattle.fs_machine.specs.Request.{answered}
+use Rattle.fs_machine.specs.Read.{document_answer}
+use Rattle.fs_machine.specs.Refusing.{outbox_refusal, passed}
+use Rattle.fs_machine.specs.Request.{answered, answered_unless, arrived}
 use Rattle.fs_machine.specs.declared.answer.Answer.TheVariants.{Reply}
 use Rattle.fs_machine.specs.declared.config.Config.{Config}
 use Rattle.fs_machine.specs.declared.limits.Limits.{Limits}
 use Rattle.fs_machine.proofs.Grows.{grows_on, grows_same}
 use Rattle.fs_replay.specs.Held.{held_lines}
-use Rattle.fs_replay.specs.Laws.{IsBetweenLines, IsOneLine, asked_writes, is_answered, is_commit, is_silent, is_written_in, line_in_state, may_move, will_be_written}
+use Rattle.fs_replay.specs.Laws.{IsBetweenLines, IsOneLine, asked_writes, is_answered, is_commit, is_silent, is_written_in, keeps_waiting, line_in_state, may_let_on, may_move, will_be_written}
+use Rattle.fs_replay.specs.Run.{GrowsThroughout, IsSerialThroughout}
 use Rattle.fs_replay.specs.Step.{after_line, line_output, start}
 use Rattle.fs_replay.specs.Transcript.{after_lines, lines_of, transcript, written}
 use Rattle.fs_replay.specs.declared.state.State.{State}
 use Rattle.fs_replay.proofs.Ended.{line_between}
 use Rattle.fs_replay.proofs.Following.{answered_once, rises, silent, unmoved}
 use Rattle.fs_replay.proofs.Growing.{line_grows}
+use Rattle.fs_replay.proofs.Staying.{nobody_waits}
 use Rattle.fs_replay.proofs.Untouched.{Untouched, Unwritten, line_leaves, untouched}
 use Rattle.fs_replay.proofs.Waiting.{nothing_in}
 
@@ -40,7 +43,7 @@ use Rattle.fs_replay.proofs.Waiting.{nothing_in}
 
 pub starts_between : AlwaysKept → (config : Config) (limits : Limits) → AreAllowed limits → IsBetweenLines (start config limits)
 starts_between kept config limits allowed = record {
-  settled = λ _. record { released = refl; parked = refl };
+  settled = λ _. record { released = refl; held = tt };
   released = refl;
   empty = tt;
   known = refl;
@@ -50,6 +53,9 @@ starts_between kept config limits allowed = record {
 }
 
 -- ---- lines
+
+pub nobody_keeps : (s : State) → IsBetweenLines s → s.manual ≡ false → keeps_waiting s.server ≡ false → s.server.parked ≡ []
+nobody_keeps s between manual none = nobody_waits s.server (between.settled manual) none
 
 pub stays_between : (s : State) (n : ℕ) (bytes : List ℕ) → IsBetweenLines s → IsBetweenLines (after_line s n bytes)
 unfolding after_line
@@ -65,13 +71,38 @@ lines_grow grow s n (bytes ∷ lines) between =
     let next = after_line s n bytes in
     grows_on s.server.past next.server.past (after_lines next (n + 1) lines).server.past (grows_once grow s n bytes between) (lines_grow grow next (n + 1) lines (stays_between s n bytes between))
 
+all_between : (s : State) (n : ℕ) (lines : List (List ℕ)) → IsBetweenLines s → IsBetweenLines (after_lines s n lines)
+all_between s n [] between = between
+all_between s n (bytes ∷ lines) between = all_between (after_line s n bytes) (n + 1) lines (stays_between s n bytes between)
+
+pub lines_serial : (s : State) (n : ℕ) (lines : List (List ℕ)) → IsBetweenLines s → IsSerial (after_lines s n lines).server.past.history
+lines_serial s n lines between =
+    let past = (all_between s n lines between).facts.past in
+    serial_is (after_lines s n lines).server.past.history past.history.rising past.reads.serial
+
+-- lines, and more behind them
+after_both : (s : State) (n : ℕ) (front back : List (List ℕ)) → (k : ℕ) × (after_lines s n (front ++ back) ≡ after_lines (after_lines s n front) k back)
+after_both s n [] back = (n, refl)
+after_both s n (bytes ∷ front) back = after_both (after_line s n bytes) (n + 1) front back
+
+pub runs_grow : AlwaysKept → AlwaysGrows → (config : Config) (limits : Limits) (lines : List (List ℕ)) → AreAllowed limits → GrowsThroughout config limits lines
+runs_grow kept grow config limits lines allowed = λ front back is.
+    let s = start config limits in
+    let cut = after_lines s 1 front in
+    let both = after_both s 1 front back in
+    let between = all_between s 1 front (starts_between kept config limits allowed) in
+    subst (λ (t : State). Grows cut.server.past t.server.past) (sym (ap (after_lines s 1) is ∙ both.1)) (lines_grow grow cut both.0 back between)
+
+pub runs_serial : AlwaysKept → (config : Config) (limits : Limits) (lines : List (List ℕ)) → AreAllowed limits → IsSerialThroughout config limits lines
+runs_serial kept config limits lines allowed = λ front back is. lines_serial (start config limits) 1 front (starts_between kept config limits allowed)
+
 pub past_unmoved : (s : State) (n : ℕ) (bytes : List ℕ) → IsBetweenLines s → may_move s (line_in_state s bytes) ≡ false → (after_line s n bytes).server.past ≡ s.server.past
 unfolding after_line
 past_unmoved s n bytes between is = unmoved s n (line_in_state s bytes) is between
 
-pub times_rise : (s : State) (n : ℕ) (bytes : List ℕ) → IsBetweenLines s → is_commit s (line_in_state s bytes) ≡ true → (after_line s n bytes).server.past.last ≡ (s.server.past.last +ℤ pos 1)
+pub times_rise : (s : State) (n : ℕ) (bytes : List ℕ) → IsBetweenLines s → is_commit s (line_in_state s bytes) ≡ true → may_let_on s (line_in_state s bytes) ≡ false → (after_line s n bytes).server.past.last ≡ (s.server.past.last +ℤ pos 1)
 unfolding after_line
-times_rise s n bytes between is = rises s n (line_in_state s bytes) is between
+times_rise s n bytes between is lets = rises s n (line_in_state s bytes) is lets between
 
 leaves_once : Unwritten → (name : DocName) (found : Option Document) (s : State) (n : ℕ) (bytes : List ℕ) → is_written name (asked_writes (line_in_state s bytes)) ≡ false → Untouched name found s.server
     → Untouched name found (after_line s n bytes).server
@@ -90,37 +121,35 @@ pub lines_keep : Unwritten → (s : State) (n : ℕ) (lines : List (List ℕ)) (
     → get (whole (after_lines s n lines).server.past.history) name ≡ get (whole s.server.past.history) name
 lines_keep unwritten s n lines name between will e = (all_leave unwritten name (get (whole s.server.past.history) name) s n lines e (untouched name s.server will)).stays
 
-pub one_line : (s : State) (n : ℕ) (bytes : List ℕ) → IsBetweenLines s → s.manual ≡ false → is_answered (line_in_state s bytes) ≡ true → IsOneLine (line_output s n bytes)
+pub one_line : (s : State) (n : ℕ) (bytes : List ℕ) → IsBetweenLines s → s.manual ≡ false → keeps_waiting s.server ≡ false → is_answered (line_in_state s bytes) ≡ true → IsOneLine (line_output s n bytes)
 unfolding line_output
-one_line s n bytes between manual is = answered_once s n (line_in_state s bytes) is manual between
+one_line s n bytes between manual keeps is = answered_once s n (line_in_state s bytes) is manual (nobody_keeps s between manual keeps) (inl keeps) between
 
-pub no_line : (s : State) (n : ℕ) (bytes : List ℕ) → IsBetweenLines s → is_silent (line_in_state s bytes) ≡ true → line_output s n bytes ≡ []
+pub one_line_where_none_waits : (s : State) (n : ℕ) (bytes : List ℕ) → IsBetweenLines s → s.manual ≡ false → s.server.parked ≡ [] → (after_line s n bytes).server.parked ≡ [] → is_answered (line_in_state s bytes) ≡ true
+    → IsOneLine (line_output s n bytes)
+unfolding line_output after_line
+one_line_where_none_waits s n bytes between manual none after is = answered_once s n (line_in_state s bytes) is manual none (inr after) between
+
+pub no_line : (s : State) (n : ℕ) (bytes : List ℕ) → IsBetweenLines s → is_silent s (line_in_state s bytes) ≡ true → line_output s n bytes ≡ []
 unfolding line_output
 no_line s n bytes between is = silent s n (line_in_state s bytes) is between
 
 -- ---- what a read answers
 
-readable : (p : Past) → p.floor ≤ℤ p.released → time_refusal p p.released ≡ None
-readable p within =
-    let low : int_lt p.released p.floor ≡ false = grind (arith, ints) in
-    let high : int_lt p.released p.released ≡ false = grind (arith, ints) in
-    rw (low, high) refl
-
 none_full : (limit : ℕ) → 0 < limit → nat_le limit 0 ≡ false
 none_full limit some = grind (arith, nat_tests)
 
-has_room : (s : State) (session : ℕ) → IsBetweenLines s → 0 < s.server.limits.outbox → outbox_refusal s.server session ≡ None
+has_room : (s : State) (session : ℕ) → IsBetweenLines s → 0 < s.server.limits.outbox → outbox_refusal s.server session None ≡ None
 has_room s session b some =
     let limit = s.server.limits.outbox in
     ap (λ (ms : List Message). passed (nat_le limit (length ms)) (codes "outbox") limit None) (nothing_in s.server.sessions session b.empty)
     ∙ ap (λ full. passed full (codes "outbox") limit None) (none_full limit some)
 
 pub shows_what_stands : (s : State) (session : ℕ) (id : Option (List ℕ)) (name : DocName) (d : Document) → IsBetweenLines s → 0 < s.server.limits.outbox
-    → get (at s.server.past.history s.server.past.released) name ≡ Some d → answered s.server session (record { id = id; request = GetDocument name None None }) ≡ Reply (message.GetDocument id d)
+    → get (at s.server.past.history s.server.past.released) name ≡ Some d → answered s.server session (record { id = id; request = GetDocument name None Released }) ≡ Reply (message.GetDocument id d)
 shows_what_stands s session id name d b some there =
-    ap (λ room. unless_refused room (unless_refused (time_refusal s.server.past s.server.past.released) (document_answer id s.server.past.released None (get (at s.server.past.history s.server.past.released) name)))) (has_room s session b some)
-    ∙ ap (λ refusal. unless_refused refusal (document_answer id s.server.past.released None (get (at s.server.past.history s.server.past.released) name))) (readable s.server.past b.facts.past.floor)
-    ∙ ap (document_answer id s.server.past.released None) there
+    let r = arrived s.server session (record { id = id; request = GetDocument name None Released }) in
+    ap (λ refusal. answered_unless refusal s.server r) (has_room s session b some) ∙ ap (document_answer id s.server.past.released None) there
 
 -- ---- a last newline
 

@@ -15,12 +15,16 @@ mod OneLine
 mod Each
 mod Known
 mod Emptied
+mod Going
+mod Becoming
+mod Readers
 mod Falling
 mod Turns
 mod Released
 mod Kept
 mod Standing
 mod Ended
+mod Staying
 mod Growing
 mod Untouched
 mod Waiting

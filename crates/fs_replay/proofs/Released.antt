@@ -1,5 +1,5 @@
 -- Where all is released that can be, no commit is under way or the first of them is pending: and the other way round.
-use Rattle.std.proofs.Common.{◌≡◌, ℤ, ◌≤◌, ◌≤ℤ◌, Bool, true, false, cond, List, [], ◌∷◌, ◌++◌, Some, None, refl, sym, ap, ◌∙◌, subst, arith}
+use Rattle.std.proofs.Common.{◌≡◌, ℤ, ◌≤◌, ◌≤ℤ◌, Bool, true, false, cond, List, [], ◌∷◌, ◌++◌, Option, Some, None, refl, sym, ap, ◌∙◌, subst, arith}
 use Rattle.std.specs.Prelude.{pos, ◌+ℤ◌, ◌-ℤ◌, is_none, map, not, ⊤, length}
 use Rattle.std.specs.List.{filter}
 use Rattle.std.proofs.lemmas.Int.{ints}
@@ -122,8 +122,8 @@ prepared_released p u none next rise same =
     (released_to_there p same ∙ sym (prepared_free p.unreleased u p.last starts pending next))
 
 -- a compaction leaves them as they are
-pub compacted_released : (p : Past) (to : ℤ) → IsReleased p → IsReleased (past_compacted p to)
-compacted_released p to same = ap (λ (q : Past). record q { floor = floor_after p to }) same
+pub compacted_released : (p : Past) (first : Option ℤ) (to : ℤ) → IsReleased p → IsReleased (past_compacted p first to)
+compacted_released p first to same = ap (λ (q : Past). record q { floor = floor_after p first to }) same
 
 -- and where the clock goes on, nobody is told anything
 pub nobody_told : (p : Past) (now : ℤ) → UnreleasedRise p → IsReleased p → replies_out (past_advanced p now) ≡ []

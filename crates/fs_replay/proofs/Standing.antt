@@ -1,17 +1,16 @@
 -- What stands all the time while a script is played stands after each thing that a line is made of, and after each line.
 use Rattle.std.proofs.Common.{◌≡◌, ℕ, ℤ, true, List, [], ◌∷◌, ◌++◌, Option, Some, None, Result, Ok, Err, refl, sym, ap, ◌∙◌, subst}
-use Rattle.std.specs.Prelude.{⊤, slice_get}
+use Rattle.std.specs.Prelude.{⊤, remove, slice_get}
 use Rattle.fs_json.specs.declared.bad.Bad.{Bad}
 use Rattle.fs_rpc.specs.MessageJson.{refused}
 use Rattle.fs_rpc.specs.declared.request.Envelope.{Envelope}
 use Rattle.fs_rpc.specs.declared.request.Request.{Request}
-use Rattle.fs_rpc.specs.declared.request.Request.TheVariants.{Commit, GetDocument, BatchGetDocuments, RunQuery}
 use Rattle.fs_status.specs.declared.refusal.Refusal.{Refusal}
+use Rattle.fs_txn.specs.Reading.{oldest}
 use Rattle.fs_write.specs.Batch.{Docs}
 use Rattle.fs_write.specs.declared.write.Write.{Write}
 use Rattle.fs_write.specs.declared.write_result.WriteResult.{WriteResult}
-use Rattle.fs_machine.specs.Behind.{behind}
-use Rattle.fs_machine.specs.Commit.{Decision, after_limits, arrived, carried, commit_refusal, decision_behind, drawn, next_commit}
+use Rattle.fs_machine.specs.Commit.{next_commit}
 use Rattle.fs_machine.specs.Compact.{compacted}
 use Rattle.fs_machine.specs.Event.{Event}
 use Rattle.fs_machine.specs.Facts.{Facts}
@@ -19,27 +18,35 @@ use Rattle.fs_machine.specs.Leave.{departed}
 use Rattle.fs_machine.specs.Limits.{AreAllowed}
 use Rattle.fs_machine.specs.Open.{with_session}
 use Rattle.fs_machine.specs.Outbox.{taken}
+use Rattle.fs_machine.specs.Past.{Past}
 use Rattle.fs_machine.specs.Release.{all_delivered, replies_out}
-use Rattle.fs_machine.specs.Request.{after_request}
-use Rattle.fs_machine.specs.Retry.{retried, retry_decision, tried, writes_of}
+use Rattle.fs_machine.specs.Request.{Decision, answer_by, answered, arrived, asked, carried, decision, retry_refusal}
+use Rattle.fs_machine.specs.Retry.{retried, retry_decision, tried, unparked}
 use Rattle.fs_machine.specs.Sessions.{delivered}
 use Rattle.fs_machine.specs.Settle.{decided, decided_if, decided_with, outcome_of, pending_of, settled}
 use Rattle.fs_machine.specs.State.{Machine}
 use Rattle.fs_machine.specs.Tick.{advanced, ticked}
+use Rattle.fs_machine.specs.UnreleasedRise.{UnreleasedRise}
+use Rattle.fs_machine.specs.declared.answer.Answer.{Answer}
+use Rattle.fs_machine.specs.declared.numbers.Numbers.{Numbers}
 use Rattle.fs_machine.specs.declared.parked_request.ParkedRequest.{ParkedRequest}
 use Rattle.fs_machine.specs.declared.reply.Reply.{Reply}
 use Rattle.fs_machine.specs.declared.session.Session.{Session}
 use Rattle.fs_machine.specs.declared.unreleased.Unreleased.{Unreleased}
+use Rattle.fs_machine.proofs.Carried.{carried_rest}
+use Rattle.fs_machine.proofs.Holding.{decision_alike}
 use Rattle.fs_machine.proofs.Runs.{keeps, kept_with_session}
 use Rattle.fs_machine.proofs.SessionsNumbered.{numbers_of, same_numbers}
 use Rattle.fs_replay.specs.Directory.{number_of, without}
-use Rattle.fs_replay.specs.Laws.{IsReleased, is_open, numbers_in}
+use Rattle.fs_replay.specs.Laws.{IsReleased, is_open, numbers_in, writes_of}
 use Rattle.fs_replay.specs.declared.directory.Named.{Named}
 use Rattle.fs_replay.specs.declared.request.Line.{Line}
 use Rattle.fs_replay.specs.declared.request.Line.TheVariants as line
 use Rattle.fs_replay.specs.declared.state.State.{State}
+use Rattle.fs_replay.proofs.Becoming.{Becomes, asked_becomes, with_numbers}
 use Rattle.fs_replay.proofs.Each.{all_more, all_removed}
 use Rattle.fs_replay.proofs.Falling.{retried_is, settled_is, settled_parked}
+use Rattle.fs_replay.proofs.Going.{Goes, carried_goes, passes}
 use Rattle.fs_replay.proofs.Kept.{Keeps, KeepsAll, KeepsAsking, MayAsk, MayRead}
 use Rattle.fs_replay.proofs.Known.{OfOpen, known_departed, known_more, known_open, of_open_alike, of_open_departed, of_open_more}
 use Rattle.fs_replay.proofs.Released.{compacted_released, prepared_released, owes_nothing}
@@ -89,20 +96,37 @@ settled_fits ns m id facts fits =
       limits = subst AreAllowed (ap (λ (k : Machine). k.limits) (sym (settled_is m id))) fits.limits;
     }
 
-tried_fits : (ns : List Named) (m : Machine) (place : ℕ) (r : ParkedRequest) (writes : List Write) (d : Decision) → Facts m → Fits ns m → Fits ns (tried m place r writes d)
-tried_fits ns m place r writes (Decision.refused refusal) facts fits = record { released = fits.released; known = fits.known; waiting = all_removed (λ (q : ParkedRequest). is_open q.session m.sessions ≡ true) m.parked place fits.waiting; limits = fits.limits }
-tried_fits ns m place r writes (Decision.held id) facts fits = fits
-tried_fits ns m place r writes Decision.goes_on facts fits = record {
-  released = prepared_released m.past (next_commit m.past r writes) refl refl facts.past.unreleased fits.released;
-  known = fits.known;
-  waiting = all_removed (λ (q : ParkedRequest). is_open q.session m.sessions ≡ true) m.parked place fits.waiting;
-  limits = fits.limits;
-}
+-- what is carried out owes nothing either
+goes_released : (r : ParkedRequest) (writes : List Write) (p q : Past) (a : Answer) → Goes r writes p q a → UnreleasedRise p → IsReleased p → IsReleased q
+goes_released r writes p q a (Goes.answers same told) rise released = subst IsReleased (sym same) released
+goes_released r writes p q a (Goes.prepares id reads same told) rise released = subst IsReleased (sym same) (prepared_released p (next_commit p id r writes reads) refl refl rise released)
+
+carried_fits : (ns : List Named) (m : Machine) (r : ParkedRequest) → UnreleasedRise m.past → decision m r.envelope.request ≡ Decision.goes_on → Fits ns m → Fits ns (carried m r)
+carried_fits ns m r rise goes fits =
+    let q = r.envelope.request in
+    subst (Fits ns) (sym (carried_rest m r q))
+    (record {
+      released = goes_released r (writes_of q) m.past (carried m r).past (answer_by m r q) (carried_goes m r q goes) rise fits.released;
+      known = fits.known;
+      waiting = fits.waiting;
+      limits = fits.limits;
+    })
+
+-- without the one at a place
+left_fits : (ns : List Named) (m : Machine) (place : ℕ) → Fits ns m → Fits ns (unparked m place)
+left_fits ns m place fits = record { released = fits.released; known = fits.known; waiting = all_removed (λ (q : ParkedRequest). is_open q.session m.sessions ≡ true) m.parked place fits.waiting; limits = fits.limits }
+
+tried_fits : (ns : List Named) (m : Machine) (place : ℕ) (r : ParkedRequest) (d : Decision) → retry_decision m r.envelope.request ≡ d → Facts m → Fits ns m → Fits ns (tried m place r d)
+tried_fits ns m place r (Decision.refused refusal) is facts fits = left_fits ns m place fits
+tried_fits ns m place r (Decision.held id) is facts fits = fits
+tried_fits ns m place r Decision.goes_on is facts fits =
+    let q = r.envelope.request in
+    let goes = decision_alike m m.numbers (remove m.parked place) q ∙ (passes (retry_refusal m q) (decision m q) is).1 in
+    carried_fits ns (unparked m place) r facts.past.unreleased goes (left_fits ns m place fits)
 
 retried_fits : (ns : List Named) (m : Machine) (place : ℕ) (r : ParkedRequest) → slice_get m.parked place ≡ Some r → Facts m → Fits ns m → Fits ns (retried m place)
 retried_fits ns m place r is facts fits =
-    let writes = writes_of r.envelope.request in
-    subst (Fits ns) (sym (retried_is m place r is)) (tried_fits ns m place r writes (retry_decision m writes) facts fits)
+    subst (Fits ns) (sym (retried_is m place r is)) (tried_fits ns m place r (retry_decision m r.envelope.request) refl facts fits)
 
 taken_fits : (ns : List Named) (m : Machine) (number : ℕ) → Fits ns m → Fits ns (taken m number)
 taken_fits ns m number fits =
@@ -123,26 +147,19 @@ stands_closing = record {
 
 -- ---- a request
 
-module _ (ns : List Named) (m : Machine) (facts : Facts m) (fits : Fits ns m) where
-  carried_fits : (r : ParkedRequest) (writes : List Write) (d : Decision) → is_open r.session m.sessions ≡ true → Fits ns (carried (drawn m) r writes d)
-  carried_fits r writes (Decision.refused refusal) opened = record { released = fits.released; known = fits.known; waiting = fits.waiting; limits = fits.limits }
-  carried_fits r writes (Decision.held id) opened = record { released = fits.released; known = fits.known; waiting = all_more (λ (q : ParkedRequest). is_open q.session m.sessions ≡ true) m.parked r fits.waiting opened; limits = fits.limits }
-  carried_fits r writes Decision.goes_on opened = record {
-    released = prepared_released m.past (next_commit m.past r writes) refl refl facts.past.unreleased fits.released;
-    known = fits.known;
-    waiting = fits.waiting;
-    limits = fits.limits;
-  }
+-- with other numbers
+numbered_fits : (ns : List Named) (m : Machine) (k : Numbers) → Fits ns m → Fits ns (with_numbers m k)
+numbered_fits ns m k fits = record { released = fits.released; known = fits.known; waiting = fits.waiting; limits = fits.limits }
 
-  limited_fits : (r : ParkedRequest) (writes : List Write) (refusal : Option Refusal) → is_open r.session m.sessions ≡ true → Fits ns (after_limits refusal m r writes)
-  limited_fits r writes (Some refusal) opened = fits
-  limited_fits r writes None opened = carried_fits r writes (decision_behind m (behind m.past writes)) opened
+becomes_fits : (ns : List Named) (m n : Machine) (r : ParkedRequest) (a : Answer) → Facts m → Fits ns m → is_open r.session m.sessions ≡ true → Becomes m r n a → Fits ns n
+becomes_fits ns m n r a facts fits opened (Becomes.refused k refusal is told) = subst (Fits ns) (sym is) (numbered_fits ns m k fits)
+becomes_fits ns m n r a facts fits opened (Becomes.held k by is told behind may) =
+    let waits = all_more (λ (q : ParkedRequest). is_open q.session m.sessions ≡ true) m.parked r fits.waiting opened in
+    subst (Fits ns) (sym is) (record { released = fits.released; known = fits.known; waiting = waits; limits = fits.limits })
+becomes_fits ns m n r a facts fits opened (Becomes.goes_on k is told goes) = subst (Fits ns) (sym is) (carried_fits ns (with_numbers m k) r facts.past.unreleased goes (numbered_fits ns m k fits))
 
-  asked_fits : (number : ℕ) (e : Envelope) (request : Request) → is_open number m.sessions ≡ true → Fits ns (after_request m number e request)
-  asked_fits number e (Commit database writes) opened = limited_fits (arrived m number e) writes (commit_refusal m number writes) opened
-  asked_fits number e (GetDocument name mask time) opened = fits
-  asked_fits number e (BatchGetDocuments database names mask time) opened = fits
-  asked_fits number e (RunQuery database query time) opened = fits
+asked_fits : (ns : List Named) (m : Machine) (number : ℕ) (e : Envelope) → Facts m → Fits ns m → is_open number m.sessions ≡ true → Fits ns (asked m number e)
+asked_fits ns m number e facts fits opened = becomes_fits ns m (asked m number e) (arrived m number e) (answered m number e) facts fits opened (asked_becomes m number e)
 
 -- ---- all that a line is made of
 
@@ -174,7 +191,7 @@ ticked_fits ns m now facts fits =
     }
 
 compacted_fits : (ns : List Named) (m : Machine) (to : ℤ) → Fits ns m → Fits ns (compacted m to)
-compacted_fits ns m to fits = record { released = compacted_released m.past to fits.released; known = fits.known; waiting = fits.waiting; limits = fits.limits }
+compacted_fits ns m to fits = record { released = compacted_released m.past (oldest m.txns.open) to fits.released; known = fits.known; waiting = fits.waiting; limits = fits.limits }
 
 -- any request may be asked
 abbrev pub Any : Request → Type 0
@@ -201,7 +218,7 @@ stands_asking = record {
   by_opening = λ s name stands. record { facts = kept_with_session s.server stands.facts; fits = opened_fits s.directory s.server name stands.fits };
   by_asking = λ s number e knows may stands. record {
     facts = keeps s.server (Event.asking number e) stands.facts;
-    fits = asked_fits s.directory s.server stands.facts stands.fits number e e.request (known_open s.directory s.server.sessions number stands.fits.known knows);
+    fits = asked_fits s.directory s.server number e stands.facts stands.fits (known_open s.directory s.server.sessions number stands.fits.known knows);
   };
 }
 

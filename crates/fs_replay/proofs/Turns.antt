@@ -28,11 +28,11 @@ never_less n = grind (arith, nat_tests)
 pub not_itself : (s : State) → did_something s s ≡ false
 not_itself s = never_less (left_to_do s.server)
 
--- turns change nothing then
-pub idle_turns : (s : State) (n : ℕ) → left_to_do s.server ≡ 0 → turns n s ≡ nothing s
-idle_turns s zero none = refl
-idle_turns s (suc n) none =
-    ap (λ (p : Played). followed_by p (Behind n s)) (idle_turn s none)
+-- where one turn does nothing, no more do
+pub idle_turns : (s : State) (n : ℕ) → turn s ≡ nothing s → turns n s ≡ nothing s
+idle_turns s zero idle = refl
+idle_turns s (suc n) idle =
+    ap (λ (p : Played). followed_by p (Behind n s)) idle
     ∙ ap (λ b. followed_by (nothing s) (λ t. cond b (turns n s) (nothing s))) (not_itself s)
 
 -- ---- enough are as good as more
@@ -48,8 +48,8 @@ same_behind n k s t true is same = same is
 same_behind n k s t false is same = refl
 
 pub enough : (n k : ℕ) (s : State) → left_to_do s.server ≤ n → left_to_do s.server ≤ k → turns n s ≡ turns k s
-enough zero k s a b = sym (idle_turns s k (omega (arith, a)))
-enough (suc n) zero s a b = idle_turns s (suc n) (omega (arith, b))
+enough zero k s a b = sym (idle_turns s k (idle_turn s (omega (arith, a))))
+enough (suc n) zero s a b = idle_turns s (suc n) (idle_turn s (omega (arith, b)))
 enough (suc n) (suc k) s a b =
     let t = (turn s).state in
     let more = same_behind n k s t (did_something s t) refl (λ did. enough n k t (less_left s t n did a) (less_left s t k did b)) in

@@ -1,6 +1,6 @@
 -- The document of a name stays through each thing that a line is made of, where nothing under way writes it, and no request does.
-use Rattle.std.proofs.Common.{◌≡◌, ℕ, ℤ, Bool, true, false, cond, List, [], ◌∷◌, Option, Some, None, Result, Ok, Err, refl, sym, ◌∙◌, subst}
-use Rattle.std.specs.Prelude.{◌==◌, not, slice_get}
+use Rattle.std.proofs.Common.{◌≡◌, ℕ, ℤ, Bool, true, false, cond, List, [], ◌∷◌, Option, Some, None, Result, Ok, Err, refl, sym, ap, ◌∙◌, subst}
+use Rattle.std.specs.Prelude.{◌==◌, not, remove, slice_get}
 use Rattle.std.specs.FinMap.{get}
 use Rattle.std.specs.List.{AllByRecursion, list_any}
 use Rattle.std.proofs.lemmas.Bool.{or_parts}
@@ -10,7 +10,6 @@ use Rattle.fs_history.specs.History.{whole}
 use Rattle.fs_history.specs.declared.batch.Batch.{Batch}
 use Rattle.fs_rpc.specs.declared.request.Envelope.{Envelope}
 use Rattle.fs_rpc.specs.declared.request.Request.{Request}
-use Rattle.fs_rpc.specs.declared.request.Request.TheVariants.{Commit, GetDocument, BatchGetDocuments, RunQuery}
 use Rattle.fs_status.specs.declared.refusal.Refusal.{Refusal}
 use Rattle.fs_value.specs.declared.document.Document.{Document}
 use Rattle.fs_write.specs.After.{after_batch}
@@ -18,24 +17,29 @@ use Rattle.fs_write.specs.Batch.{Docs}
 use Rattle.fs_write.specs.WrittenName.{is_written}
 use Rattle.fs_write.specs.declared.write.Write.{Write}
 use Rattle.fs_write.specs.declared.write_result.WriteResult.{WriteResult}
-use Rattle.fs_machine.specs.Behind.{behind}
-use Rattle.fs_machine.specs.Commit.{Decision, after_limits, arrived, carried, commit_refusal, decision_behind, drawn, next_commit}
+use Rattle.fs_machine.specs.Commit.{next_commit}
+use Rattle.fs_machine.specs.Past.{Past}
 use Rattle.fs_machine.specs.Release.{free_to, freed, is_freed, joined, released}
-use Rattle.fs_machine.specs.Request.{after_request}
-use Rattle.fs_machine.specs.Retry.{retried, retry_decision, tried, writes_of}
+use Rattle.fs_machine.specs.Request.{Decision, answer_by, answered, arrived, asked, carried, decision, retry_refusal}
+use Rattle.fs_machine.specs.Retry.{retried, retry_decision, tried, unparked}
 use Rattle.fs_machine.specs.Settle.{accepted_in, decided, decided_if, decided_with, dropped_from, is_it, outcome_of, pending_of, settled}
 use Rattle.fs_machine.specs.State.{Machine}
 use Rattle.fs_machine.specs.Tick.{advanced}
+use Rattle.fs_machine.specs.declared.answer.Answer.{Answer}
 use Rattle.fs_machine.specs.declared.parked_request.ParkedRequest.{ParkedRequest}
 use Rattle.fs_machine.specs.declared.unreleased.Unreleased.{Unreleased}
 use Rattle.fs_machine.proofs.Behind.{none_any}
-use Rattle.fs_replay.specs.Laws.{asked_writes, will_be_written, writes_read}
+use Rattle.fs_machine.proofs.Carried.{carried_rest}
+use Rattle.fs_machine.proofs.Holding.{decision_alike}
+use Rattle.fs_replay.specs.Laws.{asked_writes, will_be_written, writes_of, writes_read}
 use Rattle.fs_replay.specs.Step.{line_played}
 use Rattle.fs_replay.specs.declared.request.Line.{Line}
 use Rattle.fs_replay.specs.declared.request.Line.TheVariants as line
 use Rattle.fs_replay.specs.declared.state.State.{State}
+use Rattle.fs_replay.proofs.Becoming.{Becomes, asked_becomes, with_numbers}
 use Rattle.fs_replay.proofs.Each.{all_at, all_filtered, all_more, all_removed}
 use Rattle.fs_replay.proofs.Falling.{retried_is}
+use Rattle.fs_replay.proofs.Going.{Goes, carried_goes, passes}
 use Rattle.fs_replay.proofs.Kept.{KeepsAll, MayAsk, MayRead, line_kept}
 
 -- a law of batches
@@ -105,40 +109,48 @@ module _ (unwritten : Unwritten) (name : DocName) (found : Option Document) wher
 
   -- ---- a request comes, or is tried again
 
-  tried_leaves : (m : Machine) (place : ℕ) (r : ParkedRequest) (writes : List Write) (d : Decision) → is_written name writes ≡ false → Untouched name found m → Untouched name found (tried m place r writes d)
-  tried_leaves m place r writes (Decision.refused refusal) leaves is = record { under_way = is.under_way; waiting = all_removed (WillLeaveIt name) m.parked place is.waiting; stays = is.stays }
-  tried_leaves m place r writes (Decision.held id) leaves is = is
-  tried_leaves m place r writes Decision.goes_on leaves is = record {
-    under_way = all_more (LeavesIt name) m.past.unreleased (next_commit m.past r writes) is.under_way leaves;
-    waiting = all_removed (WillLeaveIt name) m.parked place is.waiting;
-    stays = is.stays;
+  goes_leaves : (m n : Machine) (r : ParkedRequest) (writes : List Write) (a : Answer) → Goes r writes m.past n.past a → n.parked ≡ m.parked → is_written name writes ≡ false → Untouched name found m → Untouched name found n
+  goes_leaves m n r writes a (Goes.answers same told) parked leaves is = record {
+    under_way = subst (λ (p : Past). AllByRecursion (LeavesIt name) p.unreleased) (sym same) is.under_way;
+    waiting = subst (AllByRecursion (WillLeaveIt name)) (sym parked) is.waiting;
+    stays = ap (λ (p : Past). get (whole p.history) name) same ∙ is.stays;
   }
+  goes_leaves m n r writes a (Goes.prepares id reads same told) parked leaves is = record {
+    under_way = subst (λ (p : Past). AllByRecursion (LeavesIt name) p.unreleased) (sym same) (all_more (LeavesIt name) m.past.unreleased (next_commit m.past id r writes reads) is.under_way leaves);
+    waiting = subst (AllByRecursion (WillLeaveIt name)) (sym parked) is.waiting;
+    stays = ap (λ (p : Past). get (whole p.history) name) same ∙ is.stays;
+  }
+
+  carried_leaves : (m : Machine) (r : ParkedRequest) → decision m r.envelope.request ≡ Decision.goes_on → WillLeaveIt name r → Untouched name found m → Untouched name found (carried m r)
+  carried_leaves m r goes leaves is =
+      let q = r.envelope.request in
+      goes_leaves m (carried m r) r (writes_of q) (answer_by m r q) (carried_goes m r q goes) (ap (λ (n : Machine). n.parked) (carried_rest m r q)) leaves is
+
+  left_leaves : (m : Machine) (place : ℕ) → Untouched name found m → Untouched name found (unparked m place)
+  left_leaves m place is = record { under_way = is.under_way; waiting = all_removed (WillLeaveIt name) m.parked place is.waiting; stays = is.stays }
+
+  tried_leaves : (m : Machine) (place : ℕ) (r : ParkedRequest) (d : Decision) → retry_decision m r.envelope.request ≡ d → WillLeaveIt name r → Untouched name found m → Untouched name found (tried m place r d)
+  tried_leaves m place r (Decision.refused refusal) at leaves is = left_leaves m place is
+  tried_leaves m place r (Decision.held id) at leaves is = is
+  tried_leaves m place r Decision.goes_on at leaves is =
+      let q = r.envelope.request in
+      let goes = decision_alike m m.numbers (remove m.parked place) q ∙ (passes (retry_refusal m q) (decision m q) at).1 in
+      carried_leaves (unparked m place) r goes leaves (left_leaves m place is)
 
   retried_leaves : (m : Machine) (place : ℕ) (r : ParkedRequest) → slice_get m.parked place ≡ Some r → Untouched name found m → Untouched name found (retried m place)
   retried_leaves m place r at is =
-      let writes = writes_of r.envelope.request in
-      subst (Untouched name found) (sym (retried_is m place r at)) (tried_leaves m place r writes (retry_decision m writes) (all_at (WillLeaveIt name) m.parked place r at is.waiting) is)
+      subst (Untouched name found) (sym (retried_is m place r at)) (tried_leaves m place r (retry_decision m r.envelope.request) refl (all_at (WillLeaveIt name) m.parked place r at is.waiting) is)
 
-  carried_leaves : (m : Machine) (r : ParkedRequest) (writes : List Write) (d : Decision) → WillLeaveIt name r → is_written name writes ≡ false → Untouched name found m → Untouched name found (carried (drawn m) r writes d)
-  carried_leaves m r writes (Decision.refused refusal) waits leaves is = record { under_way = is.under_way; waiting = is.waiting; stays = is.stays }
-  carried_leaves m r writes (Decision.held id) waits leaves is = record { under_way = is.under_way; waiting = all_more (WillLeaveIt name) m.parked r is.waiting waits; stays = is.stays }
-  carried_leaves m r writes Decision.goes_on waits leaves is = record {
-    under_way = all_more (LeavesIt name) m.past.unreleased (next_commit m.past r writes) is.under_way leaves;
-    waiting = is.waiting;
-    stays = is.stays;
-  }
+  becomes_leaves : (m n : Machine) (r : ParkedRequest) (a : Answer) → WillLeaveIt name r → Untouched name found m → Becomes m r n a → Untouched name found n
+  becomes_leaves m n r a leaves is (Becomes.refused k refusal same told) = subst (Untouched name found) (sym same) (record { under_way = is.under_way; waiting = is.waiting; stays = is.stays })
+  becomes_leaves m n r a leaves is (Becomes.held k by same told behind may) =
+      let waits = all_more (WillLeaveIt name) m.parked r is.waiting leaves in
+      subst (Untouched name found) (sym same) (record { under_way = is.under_way; waiting = waits; stays = is.stays })
+  becomes_leaves m n r a leaves is (Becomes.goes_on k same told goes) =
+      subst (Untouched name found) (sym same) (carried_leaves (with_numbers m k) r goes leaves (record { under_way = is.under_way; waiting = is.waiting; stays = is.stays }))
 
-  limited_leaves : (m : Machine) (r : ParkedRequest) (writes : List Write) (refusal : Option Refusal) → WillLeaveIt name r → is_written name writes ≡ false → Untouched name found m
-      → Untouched name found (after_limits refusal m r writes)
-  limited_leaves m r writes (Some refusal) waits leaves is = is
-  limited_leaves m r writes None waits leaves is = carried_leaves m r writes (decision_behind m (behind m.past writes)) waits leaves is
-
-  request_leaves : (m : Machine) (session : ℕ) (e : Envelope) (request : Request) → LeavesName name e.request → LeavesName name request → Untouched name found m
-      → Untouched name found (after_request m session e request)
-  request_leaves m session e (Commit database writes) waits leaves is = limited_leaves m (arrived m session e) writes (commit_refusal m session writes) waits leaves is
-  request_leaves m session e (GetDocument document mask time) waits leaves is = is
-  request_leaves m session e (BatchGetDocuments database names mask time) waits leaves is = is
-  request_leaves m session e (RunQuery database query time) waits leaves is = is
+  asked_leaves : (m : Machine) (session : ℕ) (e : Envelope) → LeavesName name e.request → Untouched name found m → Untouched name found (asked m session e)
+  asked_leaves m session e leaves is = becomes_leaves m (asked m session e) (arrived m session e) (answered m session e) leaves is (asked_becomes m session e)
 
   -- ---- all that a line is made of
 
@@ -151,7 +163,7 @@ module _ (unwritten : Unwritten) (name : DocName) (found : Option Document) wher
     };
     asking = record {
       by_opening = λ s of is. record { under_way = is.under_way; waiting = is.waiting; stays = is.stays };
-      by_asking = λ s number e knows may is. request_leaves s.server number e e.request may may is;
+      by_asking = λ s number e knows may is. asked_leaves s.server number e may is;
     };
     by_leaving = λ s number of at is. record {
       under_way = is.under_way;

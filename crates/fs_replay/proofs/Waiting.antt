@@ -3,7 +3,7 @@ use Rattle.std.proofs.Common.{◌≡◌, ℕ, Bool, true, false, cond, List, [],
 use Rattle.std.specs.Prelude.{◌==◌, ◌||◌}
 use Rattle.std.specs.List.{AllByRecursion}
 use Rattle.fs_rpc.specs.declared.message.Message.{Message}
-use Rattle.fs_machine.specs.Sessions.{emptied, outbox_in, delivered}
+use Rattle.fs_machine.specs.Sessions.{emptied, outbox_in, delivered, without}
 use Rattle.fs_machine.specs.declared.session.Session.{Session}
 use Rattle.fs_replay.specs.Laws.{HasNothing, is_open}
 use Rattle.fs_replay.proofs.Known.{apart}
@@ -31,6 +31,14 @@ emptied_same (s ∷ ss) number none = emptied_next s ss number (s.number == numb
 pub nothing_more : (ss : List Session) (number : ℕ) → AllByRecursion HasNothing ss → AllByRecursion HasNothing (ss ++ record { number = number; outbox = [] } ∷ [])
 nothing_more [] number all = (refl, tt)
 nothing_more (s ∷ ss) number all = (all.0, nothing_more ss number all.1)
+
+left_next : (s : Session) (ss : List Session) (number : ℕ) (b : Bool) → HasNothing s → AllByRecursion HasNothing ss → AllByRecursion HasNothing (without number ss) → AllByRecursion HasNothing (cond b ss (s ∷ without number ss))
+left_next s ss number true none all more = all
+left_next s ss number false none all more = (none, more)
+
+pub nothing_left : (ss : List Session) (number : ℕ) → AllByRecursion HasNothing ss → AllByRecursion HasNothing (without number ss)
+nothing_left [] number all = tt
+nothing_left (s ∷ ss) number all = left_next s ss number (s.number == number) all.0 all.1 (nothing_left ss number all.1)
 
 -- ---- where one message does
 

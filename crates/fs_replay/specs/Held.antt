@@ -1,6 +1,6 @@
 -- What is told at the end of the requests that still wait, in the order of arrival: by what each is held then.
 --
---     {"held":"1","id":"9","session":"s"}      that of s with the id 9 waits for the commit of number 1
+--     {"held":"1","id":"9","session":"s"}      that of s with the id 9 waits for the commit or the transaction of number 1
 use Rattle.std.specs.Prelude.{ℕ, List, [], ◌∷◌, ◌++◌, Option, Some, None, codes, decimal}
 use Rattle.std.specs.Option.{option_map_or}
 use Rattle.serde_json.specs.Data.{Data, string, object, Members, no_members, member}
@@ -23,7 +23,7 @@ abbrev pub held_json : List ℕ → Parked → Data
 held_json name p = object (with_held p.held (with_id p.id (member (codes "session") (string name) no_members)))
 
 abbrev pub held_line : List Named → Machine → ParkedRequest → List ℕ
-held_line ns m r = option_map_or (λ name. json_line (held_json name (parked_of m.past r))) (name_of r.session ns) []
+held_line ns m r = option_map_or (λ name. json_line (held_json name (parked_of m r))) (name_of r.session ns) []
 
 abbrev pub held_among : List Named → Machine → List ParkedRequest → List ℕ
 held_among ns m [] = []

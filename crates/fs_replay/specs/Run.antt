@@ -1,12 +1,16 @@
--- What a run has done when it ends: what it has written, and how often its source and its sink have failed.
-use Rattle.std.specs.Prelude.{◌≡◌, ℕ, List, Option}
+-- What a run has done when it ends: what it has written, how often its source and its sink have failed, and what it has committed.
+use Rattle.std.specs.Prelude.{◌≡◌, ℕ, List, ◌++◌, Option}
 use Rattle.fs_edge.specs.Count.{one_more, AtMostOneMore}
 use Rattle.fs_edge.specs.declared.status.Status.{Status}
 use Rattle.fs_edge.specs.declared.status.Status.TheVariants as status
+use Rattle.fs_history.specs.Serial.{IsSerial}
+use Rattle.fs_machine.specs.Grows.{Grows}
+use Rattle.fs_machine.specs.Past.{Past}
 use Rattle.fs_machine.specs.declared.config.Config.{Config}
 use Rattle.fs_machine.specs.declared.limits.Limits.{Limits}
 use Rattle.fs_replay.specs.Moved.{Gained, GainedFront}
-use Rattle.fs_replay.specs.Transcript.{transcript, begun}
+use Rattle.fs_replay.specs.Step.{start}
+use Rattle.fs_replay.specs.Transcript.{after_lines, transcript, begun}
 
 -- What the sink has gained of the bytes that were taken. Where the source failed or gave too much, the lines that
 -- have their newline were carried out. Where memory ran out or the sink failed, it has some front of the transcript.
@@ -49,3 +53,15 @@ WriteFaults status.ReadFault before after = after ≡ before
 WriteFaults status.WriteFault before after = after ≡ one_more before
 WriteFaults status.InputLimit before after = after ≡ before
 WriteFaults status.DoorFault before after = after ≡ before
+
+-- What was committed after these lines.
+abbrev pub past_after : Config → Limits → List (List ℕ) → Past
+past_after config limits lines = (after_lines (start config limits) 1 lines).server.past
+
+-- Wherever a run of these lines is cut, what was committed explains every read in it,
+abbrev pub IsSerialThroughout : Config → Limits → List (List ℕ) → Type 0
+IsSerialThroughout config limits lines = (front back : List (List ℕ)) → lines ≡ front ++ back → IsSerial (past_after config limits front).history
+
+-- and what stood then at a time that was released stands there for good.
+abbrev pub GrowsThroughout : Config → Limits → List (List ℕ) → Type 0
+GrowsThroughout config limits lines = (front back : List (List ℕ)) → lines ≡ front ++ back → Grows (past_after config limits front) (past_after config limits lines)

@@ -7,6 +7,14 @@
 --     turn 3    3 is settled, and the second goes on as 4
 --     turn 4    4 is settled
 --     turn 5    nothing
+--
+-- What an open transaction keeps waiting waits on.
+--
+--     1 is open, and has read c/a; a commit of c/a waits      nothing, on each line, until 1 ends
+--     1 is rolled back
+--     turn 1    the one that waits goes on as 2
+--     turn 2    2 is settled
+--     turn 3    nothing
 use Rattle.std.specs.Prelude.{ℕ, ◌+◌, ◌*◌, Bool, true, false, nat_lt, suc, zero, List, [], length, Option, Some, None, slice_get, if◌then◌else◌}
 use Rattle.std.specs.List.{count_by}
 use Rattle.std.specs.Option.{option_map_or}
@@ -44,7 +52,7 @@ settles_next s = settles_if s (next_pending s.server.past)
 
 -- ---- requests that wait
 
--- what a request is told that was tried again: why it is refused. What goes on is answered as its commit is released
+-- what a request is told that was tried again: what a read answers, or why it is refused. A commit is answered as it is released
 abbrev pub retry_output : List Named → ParkedRequest → Answer → List ℕ
 retry_output ns r answer = option_map_or (λ name. reply_output name r.envelope.id answer) (name_of r.session ns) []
 

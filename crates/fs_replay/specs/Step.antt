@@ -1,6 +1,11 @@
 -- Where a script starts, and what a line does: to the server and the sessions, and to the output. A line is an event of the
 -- server, with what it answers at once, and then the outboxes are emptied. Then commits are settled, and requests that wait are tried
 -- again, until there is nothing left to do (Settling.antt): unless the script settles by hand.
+--
+--     s begins            {"id":"1","result":{"transaction":"AAAAAAAAAAE="},"session":"s"}
+--     s reads c/a in it   its answer
+--     t commits c/a       nothing: it waits
+--     s rolls it back     {"id":"4","result":{},"session":"s"}, and behind it what t is answered
 use Rattle.std.specs.Prelude.{ℕ, ℤ, pos, false, ◌&&◌, is_some, List, [], ◌∷◌, ◌++◌, Option, Some, None, Result, Ok, Err, codes, if◌then◌else◌}
 use Rattle.fs_json.specs.declared.bad.Bad.{Bad}
 use Rattle.fs_machine.specs.Compact.{compacted}

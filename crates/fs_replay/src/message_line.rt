@@ -1,9 +1,10 @@
 //! What is answered, written straight to its line: a tree of JSON values for each answer would take a third of the time of a
 //! read.
 ghost use Rattle.std.specs.Prelude.{◌≡◌, ◌++◌, IfOk, OnOk};
-ghost use Rattle.serde_json.specs.Data.{array, no_members};
+ghost use Rattle.serde_json.specs.Data.{array, no_members, object};
 ghost use Rattle.serde_json.specs.Written.{compact_text};
-ghost use Rattle.fs_rpc.specs.MessageJson.{commit_json, error_json, error_members, message_json_on, message_members, query_answers_json, result_members, with_id};
+ghost use Rattle.fs_rpc.specs.MessageJson.{begin_json, commit_json, error_json, error_members, message_json_on, message_members, query_answers_json, result_members, with_id};
+ghost use Rattle.fs_rpc.specs.Transaction.{transaction_text};
 ghost use Rattle.fs_valjson.specs.Document.{document_json};
 ghost use Rattle.fs_valjson.specs.Tokens.{member_tokens, tokens_of};
 ghost use Rattle.fs_replay.specs.Tokens.{answers_json, code_member, result_head};
@@ -11,8 +12,8 @@ ghost use Rattle.fs_replay.specs.Tokens.{answers_json, code_member, result_head}
 use crate::commit_line::push_commit;
 use crate::reads_line::{push_answers, push_query_answers};
 use fs_path::Text;
-use fs_rpc::{BatchAnswer, Message};
-use fs_status::Code;
+use fs_rpc::{BatchAnswer, Message, print_transaction};
+use fs_status::{Code, Id};
 use fs_time::Micros;
 use fs_valjson::{push_document, push_text};
 use fs_value::Document;
@@ -70,6 +71,8 @@ fn push_members(alloc: Global, line: &mut Writer, message: &Message) -> Result<(
             documents,
             time,
         } => push_queried(alloc, line, id, documents.as_slice(), *time),
+        Message::BeginTransaction { id, transaction } => push_begun(alloc, line, id, *transaction),
+        Message::Rollback { id } => push_rolled_back(line, id),
         Message::Error { id, code, message } => push_error(line, id, *code, message.as_str()),
     }
 }
@@ -130,6 +133,50 @@ fn push_queried(
 {
     push_head(line, id)?;
     push_query_answers(alloc, line, documents, time)
+}
+
+fn push_begun(
+    alloc: Global,
+    line: &mut Writer,
+    id: &Option<Text>,
+    transaction: Id,
+) -> Result<(), AllocError>
+    ensures tokens { OnOk result (line.new.tokens
+        ≡ line.old.tokens ++ member_tokens (result_members id.now (begin_json transaction))) }
+    ensures before { line.new.before ≡ line.old.before }
+{
+    let text = print_transaction(alloc, transaction)?;
+    push_head(line, id)?;
+    push_transaction(line, transaction, text.as_str())
+}
+
+// `{"transaction":"AAAAAAAAAAI="}`
+fn push_transaction(line: &mut Writer, transaction: Id, text: &str) -> Result<(), AllocError>
+    requires { text.now ≡ transaction_text transaction }
+    ensures tokens { OnOk result (line.new.tokens ≡ line.old.tokens ++ tokens_of (begin_json transaction)) }
+    ensures before { line.new.before ≡ line.old.before }
+{
+    line.begin_object()?;
+    push_text(line, "transaction", text)?;
+    line.end_object()
+}
+
+fn push_rolled_back(line: &mut Writer, id: &Option<Text>) -> Result<(), AllocError>
+    ensures tokens { OnOk result (line.new.tokens
+        ≡ line.old.tokens ++ member_tokens (result_members id.now (object no_members))) }
+    ensures before { line.new.before ≡ line.old.before }
+{
+    push_head(line, id)?;
+    push_nothing(line)
+}
+
+// `{}`
+fn push_nothing(line: &mut Writer) -> Result<(), AllocError>
+    ensures tokens { OnOk result (line.new.tokens ≡ line.old.tokens ++ tokens_of (object no_members)) }
+    ensures before { line.new.before ≡ line.old.before }
+{
+    line.begin_object()?;
+    line.end_object()
 }
 
 // The id, where there is one, and the name of the member that comes next.

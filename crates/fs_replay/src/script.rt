@@ -5,10 +5,11 @@ ghost use Rattle.fs_machine.specs.Config.{IsAllowed};
 ghost use Rattle.fs_machine.specs.Limits.{AreAllowed};
 ghost use Rattle.fs_replay.specs.Limits.{longest_input};
 ghost use Rattle.fs_replay.specs.Moved.{TakenUpTo, IfTaken, Gained, GainedFront};
-ghost use Rattle.fs_replay.specs.Run.{Ends, ReadFaults, WriteFaults, Wrote};
-ghost use Rattle.fs_replay.specs.Transcript.{transcript};
+ghost use Rattle.fs_replay.specs.Run.{Ends, GrowsThroughout, IsSerialThroughout, ReadFaults, WriteFaults, Wrote};
+ghost use Rattle.fs_replay.specs.Transcript.{lines_of, transcript};
 
 use crate::gather::gather;
+use crate::laws::scripts_are_lawful;
 use crate::play::play;
 use fs_edge::{Sink, Source, Status};
 use fs_server::{Config, Limits};
@@ -41,6 +42,11 @@ pub fn replay<S: Source, K: Sink>(
     ensures written { IfTaken (S.left source.old) (S.left source.new) (λ taken.
         Wrote config limits result taken (K.given sink.old) (K.given sink.new)) }
 
+    // Wherever their lines are cut, what was committed explains every read in it, and what stood then at a time that was released stands
+    // there for good.
+    ensures serial { IfTaken (S.left source.old) (S.left source.new) (λ taken. IsSerialThroughout config limits (lines_of taken)) }
+    ensures grows { IfTaken (S.left source.old) (S.left source.new) (λ taken. GrowsThroughout config limits (lines_of taken)) }
+
     // Where that is nothing, the sink isn't asked.
     ensures unasked { IfTaken (S.left source.old) (S.left source.new) (λ taken. transcript config limits taken ≡ [] → sink.new ≡ sink.old) }
 
@@ -55,6 +61,7 @@ pub fn replay<S: Source, K: Sink>(
     ensures limit_told { IfTaken (S.left source.old) (S.left source.new) (λ taken. length taken ≡ longest_input
         → (result ≡ Status.InputLimit) ⊎ ((result ≡ Status.WriteFault) ⊎ (result ≡ Status.Memory))) }
 {
+    scripts_are_lawful();
     match replay_all(alloc, config, limits, source, sink) {
         Ok(status) => status,
         Err(_) => Status::Memory,

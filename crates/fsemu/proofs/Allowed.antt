@@ -1,6 +1,7 @@
 -- Options that were written are such as a server may have.
 use Rattle.std.proofs.Common.{List, [], ◌∷◌, ℕ, refl, sym, subst, arith}
 use Rattle.std.specs.List.{fold}
+use Rattle.fs_machine.specs.Limits.{greatest, AreAllowed as LimitsAllowed}
 use Rattle.fsemu.specs.declared.options.Options.{Options}
 use Rattle.fsemu.specs.Words.{Setting, project, concurrency, shards, IsValue, AreWritten, with_setting, default_options, AreAllowed, IsReplay}
 
@@ -17,3 +18,18 @@ pub all_allowed : (words : List (List ℕ)) (o : Options) → IsReplay words o �
 all_allowed words o is =
     let first : AreAllowed default_options = record { project = refl; some = omega arith; few = omega arith } in
     subst AreAllowed (sym is.asked) (with_all default_options is.settings is.rest is.written first)
+
+-- and so are the greatest limits
+pub greatest_allowed : LimitsAllowed greatest
+greatest_allowed = record {
+  writes = omega arith;
+  outbox = omega arith;
+  sessions = omega arith;
+  transactions = omega arith;
+  parked = omega arith;
+  batches = omega arith;
+  journal = omega arith;
+  reads = omega arith;
+  ids = omega arith;
+  time = omega arith;
+}

@@ -3,15 +3,15 @@ ghost use Rattle.std.specs.Prelude.{◌≡◌, ◌≢◌, ◌↔◌, ◌⊎◌, 
 ghost use Rattle.fs_machine.specs.Limits.{greatest};
 ghost use Rattle.fs_replay.specs.Limits.{longest_input};
 ghost use Rattle.fs_replay.specs.Moved.{TakenUpTo, IfTaken, Gained};
-ghost use Rattle.fs_replay.specs.Run.{Ends, ReadFaults, WriteFaults, Wrote};
-ghost use Rattle.fs_replay.specs.Transcript.{transcript};
+ghost use Rattle.fs_replay.specs.Run.{Ends, GrowsThroughout, IsSerialThroughout, ReadFaults, WriteFaults, Wrote};
+ghost use Rattle.fs_replay.specs.Transcript.{lines_of, transcript};
 ghost use Rattle.fsemu.specs.Words.{IfAsked, IsCommand};
 
 use crate::agreed::is_agreed;
 use crate::words::read_words;
 use fs_edge::{Clock, Doors, Sink, Source, Status};
 use fs_machine::Limits;
-use fs_replay::replay;
+use fs_replay::{replay, scripts_are_lawful};
 use std::alloc::Global;
 
 /// Runs the program on the words of its command line. `replay` with its options reads a script from the source to its end,
@@ -44,6 +44,13 @@ pub fn run<Rt, S: Source, K: Sink, D: Doors, C: Clock>(
     ensures written { IfAsked (map string_bytes words.now) (λ config. IfTaken (S.left source.old) (S.left source.new) (λ taken.
         Wrote config greatest result taken (K.given sink.old) (K.given sink.new))) }
 
+    // Wherever their lines are cut, what was committed explains every read in it, and what stood then at a time that was released stands
+    // there for good.
+    ensures serial { IfAsked (map string_bytes words.now) (λ config. IfTaken (S.left source.old) (S.left source.new) (λ taken.
+        IsSerialThroughout config greatest (lines_of taken))) }
+    ensures grows { IfAsked (map string_bytes words.now) (λ config. IfTaken (S.left source.old) (S.left source.new) (λ taken.
+        GrowsThroughout config greatest (lines_of taken))) }
+
     // Where that is nothing, the sink isn't asked.
     ensures unasked { IfAsked (map string_bytes words.now) (λ config. IfTaken (S.left source.old) (S.left source.new) (λ taken.
         transcript config greatest taken ≡ [] → sink.new ≡ sink.old)) }
@@ -59,6 +66,7 @@ pub fn run<Rt, S: Source, K: Sink, D: Doors, C: Clock>(
     ensures limit_told { IfTaken (S.left source.old) (S.left source.new) (λ taken. length taken ≡ longest_input
         → (result ≡ Status.InputLimit) ⊎ ((result ≡ Status.WriteFault) ⊎ ((result ≡ Status.Memory) ⊎ (result ≡ Status.Usage)))) }
 {
+    scripts_are_lawful();
     let options = match read_words(alloc, words) {
         Ok(Some(options)) => options,
         Ok(None) => return Status::Usage,

@@ -1,4 +1,4 @@
-use Rattle.std.proofs.Common.{◌≡◌, ◌+◌, ◌-◌, ◌<◌, ◌≤◌, ◌^◌, length, cond, suc, arith, sym, ap, ◌∙◌, subst}
+use Rattle.std.proofs.Common.{◌≡◌, ◌+◌, ◌-◌, ◌<◌, ◌≤◌, length, cond, suc, arith, sym, ap, ◌∙◌, subst}
 use Rattle.fs_replay.specs.Settling.{place_after, tries_all, tries_from}
 use Rattle.fs_replay.specs.declared.state.State.{State}
 use Rattle.fs_replay.proofs.Falling.{place_within}

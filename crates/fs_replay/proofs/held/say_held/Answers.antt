@@ -1,5 +1,4 @@
 use Rattle.std.proofs.Common.{◌<◌, length, arith}
-use Rattle.std.proofs.lemmas.Bool.Decides.{nat_tests}
 use Rattle.fs_replay.proofs.Playing.{found_at, held_next}
 use Rattle.fs_replay.proofs.held.say_held.Goals as goal
 

@@ -4,8 +4,9 @@ use Rattle.fs_machine.specs.declared.limits.Limits.{Limits}
 use Rattle.fs_machine.specs.Limits.{greatest}
 use Rattle.fs_replay.specs.Moved.{IfTaken, Gained}
 use Rattle.fs_replay.specs.Run.{Wrote}
-use Rattle.fs_replay.specs.Transcript.{transcript}
+use Rattle.fs_replay.specs.Transcript.{lines_of, transcript}
 use Rattle.fsemu.specs.Words.{config_of}
+use Rattle.fsemu.proofs.Allowed.{greatest_allowed}
 use Rattle.fsemu.proofs.run.run.Goals as goal
 
 -- what holds by what was handed on holds by what was asked for
@@ -32,3 +33,15 @@ returns-in-Ok-clause-unasked g c = λ options is.
     handed_on (λ config limits. IfTaken (g.S.Source.left c.args.source.now) (g.S.Source.left c.replay.new.source) (λ taken.
     transcript config limits taken ≡ [] → c.replay.new.sink ≡ c.args.sink.now)) _ _ _
     (ap config_of (only options is) ∙ sym c.in-Ok.ensures) c.greatest.ensures c.replay.ensures.unasked
+
+pub returns-in-Err-clause-grows : goal.returns-in-Err-clause-grows
+returns-in-Err-clause-grows g c = λ options is taken rest before after. c.scripts_are_lawful.ensures.runs_grow (config_of options) greatest (lines_of taken) greatest_allowed
+
+pub returns-then-not-is_agreed-clause-grows : goal.returns-then-not-is_agreed-clause-grows
+returns-then-not-is_agreed-clause-grows g c = λ options is taken rest before after. c.scripts_are_lawful.ensures.runs_grow (config_of options) greatest (lines_of taken) greatest_allowed
+
+pub returns-in-Ok-clause-grows : goal.returns-in-Ok-clause-grows
+returns-in-Ok-clause-grows g c = λ options is taken rest before after. c.scripts_are_lawful.ensures.runs_grow (config_of options) greatest (lines_of taken) greatest_allowed
+
+pub returns-in-Err-config-clause-grows : goal.returns-in-Err-config-clause-grows
+returns-in-Err-config-clause-grows g c = λ options is taken rest before after. c.scripts_are_lawful.ensures.runs_grow (config_of options) greatest (lines_of taken) greatest_allowed

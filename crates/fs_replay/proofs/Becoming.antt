@@ -1,0 +1,104 @@
+-- What becomes of a request that comes: it is refused, it waits, or it is carried out.
+use Rattle.std.proofs.Common.{◌≡◌, ℕ, ◌+◌, Bool, true, false, cond, List, Option, Some, None, refl, ◌∙◌}
+use Rattle.std.specs.Prelude.{codes, length, nat_le, nat_lt}
+use Rattle.fs_history.specs.declared.read.Read.{Read}
+use Rattle.fs_rpc.specs.declared.request.Envelope.{Envelope}
+use Rattle.fs_rpc.specs.declared.request.Request.{Request}
+use Rattle.fs_rpc.specs.declared.request.Request.TheVariants.{Commit, GetDocument, BatchGetDocuments, RunQuery, BeginTransaction, Rollback}
+use Rattle.fs_status.specs.Refusal.{at_limit}
+use Rattle.fs_status.specs.declared.refusal.Refusal.{Refusal}
+use Rattle.fs_write.specs.declared.write.Write.{Write}
+use Rattle.fs_history.specs.Bytes.{commit_size}
+use Rattle.fs_machine.specs.Commit.{growth_refusal, number_refusal, only_reads, unless_closed}
+use Rattle.fs_machine.specs.Numbered.{draws}
+use Rattle.fs_machine.specs.Read.{read_limit_refusal}
+use Rattle.fs_machine.specs.Refusing.{journal_count, journal_size, outbox_is_full, outbox_refusal, passed, room_refusal, time_limit_refusal}
+use Rattle.fs_machine.specs.Request.{Decision, answer_by, answered, answered_unless, arrival_refusal, arrived, arrives, asked, asked_unless, carried_by, check_refusal, decided_answer, decision, held_by, query_refusal, retry_refusal, unless_full, unless_held, unless_refused, with_parked}
+use Rattle.fs_machine.specs.State.{Machine}
+use Rattle.fs_machine.specs.Transact.{reads_had}
+use Rattle.fs_machine.specs.declared.answer.Answer.{Answer}
+use Rattle.fs_machine.specs.declared.answer.Answer.TheVariants.{Held, Refused}
+use Rattle.fs_machine.specs.declared.numbers.Numbers.{Numbers}
+use Rattle.fs_machine.specs.declared.parked_request.ParkedRequest.{ParkedRequest}
+use Rattle.fs_machine.proofs.Holding.{decision_alike}
+
+abbrev pub with_numbers : Machine → Numbers → Machine
+with_numbers m k = record m { numbers = k }
+
+-- the server then, and the answer
+pub data Becomes (m : Machine) (r : ParkedRequest) (n : Machine) (a : Answer) : Type 0 where
+  refused : (k : Numbers) → (refusal : Refusal) → n ≡ with_numbers m k → a ≡ Refused refusal → Becomes m r n a
+  held : (k : Numbers) → (by : ℕ) → n ≡ with_parked (with_numbers m k) r → a ≡ Held by → held_by m r.envelope.request ≡ Some by → retry_refusal m r.envelope.request ≡ None → Becomes m r n a
+  goes_on : (k : Numbers) → n ≡ carried_by (with_numbers m k) r r.envelope.request → a ≡ answer_by (with_numbers m k) r r.envelope.request
+      → decision (with_numbers m k) r.envelope.request ≡ Decision.goes_on → Becomes m r n a
+
+-- ---- one that passed the limits may be tried again
+
+within : (over : Bool) (name : List ℕ) (number : ℕ) (others : Option Refusal) → passed over name number others ≡ None → others ≡ None
+within true name number others none = absurd (cc)
+within false name number others none = none
+
+behind_it : (over : Bool) (name : List ℕ) (number : ℕ) (one other : Option Refusal) → (one ≡ None → other ≡ None) → passed over name number one ≡ None → passed over name number other ≡ None
+behind_it true name number one other more none = absurd (cc)
+behind_it false name number one other more none = more none
+
+grows_so : (m : Machine) (writes : List Write) (reads : List Read) (b : Bool) (one other : Option Refusal) → (one ≡ None → other ≡ None) → cond b None (room_refusal m writes reads one) ≡ None → cond b None (room_refusal m writes reads other) ≡ None
+grows_so m writes reads true one other more none = refl
+grows_so m writes reads false one other more none =
+    let over = nat_lt m.limits.journal (journal_size m.past + commit_size writes reads) in
+    behind_it (nat_le m.limits.batches (journal_count m.past)) (codes "batches") m.limits.batches (passed over (codes "journal") m.limits.journal one) (passed over (codes "journal") m.limits.journal other)
+    (behind_it over (codes "journal") m.limits.journal one other more) none
+
+numbered : (m : Machine) (transaction : Option ℕ) (others : Option Refusal) → number_refusal m transaction others ≡ None → others ≡ None
+numbered m None others none = within (nat_le m.limits.ids m.numbers.ids) (codes "ids") m.limits.ids others none
+numbered m (Some id) others none = none
+
+has_outbox : (m : Machine) (session : ℕ) (others : Option Refusal) → outbox_refusal m session others ≡ None → others ≡ None
+has_outbox m session others none = within (outbox_is_full m session) (codes "outbox") m.limits.outbox others none
+
+breaks_none : (first others : Option Refusal) → unless_closed first others ≡ None → others ≡ None
+breaks_none (Some refusal) others none = absurd (cc)
+breaks_none None others none = none
+
+may_retry : (m : Machine) (session : ℕ) (q : Request) → arrival_refusal m session q ≡ None → retry_refusal m q ≡ None
+may_retry m session (Commit database writes transaction) none =
+    let time = time_limit_refusal m in
+    let grown = growth_refusal m writes transaction (number_refusal m transaction time) in
+    let few = within (nat_lt m.limits.writes (length writes)) (codes "writes") m.limits.writes (outbox_refusal m session grown) none in
+    grows_so m writes (reads_had m.txns transaction) (only_reads m transaction) (number_refusal m transaction time) time (numbered m transaction time) (has_outbox m session grown few)
+may_retry m session (GetDocument name mask when) none = has_outbox m session (read_limit_refusal m when (GetDocument name mask when)) none
+may_retry m session (BatchGetDocuments database names mask when) none = has_outbox m session (read_limit_refusal m when (BatchGetDocuments database names mask when)) none
+may_retry m session (RunQuery database query when) none =
+    let limit = read_limit_refusal m when (RunQuery database query when) in
+    has_outbox m session limit (breaks_none (query_refusal query) (outbox_refusal m session limit) none)
+may_retry m session (BeginTransaction database options) none = refl
+may_retry m session (Rollback database transaction) none = refl
+
+-- ---- stage by stage
+
+module _ (m : Machine) (r : ParkedRequest) (k : Numbers) (may : retry_refusal m r.envelope.request ≡ None) where
+  abbrev then_is : Decision → Type 0
+  then_is d = Becomes m r (arrives (with_numbers m k) r d) (decided_answer (with_numbers m k) r d)
+
+  full_is : (by : ℕ) (full : Bool) → held_by m r.envelope.request ≡ Some by → then_is (cond full (Decision.refused (at_limit (codes "parked") m.limits.parked)) (Decision.held by))
+  full_is by true is = refused k (at_limit (codes "parked") m.limits.parked) refl refl
+  full_is by false is = held k by refl refl is may
+
+  decided_is : (refusal : Option Refusal) (found : Option ℕ) → check_refusal m r.envelope.request ≡ refusal → held_by m r.envelope.request ≡ found → then_is (unless_full m (unless_refused refusal (unless_held found)))
+  decided_is (Some refusal) found none free = refused k refusal refl refl
+  decided_is None (Some by) none free = full_is by (nat_le m.limits.parked (length m.parked)) free
+  decided_is None None none free = goes_on k refl refl (decision_alike m k m.parked r.envelope.request ∙ (λ i. unless_refused (none i) (unless_held (free i))))
+
+drawn_is : (m : Machine) (r : ParkedRequest) (b : Bool) → retry_refusal m r.envelope.request ≡ None
+    → Becomes m r (arrives (cond b (with_numbers m (record m.numbers { ids = m.numbers.ids + 1 })) m) r (unless_full m (decision m r.envelope.request)))
+    (decided_answer (cond b (with_numbers m (record m.numbers { ids = m.numbers.ids + 1 })) m) r (unless_full m (decision m r.envelope.request)))
+drawn_is m r true may = decided_is m r (record m.numbers { ids = m.numbers.ids + 1 }) may (check_refusal m r.envelope.request) (held_by m r.envelope.request) refl refl
+drawn_is m r false may = decided_is m r m.numbers may (check_refusal m r.envelope.request) (held_by m r.envelope.request) refl refl
+
+asked_is : (m : Machine) (session : ℕ) (e : Envelope) (refusal : Option Refusal) → arrival_refusal m session e.request ≡ refusal
+    → Becomes m (arrived m session e) (asked_unless refusal m (arrived m session e)) (answered_unless refusal m (arrived m session e))
+asked_is m session e (Some refusal) is = refused m.numbers refusal refl refl
+asked_is m session e None is = drawn_is m (arrived m session e) (draws e.request) (may_retry m session e.request is)
+
+pub asked_becomes : (m : Machine) (session : ℕ) (e : Envelope) → Becomes m (arrived m session e) (asked m session e) (answered m session e)
+asked_becomes m session e = asked_is m session e (arrival_refusal m session e.request) refl

@@ -1,0 +1,14 @@
+use Rattle.fs_replay.specs.Transcript.{lines_of}
+use Rattle.fs_replay.proofs.script.replay.Goals as goal
+
+pub returns-in-Ok-clause-serial : goal.returns-in-Ok-clause-serial
+returns-in-Ok-clause-serial g c = λ taken rest before after. c.scripts_are_lawful.ensures.runs_are_serial c.args.config c.args.limits (lines_of taken) c.requires.limits
+
+pub returns-in-Err-clause-serial : goal.returns-in-Err-clause-serial
+returns-in-Err-clause-serial g c = λ taken rest before after. c.scripts_are_lawful.ensures.runs_are_serial c.args.config c.args.limits (lines_of taken) c.requires.limits
+
+pub returns-in-Ok-clause-grows : goal.returns-in-Ok-clause-grows
+returns-in-Ok-clause-grows g c = λ taken rest before after. c.scripts_are_lawful.ensures.runs_grow c.args.config c.args.limits (lines_of taken) c.requires.limits
+
+pub returns-in-Err-clause-grows : goal.returns-in-Err-clause-grows
+returns-in-Err-clause-grows g c = λ taken rest before after. c.scripts_are_lawful.ensures.runs_grow c.args.config c.args.limits (lines_of taken) c.requires.limits
