@@ -16,12 +16,16 @@ Then requests over a collection of 10,000 documents of ten fields: a filter that
 limit 50, and a read of 100 names. Each is timed as what hundreds of them add to a run that makes the documents, beside a plain
 Python loop over as many dicts, with the requests parsed and the replies printed by `json`.
 
+Then transactions: what a begin, a read of one document and a commit of it take together, beside plain commits of one document, and what
+those take while 1,000 transactions are open that have read 100 other documents each.
+
 Then the memory of a document is measured: what a run that commits five times so many documents takes at its peak, the bytes
 of the script and those of a run without lines apart, for each; and what fifty times so many commits to 1,000 names take,
 without compactions and with one at every 10,000. At last lines of 10 MB are carried out: how long each takes, and what the
 run takes more at its peak than one without lines, by the line's bytes. And requests of many filters, orders, cursor values, selected
 paths and names are carried out at a quarter, half and all of 10 MB, whose times should go with their bytes.
 """
+import base64
 import json
 import os
 import random
@@ -184,6 +188,40 @@ def measure(name, requests):
         floor = min(timed_floor(loads, dumps, script, written) for _ in range(RUNS))
         print("  %-7s %.3f s  %8.0f lines/s  fsemu takes %.1f times as long" % (
             library, floor, count / floor, seconds / floor))
+
+
+def number(transaction):
+    return base64.b64encode(transaction.to_bytes(8, "big")).decode()
+
+
+def transactional(count, rand):
+    """A begin, a read and a commit of one document, again and again. Each begin draws the next number."""
+    for transaction in range(1, count + 1):
+        name = message_name(rand, count)
+        yield {"beginTransaction": {"database": ROOT}}
+        yield {"getDocument": {"name": name, "transaction": number(transaction)}}
+        yield {"commit": {**commit(name, one_field(rand))["commit"], "transaction": number(transaction)}}
+
+
+def open_transactions(count, reads):
+    """Transactions that stay open, and have read so many documents each."""
+    for transaction in range(1, count + 1):
+        names = ["%s/open/d%07d" % (DOCUMENTS, transaction * reads + i) for i in range(reads)]
+        yield {"beginTransaction": {"database": ROOT}}
+        yield {"batchGetDocuments": {"database": ROOT, "documents": names, "transaction": number(transaction)}}
+
+
+def measure_transactions(lines, seed):
+    def took(requests):
+        return best_of(script_of(requests), RUNS)[0]
+
+    plain = list(commits(lines, random.Random(seed)))
+    opened = list(open_transactions(1000, 100))
+    for name, seconds in (
+            ("a plain commit", took(plain)),
+            ("a begin, a read and a commit", took(transactional(lines, random.Random(seed)))),
+            ("a plain commit beside 1,000 open transactions", took(opened + plain) - took(opened))):
+        print("%s: %.1f µs" % (name, seconds / lines * 1e6))
 
 
 MANY = 10000
@@ -382,6 +420,7 @@ def main():
     for name, requests in (("mixed", mixed), ("commits", commits), ("reads", reads), ("old", old_reads)):
         measure(name, requests(lines, random.Random(seed)))
     measure_requests(seed)
+    measure_transactions(lines, seed)
     measure_memory("one integer", 5 * lines, seed, one_field)
     measure_memory("ten fields", 5 * lines, seed, ten_fields)
     measure_history(50 * lines, seed)
