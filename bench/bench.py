@@ -194,10 +194,22 @@ def number(transaction):
     return base64.b64encode(transaction.to_bytes(8, "big")).decode()
 
 
-def transactional(count, rand):
-    """A begin, a read and a commit of one document, again and again. Each begin draws the next number."""
-    for transaction in range(1, count + 1):
-        name = message_name(rand, count)
+def made(rand):
+    """1,000 documents, and the commits that make them, each of which draws a number."""
+    names = [message_name(rand, 1000) for _ in range(1000)]
+    return names, [commit(name, one_field(rand)) for name in names]
+
+
+def again(names, count, rand):
+    """Plain commits to documents that are there."""
+    for _ in range(count):
+        yield commit(rand.choice(names), one_field(rand))
+
+
+def transactional(names, drawn, count, rand):
+    """A begin, a read of a document that is there, and a commit of it, again and again. Each begin draws the next number."""
+    for transaction in range(drawn + 1, drawn + count + 1):
+        name = rand.choice(names)
         yield {"beginTransaction": {"database": ROOT}}
         yield {"getDocument": {"name": name, "transaction": number(transaction)}}
         yield {"commit": {**commit(name, one_field(rand))["commit"], "transaction": number(transaction)}}
@@ -215,12 +227,15 @@ def measure_transactions(lines, seed):
     def took(requests):
         return best_of(script_of(requests), RUNS)[0]
 
-    plain = list(commits(lines, random.Random(seed)))
+    rand = random.Random(seed)
+    names, making = made(rand)
     opened = list(open_transactions(1000, 100))
+    plain = list(again(names, lines, rand))
+    alone, beside = took(making), took(opened + making)
     for name, seconds in (
-            ("a plain commit", took(plain)),
-            ("a begin, a read and a commit", took(transactional(lines, random.Random(seed)))),
-            ("a plain commit beside 1,000 open transactions", took(opened + plain) - took(opened))):
+            ("a plain commit", took(making + plain) - alone),
+            ("a begin, a read and a commit", took(making + list(transactional(names, len(names), lines, rand))) - alone),
+            ("a plain commit beside 1,000 open transactions", took(opened + making + plain) - beside)):
         print("%s: %.1f µs" % (name, seconds / lines * 1e6))
 
 
