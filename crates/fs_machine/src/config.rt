@@ -1,5 +1,5 @@
 //! The configuration of a server.
-use fs_path::Root;
+use fs_path::{MOST_SHARDS, Root};
 
 /// How two transactions that meet are kept apart. (Cloud Firestore documentation, "Transaction serializability and isolation".)
 #[derive(Clone, Copy, Debug, PartialEq, Eq)]
@@ -29,6 +29,6 @@ impl Config {
     pub fn is_allowed(&self) -> bool
         ensures { IsTrue result ↔ IsAllowed self.now }
     {
-        1 <= self.shards && self.shards <= 16
+        1 <= self.shards && self.shards <= MOST_SHARDS
     }
 }

@@ -1,11 +1,12 @@
 -- Document names go segment by segment: project, database, and then the ids. A name that begins another comes first.
 -- (Cloud Firestore documentation, "Data types": references are ordered by path elements.)
-use Rattle.std.specs.Prelude.{◌≡◌, Bool, true, refl}
+use Rattle.std.specs.Prelude.{◌≡◌, ◌↔◌, Bool, true, IsTrue, refl}
 use Rattle.std.specs.Hash.{str}
 use Rattle.std.specs.declared.cmp.Ordering.{Ordering}
 use Rattle.std.specs.declared.cmp.Ordering.TheVariants.{Less, Equal, Greater}
 use Rattle.std.specs.Ordering.{ordering_then, then_cmp, on, eq_by_cmp, as_partial_cmp}
 use Rattle.std.specs.Cmp.{Equal-is, IsTotalOrder, IsEquivalence, IsPartialEquivalence, IsPartialOrder, partial_equiv_from_equiv, partial_order_from_agreeing_total}
+use Rattle.std.proofs.Common.{sym, ap, ◌∙◌}
 use Rattle.std.proofs.lemmas.Cmp.{then_total, on_total, eq_by_cmp_equiv, tied_itself}
 use Rattle.fs_path.specs.Name.{path_of}
 use Rattle.fs_path.specs.declared.name.DocName.{DocName}
@@ -54,3 +55,10 @@ name_itself a = (Equal-is _).1 (tied_itself name_cmp_total a)
 
 pub name_is : (a b : DocName) → name_eq a b ≡ true → a ≡ b
 name_is a b ties = name_same a b ((Equal-is _).0 ties)
+
+-- names are the same where the test says so
+pub name_test : (a b : DocName) (r : Bool) → r ≡ name_eq a b → IsTrue r ↔ (a ≡ b)
+name_test a b r is = (
+  λ same. name_is a b (sym is ∙ same),
+  λ same. is ∙ ap (name_eq a) (sym same) ∙ name_itself a,
+)

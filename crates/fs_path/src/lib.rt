@@ -37,7 +37,7 @@ pub use parse::{parse_document, parse_parent, parse_reference};
 pub use paths::Paths;
 pub use place::{Place, Rule};
 pub use print::{print_database, print_document, print_parent};
-pub use scope::{Scope, covers, shard_of};
+pub use scope::{MOST_SHARDS, Scope, covers, shard_of, shard_of_document};
 pub use segment::is_bad_id;
 pub use text::{Bytes, Text};
 pub use way::Way;

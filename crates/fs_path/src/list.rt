@@ -11,6 +11,13 @@ pub trait Copied: Drop {
         ensures { IfOk result (λ copy. copy ≡ self.now) };
 }
 
+impl Copied for u32 {
+    fn copy(&self, alloc: Global) -> Result<u32, AllocError> {
+        let _ = alloc;
+        Ok(*self)
+    }
+}
+
 /// Items in order. Contracts see them as a list, and a copy is the same list once more.
 ///
 /// | done | list |

@@ -3,7 +3,7 @@ ghost use Rattle.std.specs.Prelude.{◌≡◌, ◌↔◌, ◌<◌, ◌≤◌, �
 ghost use Rattle.std.specs.List.{starts_with};
 ghost use Rattle.std.specs.Option.{option_copied};
 ghost use Rattle.fs_path.specs.Cursor.{rest_segments};
-ghost use Rattle.fs_path.specs.Scope.{covers, lies_in, scope_id, scope_parent, Covers};
+ghost use Rattle.fs_path.specs.Scope.{collection_id, covers, lies_in, scope_id, scope_parent, shard_of, AreShards, Covers};
 ghost use Rattle.fs_path.specs.TextOrder.{text_eq};
 
 use crate::ids::Ids;
@@ -106,16 +106,39 @@ fn begins_with(path: Option<&str>, parent: &[Text]) -> bool
     true
 }
 
+/// The most shards that a server has. (This project's own.)
+pub const MOST_SHARDS: u32 = 16;
+
 /// The shard that a collection belongs to, of a number of shards from 1 to 16: the sum of its id's bytes modulo their
 /// number. (This project's own.)
 pub fn shard_of(id: &Text, shards: u32) -> u32
-    requires some { 1 ≤ shards }
-    requires few { shards ≤ 16 }
+    requires { AreShards shards }
+    ensures value { result ≡ sum id.now % shards }
+    ensures within { result < shards }
+{
+    shard_of_bytes(id.as_str().as_bytes(), shards)
+}
+
+/// The shard that a document belongs to: that of its collection, whose id is the last but one of the name's.
+pub fn shard_of_document(name: &DocName, shards: u32) -> u32
+    requires { AreShards shards }
+    ensures value { result ≡ shard_of shards name.now }
+    ensures within { result < shards }
+{
+    let count = name.len();
+    if count == 0 {
+        return 0;
+    }
+    shard_of_bytes(name.id(count.saturating_sub(2)).as_bytes(), shards)
+}
+
+fn shard_of_bytes(id: &[u8], shards: u32) -> u32
+    requires { AreShards shards }
     ensures value { result ≡ sum id.now % shards }
     ensures within { result < shards }
 {
     let mut shard = 0;
-    for b in id.as_str().as_bytes() {
+    for b in id {
         shard = (shard + u32::from(*b)) % shards;
     }
     shard

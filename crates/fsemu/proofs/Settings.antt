@@ -6,7 +6,7 @@ use Rattle.std.specs.Bool.{IsTrue}
 use Rattle.std.specs.Option.{option_map, option_and_then}
 use Rattle.std.specs.Str.Parse.{digits_value}
 use Rattle.fs_path.specs.TextOrder.{text_eq, text_is}
-use Rattle.fs_machine.specs.Config.{most_shards}
+use Rattle.fs_path.specs.Scope.{most_shards}
 use Rattle.fs_machine.specs.declared.config.Mode.{Mode}
 use Rattle.fs_machine.specs.declared.config.Mode.TheVariants.{Pessimistic, Optimistic}
 use Rattle.fsemu.specs.declared.given.Name.{Name}

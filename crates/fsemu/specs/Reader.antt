@@ -3,7 +3,7 @@ use Rattle.std.specs.Prelude.{ℕ, Bool, ◌&&◌, ◌==◌, nat_le, nat_lt, Lis
 use Rattle.std.specs.List.{before_first, after_first, position_or_len}
 use Rattle.std.specs.Option.{option_copied}
 use Rattle.std.specs.Str.Parse.{digits_value}
-use Rattle.fs_machine.specs.Config.{most_shards}
+use Rattle.fs_path.specs.Scope.{most_shards}
 use Rattle.fs_machine.specs.declared.config.Mode.{Mode}
 use Rattle.fs_machine.specs.declared.config.Mode.TheVariants.{Pessimistic, Optimistic}
 use Rattle.fs_path.specs.TextOrder.{text_eq}

@@ -6,6 +6,7 @@ ghost use Rattle.fsemu.specs.Words.{is_number, is_project, is_project_letter, is
 ghost use Rattle.fsemu.specs.Reader.{if_shards, mode_in, number_in, shards_in};
 
 use fs_machine::Mode;
+use fs_path::MOST_SHARDS;
 
 const SHORTEST_PROJECT: usize = 2;
 
@@ -13,8 +14,6 @@ const LONGEST_PROJECT: usize = 30;
 
 // The most digits that a number is written with.
 const MOST_DIGITS: usize = 10;
-
-const MOST_SHARDS: u64 = 16;
 
 /// Whether a text is the name of a project: a lower-case letter, then lower-case letters, digits and `-`.
 pub fn is_project(text: &str) -> bool
@@ -68,7 +67,7 @@ pub fn shards_in(text: &str) -> Option<u32>
 fn if_shards(n: u64) -> Option<u32>
     ensures { result ≡ if_shards n }
 {
-    if 1 <= n && n <= MOST_SHARDS {
+    if 1 <= n && n <= u64::from(MOST_SHARDS) {
         Some(n as u32)
     } else {
         None
