@@ -7,6 +7,7 @@ pub mod Named
 pub mod Copied
 pub mod Folds
 pub mod Comparing
+pub mod Alike
 pub mod Lawful
 pub mod FieldPlaces
 pub mod PathSteps

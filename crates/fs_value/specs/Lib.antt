@@ -3,6 +3,7 @@ pub mod Ordered
 pub mod Size
 pub mod Limits
 pub mod ValueOrder
+pub mod Same
 pub mod View
 pub mod Named
 pub mod Numbers

@@ -1,4 +1,8 @@
 //! Documents.
+ghost use Rattle.std.specs.Prelude.{◌≡◌, ◌↔◌, IsTrue};
+ghost use Rattle.fs_value.specs.Same.{same_document, same_fields};
+
+use crate::order::fields_same;
 use crate::shared::SharedFields;
 use fs_path::DocName;
 use fs_time::Micros;
@@ -30,6 +34,29 @@ impl Document {
             updated: self.updated,
         })
     }
+}
+
+/// Whether two documents are the same: their names, their fields and both of their times.
+pub fn document_same(a: &Document, b: &Document) -> bool
+    ensures value { result ≡ same_document a.now b.now }
+    ensures meaning { IsTrue result ↔ (a.now ≡ b.now) }
+{
+    is_same(a, b)
+}
+
+fn is_same(a: &Document, b: &Document) -> bool
+    ensures { result ≡ same_document a.now b.now }
+{
+    a.name == b.name
+        && are_same(&a.fields, &b.fields)
+        && a.created == b.created
+        && a.updated == b.updated
+}
+
+fn are_same(a: &SharedFields, b: &SharedFields) -> bool
+    ensures { result ≡ same_fields a.now b.now }
+{
+    fields_same(a.as_fields(), b.as_fields())
 }
 
 /// Documents in order. Contracts see them as a list.

@@ -14,7 +14,7 @@ mod value;
 mod values;
 
 pub use counted::{named_size, size};
-pub use document::{Document, Documents};
+pub use document::{Document, Documents, document_same};
 pub use document_map::DocumentMap;
 pub use fields::{Field, Fields};
 pub use limits::{DEEPEST_VALUE, LARGEST_DOCUMENT};

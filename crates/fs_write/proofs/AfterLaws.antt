@@ -10,7 +10,8 @@ use Rattle.fs_value.specs.Data.{Data}
 use Rattle.fs_value.specs.declared.document.Document.{Document}
 use Rattle.fs_write.specs.After.{left_of, documents_left, left_after, after_batch}
 use Rattle.fs_write.specs.Batch.{Docs, with_document, after_write, all_writes, batch, is_unchanged, document_after, IsOutcome}
-use Rattle.fs_write.specs.OneWrite.{Fault, one_write, same_fields, unless, overlong, unmet, unfit, written, carried_out, fields_left, document_left}
+use Rattle.fs_write.specs.OneWrite.{Fault, one_write, unless, overlong, unmet, unfit, written, carried_out, fields_left, document_left}
+use Rattle.fs_value.specs.Same.{same_fields}
 use Rattle.fs_write.specs.Refused.{reason_of}
 use Rattle.fs_write.specs.Transforms.{transformed, transform_results}
 use Rattle.fs_write.specs.WrittenName.{act_name, written_name, is_written}
@@ -20,7 +21,7 @@ use Rattle.fs_write.specs.declared.write.Write.{Write}
 use Rattle.fs_write.specs.declared.write_result.WriteResult.{WriteResult}
 use Rattle.fs_status.specs.Refusal.{refusal_of}
 use Rattle.fs_write.proofs.BatchLaws.{all_appended, untouched, law_back, law_differs}
-use Rattle.fs_write.proofs.Fields.{same_are, same_itself}
+use Rattle.fs_value.proofs.Alike.{same_are, same_itself}
 use Rattle.fs_write.proofs.Stages.{get-with_document, all_refused}
 use Rattle.fs_write.proofs.WriteLaws.{unless_done, law_set, law_deleted}
 

@@ -1,33 +1,13 @@
--- Fields that are the same, and what an update leaves of them.
-use Rattle.std.proofs.Common.{◌≡◌, ℕ, ℤ, ◌+◌, ◌<◌, Bool, true, false, cond, List, [], ◌∷◌, ◌++◌, length, get_or, take, Option, Some, refl, sym, ap, ◌∙◌}
+-- What an update leaves of fields.
+use Rattle.std.proofs.Common.{◌≡◌, ℕ, ℤ, ◌+◌, ◌<◌, true, false, cond, List, [], ◌∷◌, ◌++◌, length, get_or, take, Option, Some, refl, sym, ap, ◌∙◌}
 use Rattle.std.proofs.lemmas.List.{take_more}
-use Rattle.std.specs.Prelude.{IsTrue, ◌↔◌}
-use Rattle.std.proofs.lemmas.Bool.Decides.{same_from_decides}
-use Rattle.std.proofs.lemmas.Cmp.{tied_itself}
-use Rattle.std.specs.Cmp.{Equal-is}
 use Rattle.fs_path.specs.declared.field.FieldPath.{FieldPath}
 use Rattle.fs_path.specs.declared.name.DocName.{DocName}
-use Rattle.fs_value.specs.Data.{Data, object, members_of, fields_of}
-use Rattle.fs_value.specs.DataLaws.{fields_of-members_of}
+use Rattle.fs_value.specs.Data.{Data}
 use Rattle.fs_value.specs.FieldPaths.{get_fields}
-use Rattle.fs_value.specs.ValueOrder.{members_cmp}
-use Rattle.fs_value.specs.ValueOrderLaws.{members_same, value_cmp_total}
 use Rattle.fs_value.specs.declared.document.Document.{Document}
-use Rattle.fs_write.specs.OneWrite.{same_fields, document_left, merged, with_field}
-
--- whether fields are the same is told by a test that is true exactly there
-pub same_tested : (a b : List (List ℕ × Data)) (r : Bool) → (IsTrue r ↔ (a ≡ b)) → r ≡ same_fields a b
-same_tested a b r h =
-    same_from_decides r _ h (
-      λ t. sym (fields_of-members_of a) ∙ ap fields_of (members_same _ _ ((Equal-is _).0 t)) ∙ fields_of-members_of b,
-      λ e. (Equal-is _).1 (ap (λ fs. members_cmp (members_of a) (members_of fs)) (sym e) ∙ tied_itself value_cmp_total (object (members_of a))),
-    )
-
-pub same_are : (a b : List (List ℕ × Data)) → same_fields a b ≡ true → a ≡ b
-same_are a b t = sym (fields_of-members_of a) ∙ ap fields_of (members_same _ _ ((Equal-is _).0 t)) ∙ fields_of-members_of b
-
-pub same_itself : (a : List (List ℕ × Data)) → same_fields a a ≡ true
-same_itself a = (Equal-is _).1 (tied_itself value_cmp_total (object (members_of a)))
+use Rattle.fs_write.specs.OneWrite.{document_left, merged, with_field}
+use Rattle.fs_value.specs.Same.{same_fields}
 
 module _ (before : Document) (name : DocName) (fields : List (List ℕ × Data)) (time : ℤ) where
   changed : Document

@@ -16,7 +16,8 @@ use Rattle.fs_value.specs.Data.{Data}
 use Rattle.fs_value.specs.Named.{by_name}
 use Rattle.fs_value.specs.declared.document.Document.{Document}
 use Rattle.fs_write.specs.Batch.{Docs, docs_of, with_document, after_write, all_writes, changes_by_name, is_unchanged, Bears, AreNamed, IsNamed, IsOutcome}
-use Rattle.fs_write.specs.OneWrite.{Fault, one_write, same_fields, document_left}
+use Rattle.fs_write.specs.OneWrite.{Fault, one_write, document_left}
+use Rattle.fs_value.specs.Same.{same_fields}
 use Rattle.fs_write.specs.Refused.{reason_of}
 use Rattle.fs_write.specs.Transforms.{transformed}
 use Rattle.fs_write.specs.WrittenName.{written_name}

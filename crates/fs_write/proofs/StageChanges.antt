@@ -18,7 +18,7 @@ use Rattle.fs_write.specs.Batch.{Docs, changes_by_name, change_of, is_unchanged,
 use Rattle.fs_write.specs.Staging.{staged_at, both_of, with_change, IsStage, staged_change, AreStagedChanges}
 use Rattle.fs_write.specs.declared.batch.Staged.{Staged}
 use Rattle.fs_write.specs.declared.change.Change.{Change}
-use Rattle.fs_write.proofs.Fields.{same_itself}
+use Rattle.fs_value.proofs.Alike.{same_itself}
 
 -- the changes of a stage, entry by entry
 abbrev pub changes_in : List (DocName × Staged) → List Change

@@ -13,7 +13,8 @@ use Rattle.fs_value.specs.FieldPaths.{get_fields, set_fields, unset_fields, IsAp
 use Rattle.fs_value.specs.Limits.{deepest_value, largest_document}
 use Rattle.fs_value.specs.Size.{document_size}
 use Rattle.fs_value.specs.declared.document.Document.{Document}
-use Rattle.fs_write.specs.OneWrite.{Fault, deep, large, same_fields, merged, with_field, fields_left, document_left, counted_size, unfit, unless, overlong, written, carried_out, unmet, one_write}
+use Rattle.fs_write.specs.OneWrite.{Fault, deep, large, merged, with_field, fields_left, document_left, counted_size, unfit, unless, overlong, written, carried_out, unmet, one_write}
+use Rattle.fs_value.specs.Same.{same_fields}
 use Rattle.fs_write.specs.Rules.{overlap, some_overlap}
 use Rattle.fs_write.specs.Transforms.{transformed, transform_results}
 use Rattle.fs_write.specs.WrittenName.{written_name}
@@ -21,7 +22,8 @@ use Rattle.fs_write.specs.declared.write.Act.TheVariants.{Set, Delete}
 use Rattle.fs_write.specs.declared.write.Precondition.TheVariants as condition
 use Rattle.fs_write.specs.declared.write.Write.{Write}
 use Rattle.fs_write.specs.declared.write_result.WriteResult.{WriteResult}
-use Rattle.fs_write.proofs.Fields.{same_are, same_itself, left_same, left_other}
+use Rattle.fs_write.proofs.Fields.{left_same, left_other}
+use Rattle.fs_value.proofs.Alike.{same_are, same_itself}
 
 document_in : Result (Option Document × WriteResult) Fault → Option Document
 document_in (Ok p) = p.0

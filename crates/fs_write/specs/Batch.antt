@@ -13,7 +13,8 @@ use Rattle.fs_status.specs.Refusal.{refusal_of}
 use Rattle.fs_status.specs.declared.refusal.Refusal.{Refusal}
 use Rattle.fs_value.specs.Named.{by_name}
 use Rattle.fs_value.specs.declared.document.Document.{Document}
-use Rattle.fs_write.specs.OneWrite.{Fault, one_write, same_fields}
+use Rattle.fs_write.specs.OneWrite.{Fault, one_write}
+use Rattle.fs_value.specs.Same.{same_fields}
 use Rattle.fs_write.specs.Refused.{reason_of}
 use Rattle.fs_write.specs.WrittenName.{written_name}
 use Rattle.fs_write.specs.declared.change.Change.{Change}

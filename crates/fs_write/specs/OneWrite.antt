@@ -15,7 +15,7 @@ use Rattle.fs_value.specs.Data.{Data, members_of, members_depth}
 use Rattle.fs_value.specs.FieldPaths.{get_fields, set_fields, unset_fields}
 use Rattle.fs_value.specs.Limits.{deepest_value, largest_document}
 use Rattle.fs_value.specs.Size.{document_size}
-use Rattle.fs_value.specs.ValueOrder.{members_cmp}
+use Rattle.fs_value.specs.Same.{same_fields}
 use Rattle.fs_value.specs.declared.document.Document.{Document}
 use Rattle.fs_write.specs.Limits.{longest_transform_path}
 use Rattle.fs_write.specs.Transforms.{transformed, transform_results}
@@ -80,9 +80,6 @@ abbrev pub overlong : List Transform → Option Fault
 overlong ts = if list_any has_long_path ts then Some deep else None
 
 -- ---- the document that is left
-
-abbrev pub same_fields : List (List ℕ × Data) → List (List ℕ × Data) → Bool
-same_fields a b = is_eq (members_cmp (members_of a) (members_of b))
 
 -- One that had these fields stays as it was. Any other is updated now, and is created now where there was none.
 abbrev pub document_left : Option Document → DocName → List (List ℕ × Data) → ℤ → Document

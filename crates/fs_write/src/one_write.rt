@@ -4,7 +4,8 @@ ghost use Rattle.std.specs.List.{list_any};
 ghost use Rattle.fs_status.specs.Refusal.{refusal_of};
 ghost use Rattle.fs_status.specs.declared.reason.Reason.TheVariants.{Memory};
 ghost use Rattle.fs_value.specs.FieldPaths.{get_fields};
-ghost use Rattle.fs_write.specs.OneWrite.{has_long_path, unmet, with_field, merged, fields_there, fields_left, same_fields, document_left, unfit, written, carried_out, one_write};
+ghost use Rattle.fs_write.specs.OneWrite.{has_long_path, unmet, with_field, merged, fields_there, fields_left, document_left, unfit, written, carried_out, one_write};
+ghost use Rattle.fs_value.specs.Same.{same_fields};
 ghost use Rattle.fs_write.specs.Refused.{reason_of, refused};
 ghost use Rattle.fs_write.specs.Transforms.{transformed, transform_results};
 

@@ -1,6 +1,6 @@
 use Rattle.std.proofs.Common.{◌∙◌}
-use Rattle.fs_write.specs.OneWrite.{same_fields}
-use Rattle.fs_write.proofs.Fields.{same_tested}
+use Rattle.fs_value.specs.Same.{same_fields}
+use Rattle.fs_value.proofs.Alike.{same_tested}
 use Rattle.fs_write.proofs.one_write.is_same.Goals as goal
 
 pub returns : goal.returns
