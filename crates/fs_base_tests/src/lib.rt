@@ -1,5 +1,5 @@
-//! Tests of names, times, refusals, the edge, values, changes of fields, commit times and holds, by the public calls of their
-//! libraries.
+//! Tests of names, times, resume tokens, refusals, the edge, values, changes of fields, commit times and holds, by the public calls of
+//! their libraries.
 #![tactic(auto)]
 
 #[cfg(test)]
@@ -20,5 +20,7 @@ mod status;
 mod table;
 #[cfg(test)]
 mod time;
+#[cfg(test)]
+mod token;
 #[cfg(test)]
 mod value;

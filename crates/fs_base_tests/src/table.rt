@@ -2,6 +2,7 @@
 use crate::edit::tests::{integer_at, is_changed};
 use crate::path::tests::{tell, tell_read};
 use crate::time::tell_moment;
+use crate::token::tell_token;
 use std::alloc::Global;
 use std::fmt::Write;
 use std::process::Abort;
@@ -15,6 +16,8 @@ pub(crate) enum Line {
     Told,
     /// Which moment a text is, and how it is printed.
     Moment,
+    /// Which moment a resume token has, or why it has none.
+    Token,
     /// Which fields changes lead to.
     Changed,
     /// Which integer stands at a path after changes.
@@ -34,6 +37,7 @@ fn is_so(
         Line::Read => tell_read(rt, alloc, asked, told),
         Line::Told => tell(rt, alloc, asked, told),
         Line::Moment => tell_moment(rt, alloc, asked, told),
+        Line::Token => tell_token(rt, alloc, asked, told),
         Line::Changed => return is_changed(rt, alloc, asked, wanted),
         Line::Found => {
             if let Some(n) = integer_at(rt, alloc, asked) {
