@@ -23,7 +23,7 @@ const ROUNDS: u32 = 20;
 
 /// Prints what a query over the collection costs beside so many other documents.
 pub fn measure(rt: &HostRuntime, others: u32) -> io::Result<()> {
-    let mut store = Store::new(rt.alloc(), moment(0));
+    let mut store = Store::new(rt.alloc(), moment(0), 4);
     let done = measure_filled(rt, &mut store, others);
     drop(store);
     done

@@ -3,3 +3,4 @@
 mod database;
 mod tables;
 mod tests;
+mod told;

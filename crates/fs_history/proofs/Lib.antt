@@ -1,3 +1,4 @@
+pub mod Brought
 pub mod HistoryLaws
 pub mod KeptVersions
 pub mod Names

@@ -1,18 +1,11 @@
--- Names: what a test of two of them tells, and that one below all others isn't among them.
-use Rattle.std.proofs.Common.{◌≡◌, ◌↔◌, Bool, cond, List, [], ◌∷◌, Some, None, refl, sym, ap, ◌∙◌}
+-- A name below all others isn't among them.
+use Rattle.std.proofs.Common.{◌≡◌, cond, List, [], ◌∷◌, Some, None, refl, ap, ◌∙◌}
 use Rattle.std.specs.Prelude.{IsTrue}
 use Rattle.std.specs.FinMap.{find}
 use Rattle.std.specs.FinMap.Entries.{below_all}
-use Rattle.fs_path.specs.NameOrder.{name_cmp, name_eq, name_is, name_itself}
+use Rattle.fs_path.specs.NameOrder.{name_cmp}
 use Rattle.fs_path.specs.declared.name.DocName.{DocName}
 use Rattle.fs_path.proofs.Orders.{below_less}
-
--- names are the same where the test says so
-pub name_test : (a b : DocName) (r : Bool) → r ≡ name_eq a b → IsTrue r ↔ (a ≡ b)
-name_test a b r is = (
-  λ same. name_is a b (sym is ∙ same),
-  λ same. is ∙ ap (name_eq a) (sym same) ∙ name_itself a,
-)
 
 pub none_below : {X : Type 0} (k : DocName) (es : List (DocName × X)) → IsTrue (below_all name_cmp k es) → find name_cmp k es ≡ None
 none_below k [] below = refl

@@ -1,5 +1,5 @@
 -- What a read showed is what the documents give still behind a batch that doesn't touch it.
-use Rattle.std.proofs.Common.{◌≡◌, ℤ, Bool, true, false, cond, List, [], ◌∷◌, ◌⊎◌, inl, inr, Option, Some, None, refl, sym, ap, ◌∙◌, subst}
+use Rattle.std.proofs.Common.{◌≡◌, ℤ, Bool, true, false, cond, List, [], ◌∷◌, ◌⊎◌, inl, inr, Some, None, refl, sym, ap, ◌∙◌, subst}
 use Rattle.std.specs.Prelude.{◌||◌, IsTrue}
 use Rattle.std.specs.Cmp.{first_so, second_so}
 use Rattle.std.specs.FinMap.{find, get, get-empty, get-entries, is_sorted, values}
@@ -13,7 +13,7 @@ use Rattle.fs_path.specs.Scope.{covers}
 use Rattle.fs_path.specs.declared.name.DocName.{DocName}
 use Rattle.fs_path.specs.declared.scope.Scope.{Scope}
 use Rattle.fs_query.proofs.Rising.{has_cases, has_none}
-use Rattle.fs_query.specs.Answer.{AreFitting, IsAnswer}
+use Rattle.fs_query.specs.Answer.{IsAnswer}
 use Rattle.fs_query.specs.Asked.{Asked}
 use Rattle.fs_query.specs.Fits.{fits}
 use Rattle.fs_value.specs.Named.{by_name}
@@ -25,7 +25,7 @@ use Rattle.fs_write.specs.WrittenName.{is_written, written_name}
 use Rattle.fs_write.specs.declared.write.Write.{Write}
 use Rattle.fs_history.specs.History.{whole}
 use Rattle.fs_history.specs.Serial.{IsShown}
-use Rattle.fs_history.specs.Touches.{touched, touches}
+use Rattle.fs_history.specs.Touches.{touched}
 use Rattle.fs_history.specs.declared.batch.Batch.{Batch}
 use Rattle.fs_history.specs.declared.read.Read.{Read}
 use Rattle.fs_history.specs.declared.read.Read.TheVariants as read

@@ -8,6 +8,7 @@ use Rattle.fs_write.specs.After.{after_batch}
 use Rattle.fs_write.specs.Batch.{docs_of, AreNamed, AreChanges, IsOutcome}
 use Rattle.fs_write.specs.declared.change.Change.{Change}
 use Rattle.fs_write.specs.declared.write_result.WriteResult.{WriteResult}
+use Rattle.fs_history.specs.Brings.{until}
 use Rattle.fs_history.specs.History.{at, before, whole, EndsBy, IsRising}
 use Rattle.fs_history.specs.Serial.{AreSerial, IsSerial, IsShown}
 use Rattle.fs_history.specs.Touches.{touched}
@@ -28,6 +29,10 @@ BeforeIsWhole = (b : Batch) (h : List Batch) → IsRising (b ∷ h) → before (
 -- a batch that comes later changes nothing of what was there at a time
 abbrev pub LaterIsUnseen : Type 0
 LaterIsUnseen = (b : Batch) (h : List Batch) (t : ℤ) → t <ℤ b.time → at (b ∷ h) t ≡ at h t
+
+-- the documents at a time are those that the batches up to it leave
+abbrev pub AtIsUntil : Type 0
+AtIsUntil = (h : List Batch) (t : ℤ) → at h t ≡ whole (until h t)
 
 -- ---- batches
 

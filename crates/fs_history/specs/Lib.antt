@@ -1,3 +1,4 @@
+pub mod Brings
 pub mod Bytes
 pub mod History
 pub mod Journal

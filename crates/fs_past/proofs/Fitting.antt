@@ -25,7 +25,7 @@ use Rattle.fs_history.specs.declared.batch.Batch.{Batch}
 use Rattle.fs_versions.specs.Chain.{last_document}
 use Rattle.fs_versions.specs.Chains.{Chains, chain_of, installed}
 use Rattle.fs_store.proofs.Installing.{chain_installed, last_extended}
-use Rattle.fs_store.specs.Brings.{Brings}
+use Rattle.fs_history.specs.Brings.{Brings}
 use Rattle.fs_store.specs.Fits.{AreAllNext, AreNext, IsNext, TimesRise}
 use Rattle.fs_machine.specs.NamesApart.{AreApart, IsApartFrom}
 use Rattle.fs_machine.specs.Past.{batches}
@@ -90,6 +90,7 @@ effects_behind h u w (Some a) apart brings = (
   brings.0,
   law_named (whole h) (whole (u.batch ∷ h)) w.batch.writes w.batch.time a.change.changes a.results (λ x at. sym (agree_behind h u.batch w.batch.writes apart x at)) brings.1,
   brings.2,
+  brings.3,
 )
 
 pub stand_behind : (cs : List Posted1) (h : List Batch) (u : Unreleased) → AllByRecursion (Stands (whole h)) cs → AllByRecursion (IsApartFrom u.batch) (batches (all_unreleased cs))
@@ -121,7 +122,7 @@ module _ (law : ChangesOfTheLast) where
   in_next h v u (Some a) cs brings newest more =
       let are = law u.batch h a.change.changes a.results brings.1 in
       let rest = more (installed v a.change.changes a.change.time) (newest_installed h v u.batch a a.change.time newest brings.1) in
-      ((all_are_next h v u.batch a.change.changes newest are brings.2, rest.0), (u.batch, record { time = sym brings.0; changes = are }, rest.1))
+      ((all_are_next h v u.batch a.change.changes newest are brings.2, rest.0), (u.batch, record { time = sym brings.0; id = sym brings.3; changes = are }, rest.1))
 
   pub go_in : (cs : List Posted1) (h : List Batch) (v : Chains) → AllByRecursion (Stands (whole h)) cs → AreApart (batches (all_unreleased cs)) → AreNewest h v → GoIn h v (changes_of cs) (all_history h cs)
   go_in [] h v all apart newest = (tt, refl)

@@ -14,7 +14,7 @@ use Rattle.fs_history.specs.Laws.{ChangesOfTheLast}
 use Rattle.fs_history.specs.declared.batch.Batch.{Batch}
 use Rattle.fs_locks.specs.Holds.{IsLeastOther}
 use Rattle.fs_store.proofs.Absorbing.{floor_all}
-use Rattle.fs_store.specs.Brings.{Brings}
+use Rattle.fs_history.specs.Brings.{Brings}
 use Rattle.fs_store.specs.Fits.{AreNext, Fits, TimesRise}
 use Rattle.fs_store.specs.Shows.{Shows}
 use Rattle.fs_store.specs.Stored.{Stored, absorbed}
@@ -185,7 +185,7 @@ module _ (j : Recorded) (b : Posted Unreleased Accepted) (l : Holds) (s : Stored
           time = stands.time;
           id = stands.id;
           pending = stands.pending;
-          effects = subst (λ x. BringsEffects (whole j.history) x (Some brought)) (sym same) (time, had, own.1);
+          effects = subst (λ x. BringsEffects (whole j.history) x (Some brought)) (sym same) (time, had, own.1, sym (number_found held.unreleased id w found));
         }
 
         pub kept_accepted : IsKept j accepted l s moment bytes

@@ -50,6 +50,7 @@ abbrev pub BringsEffects : Docs → Unreleased → Option Accepted → Type 0
 BringsEffects docs u None = ⊤
 BringsEffects docs u (Some a) =
     (a.change.time ≡ u.batch.time) × IsOutcome docs u.batch.writes u.batch.time a.change.changes a.results × AllByRecursion IsNamed a.change.changes
+    × (a.change.id ≡ u.batch.id)
 
 pub record Stands (docs : Docs) (c : Commit Unreleased Accepted) : Type 0 where
   pub time : c.asked.batch.time ≡ c.time

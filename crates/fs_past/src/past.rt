@@ -86,6 +86,7 @@ impl Past {
     ghost use Rattle.fs_history.specs.Bytes.{batch_size as bytes_of_batch};
     ghost use Rattle.fs_history.specs.History.{at};
     ghost use Rattle.fs_history.specs.Versions.{chain as chain_from};
+    ghost use Rattle.fs_path.specs.Scope.{AreShards};
     ghost use Rattle.fs_query.specs.AnswerTo.{answer_to};
     ghost use Rattle.fs_time.specs.Moment.{IsMoment};
     ghost use Rattle.fs_machine.specs.Behind.{behind, least};
@@ -104,8 +105,9 @@ impl Past {
     ghost use Rattle.fs_machine.specs.Tick.{past_advanced};
     ghost use Rattle.fs_machine.specs.declared.answer.Outcome.TheVariants.{Effects};
 
-    /// No commits, at a moment, which can be read. The allocator serves those that come.
-    pub fn new(alloc: Global, start: Micros) -> Past
+    /// No commits, at a moment, which can be read, of a number of shards from 1 to 16. The allocator serves those that come.
+    pub fn new(alloc: Global, start: Micros, shards: u32) -> Past
+        requires { AreShards shards }
         ensures { result ≡ past_from start }
     {
         Past {
@@ -113,7 +115,7 @@ impl Past {
             board: Board::new(alloc, start),
             waiting: 0,
             holds: Holds::new(alloc),
-            store: Store::new(alloc, start),
+            store: Store::new(alloc, start, shards),
             moment: start,
         }
     }

@@ -1,11 +1,11 @@
 //! Releases of a store.
 ghost use Rattle.std.specs.Prelude.{◌≡◌, ◌-◌, ◌≤◌, ◌++◌, ◌∷◌, List, [], IfOk, IfSome, OnOk, length};
-ghost use Rattle.std.specs.List.{All};
+ghost use Rattle.std.specs.List.{All, sum_by};
 ghost use Rattle.std.specs.Vec.{vec_len, vec_capacity};
 ghost use Rattle.fs_history.specs.declared.batch.Batch.{Batch};
-ghost use Rattle.fs_store.specs.Brings.{Brings};
+ghost use Rattle.fs_history.specs.Brings.{Brings};
 ghost use Rattle.fs_store.specs.Fits.{Fits};
-ghost use Rattle.fs_store.specs.Room.{HasRoomFor};
+ghost use Rattle.fs_store.specs.Room.{HasPlaces, HasRoomFor, change_count};
 ghost use Rattle.fs_store.specs.Shows.{Shows};
 ghost use Rattle.fs_store.specs.Stored.{absorbed};
 ghost use Rattle.fs_versions.specs.Room.{HasRoom};
@@ -23,8 +23,19 @@ use fs_time::Micros;
 use fs_write::{TimedChange, TimedChanges};
 use std::alloc::{AllocError, Global};
 
-/// Makes room for the changes of the accepted commits before which none is pending: in a store, one version at each name, and in a
-/// list, which is empty yet. Where memory runs out, nothing is changed that is stored.
+// How many changes commits have, if memory may have so many.
+fn count_of(ready: &[(&Unreleased, &Accepted)]) -> Option<usize>
+    ensures { IfSome result (λ n. n ≡ sum_by (λ r. length r.1.now.change.changes) ready.now) }
+{
+    let mut count = 0_usize;
+    for commit in ready {
+        count = count.checked_add(commit.1.change.changes.len())?;
+    }
+    Some(count)
+}
+
+/// Makes room for the changes of the accepted commits before which none is pending: in a store, one version at each name and a place
+/// for each change, and in a list, which is empty yet. Where memory runs out, nothing is changed that is stored.
 pub(crate) fn make_room(
     alloc: Global,
     store: &mut Store,
@@ -32,6 +43,7 @@ pub(crate) fn make_room(
 ) -> Result<Vec<TimedChange>, AllocError>
     ensures same { store.new.stored ≡ store.old.stored }
     ensures room { OnOk result (All (λ c. HasRoom store.new.room 1 c.changes) (changes_of board.now.commits)) }
+    ensures noted { OnOk result (HasPlaces store.new (change_count (changes_of board.now.commits))) }
     ensures none { IfOk result (λ v. v.items ≡ []) }
     ensures places { IfOk result (λ v. length (changes_of board.now.commits) ≤ vec_capacity v - vec_len v) }
 {
@@ -39,6 +51,10 @@ pub(crate) fn make_room(
     for commit in ready.as_slice() {
         store.make_room_for(alloc, &commit.1.change.changes)?;
     }
+    let Some(count) = count_of(ready.as_slice()) else {
+        return Err(AllocError);
+    };
+    store.make_places(count)?;
     Ok(Vec::with_capacity(alloc, ready.len())?)
 }
 
@@ -87,6 +103,7 @@ pub(crate) fn let_in(
 pub(crate) fn bring(store: &mut Store, to: Micros, changes: TimedChanges)
     requires fits { Fits store.old.stored (next_release store.old.stored to changes) }
     requires room { HasRoomFor store.old.room changes }
+    requires places { HasPlaces store.old (change_count changes) }
     ensures value { store.new.stored ≡ absorbed store.old.stored (next_release store.old.stored to changes) }
     ensures shows { (h : List Batch) (k : List Batch) → Shows h store.old.stored → Brings h changes k → Shows k store.new.stored }
 {

@@ -90,10 +90,11 @@ impl Server {
         requires limits { AreAllowed limits }
         ensures { result ≡ started config limits start }
     {
+        let past = Past::new(alloc, start, config.shards);
         Server {
             config,
             limits,
-            past: Past::new(alloc, start),
+            past,
             txns: Txns::new(alloc),
             sessions: Sessions::new(alloc),
             waiting: Waiting::new(alloc),

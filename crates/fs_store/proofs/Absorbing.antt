@@ -15,7 +15,7 @@ use Rattle.fs_versions.specs.Chains.{Chains, installed}
 use Rattle.fs_versions.specs.Room.{HasRoom, Room, TakesRoom, room_after, room_of}
 use Rattle.fs_versions.specs.Shows.{EndsAt, Shows as VersionsShow}
 use Rattle.fs_versions.proofs.TreeLaws.{found_itself}
-use Rattle.fs_store.specs.Brings.{Brings}
+use Rattle.fs_history.specs.Brings.{Brings}
 use Rattle.fs_store.specs.Stored.{all_installed}
 use Rattle.fs_store.specs.Fits.{AreNext, TimesRise}
 use Rattle.fs_store.specs.Held.{CanInstall}

@@ -1,8 +1,13 @@
 pub mod Absorbing
-pub mod Alike
+pub mod Filters
 pub mod Fitting
 pub mod Holding
 pub mod Installing
 pub mod Listing
+pub mod Logging
 pub mod Named
+pub mod Noting
+pub mod Ordered
+pub mod Places
 pub mod Rooms
+pub mod Telling

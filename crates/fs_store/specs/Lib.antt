@@ -1,8 +1,12 @@
+pub mod Noted
+pub mod Logged
+pub mod Logs
 pub mod Stored
 pub mod Room
 pub mod Events
 pub mod Fits
-pub mod Brings
 pub mod Shows
 pub mod Held
 pub mod Next
+pub mod Told
+pub mod Changes

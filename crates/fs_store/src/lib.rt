@@ -3,9 +3,13 @@
 
 mod absorb;
 mod fits;
+mod log;
+mod logs;
+mod noted;
 mod release;
 mod same;
 mod store;
+mod told;
 
 pub use fs_versions::Version;
 pub use release::Release;

@@ -4,36 +4,14 @@ ghost use Rattle.std.specs.Option.{option_copied};
 ghost use Rattle.fs_write.specs.Batch.{Bears};
 
 use fs_path::DocName;
-use fs_value::{Document, fields_same};
-
-fn same_times(a: &Document, b: &Document) -> bool
-    ensures { IsTrue result ↔ ((a.now.created ≡ b.now.created) × (a.now.updated ≡ b.now.updated)) }
-{
-    a.created == b.created && a.updated == b.updated
-}
-
-// Whether two documents have the same name, fields and times.
-fn same_document(a: &Document, b: &Document) -> bool
-    ensures { IsTrue result ↔ (a.now ≡ b.now) }
-{
-    if !same_times(a, b) {
-        return false;
-    }
-    let named_alike = a.name == b.name;
-    if !named_alike {
-        return false;
-    }
-    let one = a.fields.as_fields();
-    let other = b.fields.as_fields();
-    fields_same(one, other)
-}
+use fs_value::{Document, document_same};
 
 /// Whether both are none, or the same document.
 pub(crate) fn is_same(a: Option<&Document>, b: &Option<Document>) -> bool
     ensures { IsTrue result ↔ (b.now ≡ option_copied a.entry) }
 {
     match (a, b) {
-        (Some(one), Some(other)) => same_document(one, other),
+        (Some(one), Some(other)) => document_same(one, other),
         (None, None) => true,
         _ => false,
     }

@@ -1,17 +1,31 @@
 //! The store.
-use crate::absorb::{install_all, make_room};
+ghost use Rattle.std.specs.Prelude.{◌≡◌, ◌≤ℤ◌};
+ghost use Rattle.fs_store.specs.Changes.{later};
+
+use crate::absorb::{count_changes, install_all, make_room};
 use crate::fits::{are_next, times_rise};
+use crate::logs::Logs;
+use crate::noted::Noted;
 use crate::release::Release;
+use crate::told::commits_told;
 use fs_edge::Steps;
 use fs_path::DocName;
 use fs_query::{Query, answer_among};
 use fs_time::Micros;
 use fs_value::{Document, Documents};
 use fs_versions::{Version, Versions};
-use fs_write::{Changes, TimedChange};
+use fs_write::{Changes, TimedChange, TimedChanges};
 use std::alloc::{AllocError, Global};
 use std::marker::Model;
 use std::sync::ledger::Ledger;
+
+// The later of two times.
+fn later(a: Micros, b: Micros) -> Micros
+    ensures value { result ≡ later a b }
+    ensures behind { b ≤ℤ result }
+{
+    if a <= b { b } else { a }
+}
 
 /// The documents of a database at each time from a floor up to the time that was released last. Releases bring commits,
 /// and a compaction raises the floor:
@@ -19,13 +33,16 @@ use std::sync::ledger::Ledger;
 ///     new(4)                                          no documents, and 4 is read
 ///     absorb 4 to 8: c/a to {n: 1} at 5, gone at 7    c/a is {n: 1} at 5 and 6; 4 to 8 are read
 ///     absorb 8 to 9: nothing                          4 to 9 are read
-///     compact(7)                                      7 to 9 are read
+///     changes(shard of c, 5, 9)                       at 7 c/a from {n: 1} to none
+///     compact(7)                                      7 to 9 are read, and no change up to 7 is told any more
 ///
 /// Before a release is absorbed, room is made for its changes, which is all that takes memory. Contracts see what is stored,
 /// as `Stored`, with the room beside it. What stores of the same releases and compactions have stored is the same.
 #[derive(Drop)]
 pub struct Store {
     versions: Versions,
+    // the names that were changed behind the floor
+    logs: Logs,
     // the end of the last release, or the first floor
     absorbed: Micros,
 }
@@ -37,39 +54,48 @@ impl Model for Store {
 
     ghost coded = { housed_code };
 
-    ghost use Rattle.fs_store.specs.Held.{IsHeld};
+    ghost use Rattle.fs_store.specs.Held.{IsHeld, AreLogged};
 
-    ghost view = { λ s. record { stored = record { chains = s.versions.chains; absorbed = s.absorbed }; room = s.versions.room } };
+    ghost view = { λ s. record {
+      stored = record { chains = s.versions.chains; absorbed = s.absorbed; shards = s.logs.shards; logs = s.logs.logs };
+      room = s.versions.room;
+      places = s.logs.rooms;
+    } };
 
-    ghost invariant = { λ s. IsHeld s.versions.chains s.absorbed };
+    ghost invariant = { λ s. IsHeld s.versions.chains s.absorbed × AreLogged s.versions.chains s.logs.shards s.logs.logs };
 }
 
 impl Store {
-    ghost use Rattle.std.specs.Prelude.{◌≡◌, ◌↔◌, ◌≤ℤ◌, List, [], ◌∷◌, IsTrue, IsNone, IfOk, IfSome, OnOk, OnErr, length};
+    ghost use Rattle.std.specs.Prelude.{◌≡◌, ◌↔◌, ◌<◌, ◌≤ℤ◌, List, [], ◌∷◌, IsTrue, IsNone, IfOk, IfSome, OnOk, OnErr, length};
     ghost use Rattle.std.specs.FinMap.{get, values};
     ghost use Rattle.std.specs.Option.{option_copied};
     ghost use Rattle.fs_history.specs.History.{at};
     ghost use Rattle.fs_history.specs.declared.batch.Batch.{Batch};
+    ghost use Rattle.fs_path.specs.Scope.{in_shard, AreShards};
     ghost use Rattle.fs_query.specs.Answer.{IsAnswer};
     ghost use Rattle.fs_versions.specs.Chain.{shown_at};
     ghost use Rattle.fs_versions.specs.Chains.{chain_of};
     ghost use Rattle.fs_versions.specs.Listed.{documents_at};
     ghost use Rattle.fs_versions.specs.Room.{HasRoom, KeepsRoom};
-    ghost use Rattle.fs_store.specs.Brings.{Brings};
+    ghost use Rattle.fs_history.specs.Brings.{AreChangesIn, Brings};
+    ghost use Rattle.fs_store.specs.Changes.{changes_in, later};
     ghost use Rattle.fs_store.specs.Events.{store_of};
     ghost use Rattle.fs_store.specs.Fits.{Fits};
     ghost use Rattle.fs_store.specs.Next.{next_release};
-    ghost use Rattle.fs_store.specs.Room.{HasRoomFor};
+    ghost use Rattle.fs_store.specs.Room.{HasPlaces, HasRoomFor, change_count};
     ghost use Rattle.fs_store.specs.Shows.{Shows};
     ghost use Rattle.fs_store.specs.Stored.{absorbed, compacted};
 
-    /// A store without documents, which is read from a floor on. The allocator serves what it absorbs.
-    pub fn new(alloc: Global, floor: Micros) -> Store
-        ensures value { result.stored ≡ store_of floor [] }
+    /// A store without documents, which is read from a floor on, and whose changes are told by shard, of a number of shards from
+    /// 1 to 16. The allocator serves what it absorbs.
+    pub fn new(alloc: Global, floor: Micros, shards: u32) -> Store
+        requires { AreShards shards }
+        ensures value { result.stored ≡ store_of floor shards [] }
         ensures shows { Shows [] result.stored }
     {
         Store {
             versions: Versions::new(alloc, floor),
+            logs: Logs::new(alloc, shards),
             absorbed: floor,
         }
     }
@@ -90,6 +116,14 @@ impl Store {
         ensures within { self.now.stored.chains.floor ≤ℤ self.now.stored.absorbed }
     {
         self.absorbed
+    }
+
+    /// The number of shards by which changes are told.
+    pub fn shards(&self) -> u32
+        ensures value { result ≡ self.now.stored.shards }
+        ensures some { AreShards self.now.stored.shards }
+    {
+        self.logs.shards()
     }
 
     /// The document of a name at a time that can be read.
@@ -130,6 +164,26 @@ impl Store {
         self.versions.chain(name)
     }
 
+    /// What commits changed in a shard behind a time and the floor, up to another time: each commit that changed something in it, by
+    /// its time, with its number and these changes. It goes over these changes alone, each of which is two searches for its name,
+    /// and their documents share their fields with those here.
+    /// (docs/DECISIONS.md, "A store notes what was changed, by shard".)
+    pub fn changes(
+        &self,
+        alloc: Global,
+        shard: u32,
+        from: Micros,
+        to: Micros,
+    ) -> Result<TimedChanges, AllocError>
+        requires { shard < self.now.stored.shards }
+        ensures value { IfOk result (λ cs. cs ≡ changes_in self.now.stored shard from to) }
+        ensures shows { IfOk result (λ cs. (h : List Batch) → Shows h self.now.stored
+            → AreChangesIn h (in_shard self.now.stored.shards shard) (later from self.now.stored.chains.floor) (later to (later from self.now.stored.chains.floor)) cs) }
+    {
+        let from = later(from, self.versions.floor());
+        commits_told(alloc, &self.versions, self.logs.between(shard, from, to))
+    }
+
     /// Whether a release is the next one: it begins where the last one ended, its times rise, and each of its changes goes
     /// on from the newest document of its name. It takes no memory.
     /// (docs/DECISIONS.md, "A store tests a release without memory".)
@@ -142,14 +196,20 @@ impl Store {
             && are_next(&self.versions, commits)
     }
 
-    /// Makes room for a release, at each name that it changes for as many versions as it has commits. Where memory runs out, nothing
-    /// is changed that is stored.
+    /// Makes room for a release, at each name that it changes for as many versions as it has commits, and a place for each change.
+    /// Where memory runs out, nothing is changed that is stored.
     /// (docs/DECISIONS.md, "Room is made before anything is put in".)
     pub fn make_room(&mut self, alloc: Global, release: &Release) -> Result<(), AllocError>
         ensures same { self.new.stored ≡ self.old.stored }
         ensures ok { OnOk result (HasRoomFor self.new.room release.now.changes) }
+        ensures places { OnOk result (HasPlaces self.new (change_count release.now.changes)) }
     {
-        make_room(alloc, &mut self.versions, release.changes.as_slice())
+        let commits = release.changes.as_slice();
+        let Some(count) = count_changes(commits) else {
+            return Err(AllocError);
+        };
+        self.logs.reserve(count)?;
+        make_room(alloc, &mut self.versions, commits)
     }
 
     /// Makes room for one version more at each name that changes name, for who has the commits of a release one by one and knows
@@ -158,8 +218,19 @@ impl Store {
         ensures same { self.new.stored ≡ self.old.stored }
         ensures kept { KeepsRoom self.old.room self.new.room }
         ensures ok { OnOk result (HasRoom self.new.room 1 changes.now) }
+        ensures places { self.new.places ≡ self.old.places }
     {
         self.versions.make_room(alloc, changes, 1)
+    }
+
+    /// Makes places for so many changes, for who has made room for them one by one. Where memory runs out, nothing is changed that is
+    /// stored.
+    pub fn make_places(&mut self, count: usize) -> Result<(), AllocError>
+        ensures same { self.new.stored ≡ self.old.stored }
+        ensures room { self.new.room ≡ self.old.room }
+        ensures ok { OnOk result (HasPlaces self.new count) }
+    {
+        self.logs.reserve(count)
     }
 
     /// Takes in a release that fits, where there is room for it. It takes no memory.
@@ -168,11 +239,12 @@ impl Store {
     pub fn absorb(&mut self, release: Release)
         requires fits { Fits self.old.stored release }
         requires room { HasRoomFor self.old.room release.changes }
+        requires places { HasPlaces self.old (change_count release.changes) }
         ensures value { self.new.stored ≡ absorbed self.old.stored release }
         ensures shows { (h : List Batch) (k : List Batch) → Shows h self.old.stored → Brings h release.changes k
             → Shows k self.new.stored }
     {
-        install_all(&mut self.versions, release.changes);
+        install_all(&mut self.versions, &mut self.logs, release.changes);
         self.absorbed = release.to;
     }
 
@@ -192,7 +264,14 @@ impl Store {
             → Shows k self.new.stored) }
     {
         let change = &commit.changes.as_slice()[0];
+        let name = change.name.copy(alloc)?;
+        self.logs.reserve(1)?;
         self.versions.install_one(alloc, change, commit.time)?;
+        self.logs.note(Noted {
+            time: commit.time,
+            id: commit.id,
+            name,
+        });
         self.absorbed = to;
         Ok(())
     }
@@ -208,5 +287,6 @@ impl Store {
         ensures shows { (h : List Batch) → Shows h self.old.stored → Shows h self.new.stored }
     {
         self.versions.compact(floor);
+        self.logs.cut(floor);
     }
 }

@@ -114,10 +114,6 @@ cut_none chain t n split none = cut_parted chain t n split ∙ ap (λ k. reverse
 
 -- ---- the last version
 
-pub last_none : (chain : List Version) → length chain ≡ 0 → last_document chain ≡ None
-last_none [] none = refl
-last_none (v ∷ vs) none = absurd (omega arith)
-
 pub last_of : (chain : List Version) (d : Version) → 0 < length chain → last_document chain ≡ (get_or chain (length chain - 1) d).after
 last_of chain d some =
     let n = length chain in

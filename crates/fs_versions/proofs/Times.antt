@@ -1,10 +1,9 @@
 -- Chains whose times rise.
-use Rattle.std.proofs.Common.{◌≡◌, ℕ, ◌+◌, ◌<◌, ◌≤◌, ℤ, ◌<ℤ◌, Bool, true, false, eqb, List, length, drop, get_or, refl, sym, ap, ◌∙◌, subst, arith}
+use Rattle.std.proofs.Common.{◌≡◌, ℕ, ◌<◌, ◌≤◌, ℤ, ◌<ℤ◌, Bool, true, false, eqb, List, length, get_or, refl, ap, ◌∙◌, subst, arith}
 use Rattle.std.specs.Prelude.{int_le}
 use Rattle.std.specs.List.Sorted.{IsPartitionedBy, IsPartitionPoint}
 use Rattle.std.proofs.lemmas.Int.{ints}
 use Rattle.std.proofs.lemmas.Bool.Decides.{nat_tests}
-use Rattle.std.proofs.lemmas.List.{get_or-drop, length-drop}
 use Rattle.fs_history.specs.declared.version.Version.{Version}
 use Rattle.fs_versions.specs.Rising.{TimesRise}
 use Rattle.fs_versions.specs.Sound.{IsSplit}
@@ -22,12 +21,6 @@ pub partitioned : (chain : List Version) (t : ℤ) → TimesRise chain → IsPar
 partitioned chain t rise i j d low within passes = same_or_before chain t i j d (λ below. rise i j d below within) low passes
 
 -- ---- parts of a chain
-
-pub rise_drop : (n : ℕ) (chain : List Version) → TimesRise chain → TimesRise (drop n chain)
-rise_drop n chain rise i j d below within =
-    let short : n + j < length chain = omega (arith, length-drop n chain, within) in
-    subst (λ (v : Version). v.time <ℤ (get_or (drop n chain) j d).time) (sym (get_or-drop n chain i d))
-    (subst (λ (w : Version). (get_or chain (n + i) d).time <ℤ w.time) (sym (get_or-drop n chain j d)) (rise (n + i) (n + j) d (omega arith) short))
 
 -- ---- how many are at or before a time
 

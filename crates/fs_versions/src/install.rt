@@ -1,5 +1,5 @@
 //! How room is made for the changes of a batch, and how they come into the chains.
-ghost use Rattle.std.specs.Prelude.{◌≡◌, ◌-◌, ◌<◌, ◌≤◌, ◌∷◌, ◌++◌, [], IsTrue, OnOk, OnErr};
+ghost use Rattle.std.specs.Prelude.{◌≡◌, ◌-◌, ◌<◌, ◌≤◌, ◌∷◌, ◌++◌, [], IsTrue, OnOk, OnErr, map};
 ghost use Rattle.std.specs.FinMap.{is_sorted};
 ghost use Rattle.std.specs.List.{All};
 ghost use Rattle.fs_path.specs.NameOrder.{name_cmp};
@@ -71,30 +71,32 @@ pub(crate) fn install_one(
 }
 
 // Puts the version that a change leaves behind the chain of its name.
-fn put(chains: &mut BTreeMap<DocName, Chain>, change: Change, time: Micros)
-    requires earlier { AreBefore (chain_in change.name chains.old.entries) time }
-    requires room { 0 < room_in change.name chains.old.entries }
-    ensures { Puts chains.old.entries chains.new.entries change.name (record {
-      versions = chain_in change.name chains.old.entries ++ record { time = time; after = change.after } ∷ [];
-      room = room_in change.name chains.old.entries - 1;
+fn put(chains: &mut BTreeMap<DocName, Chain>, change: &mut Change, time: Micros)
+    requires earlier { AreBefore (chain_in change.old.name chains.old.entries) time }
+    requires room { 0 < room_in change.old.name chains.old.entries }
+    ensures chain { Puts chains.old.entries chains.new.entries change.old.name (record {
+      versions = chain_in change.old.name chains.old.entries ++ record { time = time; after = change.old.after } ∷ [];
+      room = room_in change.old.name chains.old.entries - 1;
     }) }
+    ensures named { change.new.name ≡ change.old.name }
 {
     let chain = chains.get_mut(&change.name).unwrap();
     chain.push(Version {
         time,
-        after: change.after,
+        after: change.after.take(),
     });
 }
 
-/// Puts in the version that each change leaves at a time, where there is room for it.
-pub(crate) fn install(chains: &mut BTreeMap<DocName, Chain>, changes: Vec<Change>, time: Micros)
-    requires rising { IsTrue (is_sorted name_cmp (changes_by_name changes.items)) }
-    requires room { All (λ c. 1 ≤ room_in c.name chains.old.entries) changes.items }
+/// Puts in the version that each change leaves at a time, where there is room for it. The changes keep their names.
+pub(crate) fn install(chains: &mut BTreeMap<DocName, Chain>, changes: &mut [Change], time: Micros)
+    requires rising { IsTrue (is_sorted name_cmp (changes_by_name changes.old)) }
+    requires room { All (λ c. 1 ≤ room_in c.name chains.old.entries) changes.old }
     requires earlier { EndsBefore chains.old.entries time }
-    ensures chains { HasChanged chains.old.entries chains.new.entries changes.items time }
-    ensures room { HasTaken chains.old.entries chains.new.entries changes.items }
+    ensures chains { HasChanged chains.old.entries chains.new.entries changes.old time }
+    ensures room { HasTaken chains.old.entries chains.new.entries changes.old }
+    ensures names { map (λ c. c.name) changes.new ≡ map (λ c. c.name) changes.old }
 {
-    for change in changes {
-        put(chains, change, time);
+    for i in 0..changes.len() {
+        put(chains, &mut changes[i], time);
     }
 }

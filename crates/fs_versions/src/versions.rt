@@ -118,10 +118,11 @@ impl Versions {
     }
 
     /// Adds a version for each change of a batch, at its time, which is after the floor and after all times before. Each of
-    /// their names has room for it, and so it takes no memory.
+    /// their names has room for it, and so it takes no memory. It gives the changes back without the documents that they leave:
+    /// who notes their names needs no copies of them.
     ///
     /// Versions that show a history show it with the batch afterwards, if the changes are the batch's.
-    pub fn install(&mut self, changes: Changes, time: Micros)
+    pub fn install(&mut self, changes: Changes, time: Micros) -> Changes
         requires above_floor { self.old.chains.floor <ℤ time }
         requires later { self.old.chains.last <ℤ time }
         requires rising { IsTrue (is_sorted name_cmp (changes_by_name changes)) }
@@ -129,12 +130,15 @@ impl Versions {
         ensures value { self.new.chains ≡ installed self.old.chains changes time }
         ensures installs { Installs self.old.chains self.new.chains changes time }
         ensures room { TakesRoom self.old.room self.new.room changes }
+        ensures names { map (λ c. c.name) result ≡ map (λ c. c.name) changes }
         ensures shows { (h : List Batch) (b : Batch) → Shows h self.old.chains → b.time ≡ time
             → AreChanges (whole h) (whole (b ∷ h)) changes → Shows (b ∷ h) self.new.chains }
     {
         histories_are_lawful();
-        install(&mut self.chains, changes.into_vec(), time);
+        let mut changes = changes.into_vec();
+        install(&mut self.chains, &mut changes, time);
         self.last = time;
+        Changes::of(changes)
     }
 
     /// Installs the one change of a batch at a time, which is later than all that were installed, and makes the room that it takes: one

@@ -89,6 +89,7 @@ fn push_message(text: &mut String, message: &Message) -> Result<(), AllocError> 
         } => push_found(text, documents, *time),
         Message::BeginTransaction { transaction, .. } => push_begun(text, *transaction),
         Message::Rollback { .. } => text.push_str("rolled back"),
+        Message::Listen(_) => text.push_str("told of targets"),
         Message::Error { message, .. } => text.push_str(message.as_str()),
     }
 }

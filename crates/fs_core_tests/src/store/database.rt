@@ -17,11 +17,12 @@ pub(crate) struct Database {
 }
 
 impl Database {
+    /// No documents, in four shards.
     pub(crate) fn new(rt: &impl Abort, alloc: Global) -> Database {
         Database {
             now: DocumentMap::new(alloc),
             commits: 0,
-            store: Store::new(alloc, micros(rt, 0)),
+            store: Store::new(alloc, micros(rt, 0), 4),
         }
     }
 

@@ -43,3 +43,31 @@ pub(crate) const UNFIT: &str = r#"3 6 | 5 c/a=2
 4 9 | 6 c/a=2; 6 d/b=2
 4 9 | 6 c/a=2; 10 d/b=2
 4 3 |"#;
+
+/// Ten commits, in four shards: `d` is in shard 0, `e` in shard 1, `c` in shard 3, and none in shard 2. The fourth and the ninth
+/// change nothing.
+pub(crate) const TEN_COMMITS: &str = r#"0 4 | 1 c/a=1; 2 d/a=1 c/b=1; 3 e/a=1; 4 c/a=1
+4 9 | 5 c/a=2 d/a=- e/a=2; 6 c/b=-; 7 d/b=1; 8 c/a=- c/c=3; 9 e/a=2
+9 12 | 11 d/b=2 c/c=4"#;
+
+/// Each line: a shard, behind which time and up to which, and what is told: of each commit its time and number, and `n` of each of its
+/// documents before and after it.
+pub(crate) const TOLD: &str = r#"3 0 4 | 1 1 c/a - 1; 2 2 c/b - 1;
+3 0 12 | 1 1 c/a - 1; 2 2 c/b - 1; 5 5 c/a 1 2; 6 6 c/b 1 -; 8 8 c/a 2 - c/c - 3; 11 10 c/c 3 4;
+3 2 6 | 5 5 c/a 1 2; 6 6 c/b 1 -;
+3 6 7 |
+3 8 5 |
+3 8 20 | 11 10 c/c 3 4;
+0 0 12 | 2 2 d/a - 1; 5 5 d/a 1 -; 7 7 d/b - 1; 11 10 d/b 1 2;
+0 2 10 | 5 5 d/a 1 -; 7 7 d/b - 1;
+1 0 12 | 3 3 e/a - 1; 5 5 e/a 1 2;
+2 0 12 |"#;
+
+/// The same once the floor is 6: nothing is told up to it.
+pub(crate) const TOLD_FROM_SIX: &str = r#"3 0 12 | 8 8 c/a 2 - c/c - 3; 11 10 c/c 3 4;
+3 5 8 | 8 8 c/a 2 - c/c - 3;
+3 0 6 |
+0 0 12 | 7 7 d/b - 1; 11 10 d/b 1 2;
+0 7 11 | 11 10 d/b 1 2;
+1 0 12 |
+2 0 12 |"#;

@@ -1,3 +1,4 @@
+use Rattle.fs_history.proofs.Brought as brought
 use Rattle.fs_history.proofs.HistoryLaws as history
 use Rattle.fs_history.proofs.NamesListed as names
 use Rattle.fs_history.proofs.ReadsStay as reads
@@ -12,6 +13,7 @@ returns c =
       at_whole = history.at_whole;
       before_whole = history.before_whole;
       later = history.later_unseen;
+      until = brought.at_until;
       batches = history.batch_by_batch;
       changes = history.changes_differ law.changed;
       last_changes = λ b h cs rs had. law.changed _ b.writes b.time cs rs had;

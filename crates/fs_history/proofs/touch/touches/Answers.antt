@@ -2,7 +2,7 @@ use Rattle.std.proofs.Common.{◌↔◌, sym, subst}
 use Rattle.std.specs.Prelude.{IsTrue}
 use Rattle.fs_history.specs.Touches.{TouchesName}
 use Rattle.fs_history.proofs.touch.touches.Goals as goal
-use Rattle.fs_history.proofs.Names.{name_test}
+use Rattle.fs_path.specs.NameOrder.{name_test}
 
 pub returns-in-Name-clause-meaning : goal.returns-in-Name-clause-meaning
 returns-in-Name-clause-meaning c =

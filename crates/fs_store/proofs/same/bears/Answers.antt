@@ -1,7 +1,7 @@
 use Rattle.std.proofs.Common.{sym, subst}
 use Rattle.std.specs.Prelude.{IsTrue, ◌↔◌}
 use Rattle.fs_write.specs.Batch.{Bears}
-use Rattle.fs_history.proofs.Names.{name_test}
+use Rattle.fs_path.specs.NameOrder.{name_test}
 use Rattle.fs_store.proofs.same.bears.Goals as goal
 
 pub returns-in-Some : goal.returns-in-Some

@@ -27,7 +27,7 @@ unfolding lent
 answer_among-requires g c =
     let docs = ap lent c.as_slice.ensures.value ∙ c.in_ok-documents.ensures.value in
     subst (λ ds. IsTrue (is_sorted name_cmp (by_name ds))) (sym docs)
-    (rise_in_scope c.self.inside.versions.chains c.args.time c.q.inside.scope c.self.invariant.named)
+    (rise_in_scope c.self.inside.versions.chains c.args.time c.q.inside.scope c.self.invariant.0.named)
 
 pub returns-clause-answer : goal.returns-clause-answer
 unfolding lent
@@ -38,7 +38,7 @@ returns-clause-answer g c =
     let docs = ap lent c.as_slice.ensures.value ∙ c.in_ok-documents.ensures.value ∙ scope in
     at_ok c.answer_among.result (λ ds. IsAnswer q (lent c.as_slice.result.now) ds) (λ ds. IsAnswer q (documents_at c.args.self.now.stored.chains c.args.time) ds)
     (λ ds is. subst (λ (s : Housed). IsAnswer q (documents_at s.stored.chains c.args.time) ds) c.self.view_is
-    (answer_of_all q v c.args.time ds c.self.invariant.named (subst (λ all. IsAnswer q all ds) docs is)))
+    (answer_of_all q v c.args.time ds c.self.invariant.0.named (subst (λ all. IsAnswer q all ds) docs is)))
     c.answer_among.ensures
 
 pub returns-clause-shows : goal.returns-clause-shows
@@ -52,5 +52,5 @@ returns-clause-shows g c =
     (λ ds is h shows.
     let seen = subst (λ (s : Housed). Shows h s.stored) (sym c.self.view_is) shows in
     subst (λ all. IsAnswer q all ds) (c.in_ok-documents.ensures.shows h seen.versions)
-    (answer_of_all q v c.args.time ds c.self.invariant.named (subst (λ all. IsAnswer q all ds) docs is)))
+    (answer_of_all q v c.args.time ds c.self.invariant.0.named (subst (λ all. IsAnswer q all ds) docs is)))
     c.answer_among.ensures

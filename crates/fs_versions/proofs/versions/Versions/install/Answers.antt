@@ -16,12 +16,12 @@ use Rattle.fs_versions.proofs.Views.{chain_get, room_get}
 use Rattle.fs_versions.proofs.versions.Versions.install.Goals as goal
 
 pub install-requires-clause-rising : goal.install-requires-clause-rising
-install-requires-clause-rising c = subst Rise (sym c.into_vec.ensures) c.requires.rising
+install-requires-clause-rising c = subst Rise (sym (c.deref_mut.ensures.value ∙ c.into_vec-changes.ensures)) c.requires.rising
 
 pub install-requires-clause-room : goal.install-requires-clause-room
 install-requires-clause-room c =
     let tree = c.self.inside.chains.entries in
-    subst (All (λ (d : Change). 1 ≤ room_in d.name tree)) (sym c.into_vec.ensures)
+    subst (All (λ (d : Change). 1 ≤ room_in d.name tree)) (sym (c.deref_mut.ensures.value ∙ c.into_vec-changes.ensures))
     (All-weaker (λ (d : Change). 1 ≤ room_of c.args.self.now.room d.name) (λ (d : Change). 1 ≤ room_in d.name tree)
     (λ d has. subst (λ n. 1 ≤ n) (ap (λ (v : Versioned). room_of v.room d.name) (sym c.self.view_is) ∙ room_get tree d.name) has)
     c.args.changes c.requires.room)
@@ -33,7 +33,7 @@ install-requires-clause-earlier c =
 
 pub invariant_of-self : goal.invariant_of-self
 invariant_of-self c =
-    ends_more c.self.inside.chains.entries c.install.new.chains.entries c.into_vec.result.items c.self.inside.last c.args.time c.self.invariant
+    ends_more c.self.inside.chains.entries c.install.new.chains.entries c.deref_mut.result.now c.self.inside.last c.args.time c.self.invariant
     (subst (λ (t : ℤ). t <ℤ c.args.time) (sym (ap (λ (v : Versioned). v.chains.last) c.self.view_is)) c.requires.later)
     c.install.ensures.chains
 
@@ -41,7 +41,7 @@ pub returns-clause-value : goal.returns-clause-value
 returns-clause-value c =
     let old = c.self.inside.chains.entries in
     let new = c.install.new.chains.entries in
-    let has = subst (λ cs. HasChanged old new cs c.args.time) c.into_vec.ensures c.install.ensures.chains in
+    let has = subst (λ cs. HasChanged old new cs c.args.time) (c.deref_mut.ensures.value ∙ c.into_vec-changes.ensures) c.install.ensures.chains in
     ap (λ (m : FinMap name_cmp (List Version)). record { by_name = m; floor = c.self.inside.floor; last = c.args.time })
     (installed_view old new c.args.changes c.args.time c.requires.rising has)
     ∙ ap (λ (v : Versioned). installed v.chains c.args.changes c.args.time) c.self.view_is
@@ -50,7 +50,7 @@ pub returns-clause-installs : goal.returns-clause-installs
 returns-clause-installs c =
     let old = c.self.inside.chains.entries in
     let new = c.install.new.chains.entries in
-    let has = subst (λ cs. HasChanged old new cs c.args.time) c.into_vec.ensures c.install.ensures.chains in
+    let has = subst (λ cs. HasChanged old new cs c.args.time) (c.deref_mut.ensures.value ∙ c.into_vec-changes.ensures) c.install.ensures.chains in
     record {
       floor = ap (λ (v : Versioned). v.chains.floor) c.self.view_is;
       last = refl;
@@ -64,7 +64,7 @@ pub returns-clause-room : goal.returns-clause-room
 returns-clause-room c = λ q.
     let old = c.self.inside.chains.entries in
     let new = c.install.new.chains.entries in
-    let has = subst (λ cs. HasTaken old new cs) c.into_vec.ensures c.install.ensures.room in
+    let has = subst (λ cs. HasTaken old new cs) (c.deref_mut.ensures.value ∙ c.into_vec-changes.ensures) c.install.ensures.room in
     room_get new q
     ∙ has q
     ∙ ap (room_after (change_at q c.args.changes)) (sym (room_get old q) ∙ ap (λ (v : Versioned). room_of v.room q) c.self.view_is)

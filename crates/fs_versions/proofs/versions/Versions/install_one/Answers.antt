@@ -1,14 +1,13 @@
-use Rattle.std.proofs.Common.{◌≡◌, ℤ, ◌<ℤ◌, [], ◌∷◌, refl, sym, ap, ◌∙◌, subst}
+use Rattle.std.proofs.Common.{ℤ, ◌<ℤ◌, [], ◌∷◌, refl, sym, ap, ◌∙◌, subst}
 use Rattle.std.specs.FinMap.{FinMap}
 use Rattle.std.specs.Prelude.{List}
-use Rattle.std.proofs.lemmas.Result.{on_err_weaker}
 use Rattle.fs_history.specs.declared.version.Version.{Version}
 use Rattle.fs_path.proofs.Results.{at_err}
 use Rattle.fs_path.specs.NameOrder.{name_cmp}
 use Rattle.fs_versions.specs.Chain.{extended}
 use Rattle.fs_versions.specs.Chains.{Installs, chain_of, installed}
 use Rattle.fs_versions.specs.Room.{Versioned}
-use Rattle.fs_versions.specs.Sound.{HasChanged, chains_of}
+use Rattle.fs_versions.specs.Sound.{chains_of}
 use Rattle.fs_versions.proofs.Installing.{ends_before, ends_more, ends_same, installed_view, shows_more}
 use Rattle.fs_versions.proofs.TreeLaws.{change_at, one_rises}
 use Rattle.fs_versions.proofs.Views.{chain_get, same_view}
