@@ -1,5 +1,6 @@
 //! What is made of the text of a line.
 use crate::json::{read, scalar_written};
+use crate::matching::tests::{of_names, of_query};
 use crate::query::tests::kept;
 use crate::queryjson::tests::{Ask, filtered_again, query_told};
 use crate::rpc::messages::{error, message_again, missing, refused};
@@ -26,6 +27,10 @@ pub(crate) enum Make {
     WriteResult,
     /// Fields of which these paths are kept.
     Kept,
+    /// What the states of a document are to a listener of a query.
+    QueryEvents,
+    /// And to one of names.
+    NamesEvents,
     /// A message is read and written.
     Message,
     /// A request is read and written.
@@ -77,6 +82,8 @@ pub(crate) fn made(rt: &impl Abort, alloc: Global, make: Make, text: &str) -> Re
         Make::Json(form) => made_of_json(rt, alloc, form, text),
         Make::WriteResult => Ok(result_written(rt, alloc, text)),
         Make::Kept => Ok(kept(rt, alloc, text)),
+        Make::QueryEvents => Ok(of_query(rt, alloc, text)),
+        Make::NamesEvents => Ok(of_names(rt, alloc, text)),
         Make::Message => message_again(rt, alloc, text),
         Make::Request => request_again(rt, alloc, text),
         Make::RequestOn => Ok(request_on(rt, alloc, text)),

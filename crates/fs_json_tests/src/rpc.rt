@@ -1,5 +1,6 @@
 //! Tests of what fs_rpc gives, by its public calls.
 
+mod listen_tables;
 mod message_tables;
 pub(crate) mod messages;
 mod request_tables;

@@ -53,11 +53,6 @@ ended_full End e = absurd (cc)
 ended_full Failed e = absurd (cc)
 ended_full Full e = refl
 
-pub ended_failed : (stop : Stop) → status_of stop ≡ status.ReadFault → stop ≡ Failed
-ended_failed End e = absurd (cc)
-ended_failed Failed e = refl
-ended_failed Full e = absurd (cc)
-
 module _ (config : Config) (limits : Limits) where
   pub wrote_here : (stop : Stop) (whole : Bool) (status : Status) (a b : Option (List ℕ)) (script bytes : List ℕ)
       → whole ≡ is_whole stop → status ≡ status_of stop → script ≡ bytes → Gained a b (played whole (start config limits) 1 script) → Wrote config limits status bytes a b

@@ -51,10 +51,6 @@ read_some Failed buffer a b h = ([], subst (λ o. Taken a o []) (sym h) (taken_n
 pub taken_up_to_more : (a b c : Option (List ℕ)) (x : List ℕ) (room most : ℕ) → Taken a b x → TakenUpTo room b c → length x + room ≤ most → TakenUpTo most a c
 taken_up_to_more a b c x room most p q fits = (x ++ q.0, taken_more a b c x q.0 p q.1, omega (arith, length-append x q.0, q.2))
 
--- nothing is some bytes
-pub taken_none : (o : Option (List ℕ)) (most : ℕ) → TakenUpTo most o o
-taken_none o most = ([], taken_nothing o, omega arith)
-
 -- what was gained is a front of what it begins
 pub gained_as_front : (a b : Option (List ℕ)) (x more whole : List ℕ) → Gained a b x → x ++ more ≡ whole → GainedFront a b whole
 gained_as_front a b x more whole gained is = gained_front a b b x more whole gained (sym is) refl

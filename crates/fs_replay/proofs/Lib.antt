@@ -5,6 +5,7 @@ mod Ending
 pub mod Floats
 mod Json
 mod Tokens
+mod Listened
 mod Places
 mod IdTexts
 mod Reading

@@ -19,9 +19,6 @@ pub record Goes (all : Played) (out now : List ℕ) (rest : Played) : Type 0 whe
   pub state : rest.state ≡ all.state
   pub output : out ++ all.output ≡ now ++ rest.output
 
-pub goes_from : (all : Played) (out : List ℕ) → Goes all out out all
-goes_from all out = record { state = refl; output = refl }
-
 -- a part of the rest is played
 pub goes_on : (all : Played) (out now next : List ℕ) (s : State) (first : Played) (more : State → Played) → Goes all out now (followed_by first more) → Plays first s now next → Goes all out next (more s)
 goes_on all out now next s first more goes plays =
@@ -36,15 +33,6 @@ goes_on all out now next s first more goes plays =
 -- nothing is left to be played
 pub goes_to : (all : Played) (out now : List ℕ) (s : State) → Goes all out now (nothing s) → Plays all s out now
 goes_to all out now s goes = record { state = goes.state; output = sym (append-nil now) ∙ sym goes.output }
-
--- the rest is played
-pub goes_whole : (all : Played) (out now next : List ℕ) (s : State) (rest : Played) → Goes all out now rest → Plays rest s now next → Plays all s out next
-goes_whole all out now next s rest goes plays = record { state = plays.state ∙ goes.state; output = plays.output ∙ sym goes.output }
-
--- two parts are played
-pub plays_both : (first : Played) (more : State → Played) (s t : State) (out mid next : List ℕ) → Plays first s out mid → Plays (more s) t mid next → Plays (followed_by first more) t out next
-plays_both first more s t out mid next one two =
-    goes_whole (followed_by first more) out mid next t (more s) (goes_on (followed_by first more) out out mid s first more (goes_from (followed_by first more) out) one) two
 
 -- ---- requests that are tried one after another
 

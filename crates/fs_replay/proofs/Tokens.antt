@@ -6,9 +6,10 @@ use Rattle.serde_json.specs.Data as json
 use Rattle.json.specs.Tree.{items_tokens}
 use Rattle.serde_json.specs.View.{items_of}
 use Rattle.serde_json.specs.Written.{items_outline}
+use Rattle.fs_rpc.specs.ListenJson.{listen_json}
 use Rattle.fs_rpc.specs.MessageJson.{begin_json, commit_json, error_json, error_members, message_json_on, message_members, query_answers_json, result_members, with_id, with_results as listed_results}
 use Rattle.fs_rpc.specs.declared.message.Message.{Message}
-use Rattle.fs_rpc.specs.declared.message.Message.TheVariants.{Commit, GetDocument, BatchGetDocuments, RunQuery, BeginTransaction, Rollback, Error}
+use Rattle.fs_rpc.specs.declared.message.Message.TheVariants.{Commit, GetDocument, BatchGetDocuments, RunQuery, BeginTransaction, Rollback, Listen, Error}
 use Rattle.fs_value.specs.Data.{Data}
 use Rattle.fs_valjson.specs.Document.{document_json}
 use Rattle.fs_valjson.proofs.Tokens.{object_tokens}
@@ -69,6 +70,7 @@ session_last (BatchGetDocuments id answers) session = result_on id (answers_json
 session_last (RunQuery id documents time) session = result_on id (json.array (query_answers_json documents time)) session
 session_last (BeginTransaction id transaction) session = result_on id (begin_json transaction) session
 session_last (Rollback id) session = result_on id (json.object json.no_members) session
+session_last (Listen told) session = one_member (codes "listen") (listen_json told) (codes "session") session
 session_last (Error id code message) session = error_on id (error_json code message) session
 
 -- a message on its session

@@ -29,14 +29,6 @@ pub played_cut : (whole : Bool) (s : State) (n : ℕ) (text line more : List ℕ
 played_cut true s n text line more cut = rw cut (append_assoc (line_output s n line) (written (after_line s n line) (n + 1) (lines_of more)) (held_lines (after_lines (after_line s n line) (n + 1) (lines_of more))))
 played_cut false s n text line more cut = rw (cut, not_last line more) refl
 
--- the last line of a whole script
-pub played_last : (s : State) (n : ℕ) (text : List ℕ) → lines_of text ≡ text ∷ [] → played true s n text ≡ line_output s n text ++ held_lines (after_line s n text)
-played_last s n text last = rw last (ap (λ w. w ++ held_lines (after_line s n text)) (append-nil (line_output s n text)))
-
--- a last line that was cut off writes nothing
-pub played_cut_off : (s : State) (n : ℕ) (text : List ℕ) → lines_of text ≡ text ∷ [] → played false s n text ≡ []
-played_cut_off s n text last = rw last refl
-
 -- What was given, what is to be given and what the rest writes: a line is carried out.
 pub told_line : (whole : Bool) (s t : State) (n : ℕ) (given out next text line more total : List ℕ)
     → given ++ (out ++ played whole s n text) ≡ total → lines_of text ≡ line ∷ lines_of more → next ≡ out ++ line_output s n line → t ≡ after_line s n line

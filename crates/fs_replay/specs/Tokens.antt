@@ -1,6 +1,6 @@
 -- For private clauses: the tokens of parts of answers.
 use Rattle.std.specs.Prelude.{ℕ, List, [], ◌∷◌, ◌++◌, Option, codes, decimal, map}
-use Rattle.json.specs.Token.{Token, key, number}
+use Rattle.json.specs.Token.{Token, begin_object, end_object, key, number}
 use Rattle.serde_json.specs.Data.{Data, array, no_members}
 use Rattle.serde_json.specs.View.{items_of}
 use Rattle.fs_rpc.specs.MessageJson.{batch_answer_json, with_id}
@@ -19,3 +19,10 @@ code_member code = key (codes "code") ∷ number (decimal (http_of code)) ∷ []
 -- what is told of several names
 abbrev pub answers_json : List BatchAnswer → Data
 answers_json answers = array (items_of (map batch_answer_json answers))
+
+-- what stands before the members of what a session that listens is told, and behind them
+abbrev pub told_head : List ℕ → List Token
+told_head name = begin_object ∷ key name ∷ begin_object ∷ []
+
+abbrev pub told_end : List Token
+told_end = end_object ∷ end_object ∷ []

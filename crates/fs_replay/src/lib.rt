@@ -13,6 +13,7 @@ mod laws;
 mod limits;
 mod line;
 mod lines;
+mod listen_line;
 mod message_line;
 mod output;
 mod play;

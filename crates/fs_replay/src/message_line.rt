@@ -10,6 +10,7 @@ ghost use Rattle.fs_valjson.specs.Tokens.{member_tokens, tokens_of};
 ghost use Rattle.fs_replay.specs.Tokens.{answers_json, code_member, result_head};
 
 use crate::commit_line::push_commit;
+use crate::listen_line::push_listen;
 use crate::reads_line::{push_answers, push_query_answers};
 use fs_path::Text;
 use fs_rpc::{BatchAnswer, Message, print_transaction};
@@ -73,6 +74,7 @@ fn push_members(alloc: Global, line: &mut Writer, message: &Message) -> Result<(
         } => push_queried(alloc, line, id, documents.as_slice(), *time),
         Message::BeginTransaction { id, transaction } => push_begun(alloc, line, id, *transaction),
         Message::Rollback { id } => push_rolled_back(line, id),
+        Message::Listen(told) => push_listen(alloc, line, told),
         Message::Error { id, code, message } => push_error(line, id, *code, message.as_str()),
     }
 }

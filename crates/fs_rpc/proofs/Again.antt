@@ -25,8 +25,12 @@ use Rattle.fs_value.specs.declared.document.Document.{Document}
 use Rattle.fs_write.specs.declared.write_result.WriteResult.{WriteResult}
 use Rattle.fs_writejson.specs.Results.{result_json, IsResultHeld, write_result_at}
 use Rattle.fs_json.specs.Walk.{each_at}
+use Rattle.fs_rpc.specs.ListenJson.{listen_json}
+use Rattle.fs_query.specs.declared.listen.ListenMessage.{ListenMessage}
+use Rattle.fs_query.specs.declared.listen.ListenMessage.TheVariants.{Add, Remove, Reset, Current, NoChange, Changed, Deleted, Removed}
 use Rattle.fs_rpc.specs.MessageJson.{batch_answer_json, begin_json, commit_json, error_json, error_members, message_json, query_answer_json, query_answers_json, read_at, result_members}
 use Rattle.fs_rpc.specs.MessageSteps.{IsAnswerHeld, IsDocumentHeld, IsMessageHeld}
+use Rattle.fs_rpc.specs.ReadListen.{listen_at}
 use Rattle.fs_rpc.specs.ReadMessage.{answers_begin, answers_commit, answers_names, answers_rollback, begin_result_at, commit_result_at, error_at, message_at, query_result_at, result_at}
 use Rattle.fs_rpc.specs.ReadResults.{answered, batch_answer_at, query_answer_at}
 use Rattle.fs_rpc.specs.Transaction.{IsTransactionHeld}
@@ -34,7 +38,8 @@ use Rattle.fs_rpc.specs.ValidMessage.{IsAnswerOf, IsMessageOf}
 use Rattle.fs_rpc.specs.declared.message.BatchAnswer.{BatchAnswer}
 use Rattle.fs_rpc.specs.declared.message.BatchAnswer.TheVariants.{Found, Missing}
 use Rattle.fs_rpc.specs.declared.message.Message.{Message}
-use Rattle.fs_rpc.specs.declared.message.Message.TheVariants.{Commit, GetDocument, BatchGetDocuments, RunQuery, BeginTransaction, Rollback, Error}
+use Rattle.fs_rpc.specs.declared.message.Message.TheVariants.{Commit, GetDocument, BatchGetDocuments, RunQuery, BeginTransaction, Rollback, Listen, Error}
+use Rattle.fs_rpc.proofs.ListenAgain.{listen_again}
 use Rattle.fs_writejson.proofs.WriteResults.{write_result_again}
 use Rattle.fs_writejson.specs.Valid.{ResultHasNames}
 
@@ -224,6 +229,21 @@ unfolding message_at
 error_read root None code message = error_again None code message (codes "error")
 error_read root (Some id) code message = error_again (Some id) code message (codes "error")
 
+listen_given : (m : ListenMessage) → is_given (codes "listen") (listen_json m) ≡ true
+listen_given (Add targets) = refl
+listen_given (Remove targets cause) = refl
+listen_given (Reset targets) = refl
+listen_given (Current targets time token) = refl
+listen_given (NoChange time token) = refl
+listen_given (Changed document targets left) = refl
+listen_given (Deleted name time left) = refl
+listen_given (Removed name time left) = refl
+
+listen_read : (root : Root) (d : Data) (m : ListenMessage) → is_given (codes "listen") d ≡ true → listen_at root d (codes "listen") ≡ Ok m
+    → message_at root (object (member (codes "listen") d no_members)) ≡ Ok (Listen m)
+unfolding message_at
+listen_read root d m given h = rw (given, h) refl
+
 pub message_again : (root : Root) (m : Message) → IsMessageHeld m → IsMessageOf root m → message_at root (message_json m) ≡ Ok m
 message_again root (Commit id time results) held valid =
     result_read root id (commit_json time results) (Commit id time results) refl (commit_result root id time results (codes "result") held.0 held.1 valid)
@@ -236,4 +256,5 @@ message_again root (RunQuery id documents time) held valid =
 message_again root (BeginTransaction id transaction) held valid =
     result_read root id (begin_json transaction) (BeginTransaction id transaction) refl (begin_result root id transaction (codes "result") held)
 message_again root (Rollback id) held valid = result_read root id (object no_members) (Rollback id) refl (rollback_result root id (codes "result"))
+message_again root (Listen told) held valid = listen_read root (listen_json told) told (listen_given told) (listen_again root told (codes "listen") held valid)
 message_again root (Error id code message) held valid = error_read root id code message

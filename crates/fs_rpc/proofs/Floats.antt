@@ -1,6 +1,6 @@
 -- What is written of a message has no float, so its text is told byte for byte.
 use Rattle.std.proofs.Common.{◌≡◌, ℕ, ℤ, false, List, [], ◌∷◌, map, Option, Some, None, refl}
-use Rattle.serde_json.specs.Data.{Data, no_members, object}
+use Rattle.serde_json.specs.Data.{Data, Members, no_members, object}
 use Rattle.serde_json.specs.View.{items_of}
 use Rattle.serde_json.specs.Written.{has_float, items_have_float, members_have_float}
 use Rattle.fs_status.specs.declared.code.Code.{Code}
@@ -10,11 +10,14 @@ use Rattle.fs_value.specs.declared.document.Document.{Document}
 use Rattle.fs_write.specs.declared.write_result.WriteResult.{WriteResult}
 use Rattle.fs_writejson.proofs.WriteResults.{result_float}
 use Rattle.fs_writejson.specs.Results.{result_json}
+use Rattle.fs_query.specs.declared.listen.ListenMessage.{ListenMessage}
+use Rattle.fs_query.specs.declared.listen.ListenMessage.TheVariants.{Add, Remove, Reset, Current, NoChange, Changed, Deleted, Removed}
+use Rattle.fs_rpc.specs.ListenJson.{listen_json, number_json, with_targets}
 use Rattle.fs_rpc.specs.MessageJson.{batch_answer_json, begin_json, commit_json, error_json, error_members, message_json, query_answer_json, query_answers_json, result_members}
 use Rattle.fs_rpc.specs.declared.message.BatchAnswer.{BatchAnswer}
 use Rattle.fs_rpc.specs.declared.message.BatchAnswer.TheVariants.{Found, Missing}
 use Rattle.fs_rpc.specs.declared.message.Message.{Message}
-use Rattle.fs_rpc.specs.declared.message.Message.TheVariants.{Commit, GetDocument, BatchGetDocuments, RunQuery, BeginTransaction, Rollback, Error}
+use Rattle.fs_rpc.specs.declared.message.Message.TheVariants.{Commit, GetDocument, BatchGetDocuments, RunQuery, BeginTransaction, Rollback, Listen, Error}
 
 -- ---- the parts of a message
 
@@ -45,8 +48,27 @@ query_float : (time : ℤ) (ds : List Document) → items_have_float (query_answ
 query_float time [] = refl
 query_float time (d ∷ ds) = rw (no_float d, documents_float time ds) refl
 
-pub error_float : (code : Code) (message : List ℕ) → has_float (error_json code message) ≡ false
-error_float code message = refl
+-- ---- what a session that listens is told
+
+numbers_float : (ns : List ℕ) → items_have_float (items_of (map number_json ns)) ≡ false
+numbers_float [] = refl
+numbers_float (n ∷ ns) = numbers_float ns
+
+targets_float : (name targets : List ℕ) (rest : Members) → members_have_float rest ≡ false → members_have_float (with_targets name targets rest) ≡ false
+targets_float name [] rest h = h
+targets_float name (n ∷ ns) rest h = rw (numbers_float ns, h) refl
+
+listen_float : (m : ListenMessage) → has_float (listen_json m) ≡ false
+listen_float (Add targets) = rw (targets_float _ targets no_members refl) refl
+listen_float (Remove targets None) = rw (targets_float _ targets no_members refl) refl
+listen_float (Remove targets (Some cause)) = rw (targets_float _ targets no_members refl) refl
+listen_float (Reset targets) = rw (targets_float _ targets no_members refl) refl
+listen_float (Current targets time token) = rw (targets_float _ targets no_members refl) refl
+listen_float (NoChange time token) = refl
+listen_float (Changed document targets left) =
+    rw (no_float document, targets_float _ left _ (targets_float _ targets no_members refl)) refl
+listen_float (Deleted name time left) = rw (targets_float _ left no_members refl) refl
+listen_float (Removed name time left) = rw (targets_float _ left no_members refl) refl
 
 -- ---- messages
 
@@ -65,4 +87,5 @@ message_float (BatchGetDocuments id answers) = with_result id _ (answers_float a
 message_float (RunQuery id documents time) = with_result id _ (query_float time documents)
 message_float (BeginTransaction id transaction) = with_result id (begin_json transaction) refl
 message_float (Rollback id) = with_result id (object no_members) refl
+message_float (Listen told) = rw (listen_float told) refl
 message_float (Error id code message) = with_error id (error_json code message) refl

@@ -1,3 +1,7 @@
+pub mod Naturals
+pub mod ListenAgain
+pub mod ListenValid
+pub mod ListenDepth
 pub mod Again
 pub mod Floats
 pub mod Named

@@ -23,12 +23,16 @@ use Rattle.fs_write.specs.declared.write_result.WriteResult.{WriteResult}
 use Rattle.fs_writejson.specs.Results.{result_json, write_result_at}
 use Rattle.fs_rpc.specs.Id.{id_at}
 use Rattle.fs_rpc.specs.MessageJson.{batch_answer_json, begin_json, commit_json, error_json, error_members, message_json, query_answer_json, query_answers_json, result_members}
-use Rattle.fs_rpc.specs.ReadMessage.{answers_begin, answers_commit, answers_names, answers_rollback, begin_result_at, begin_result_members, code_named, commit_result_at, commit_result_members, documents_result_at, error_at, if_numbered, list_result_at, message_at, message_members, object_result_at, outcome_at, outcomes, query_result_at, required_integer_at, result_at}
+use Rattle.fs_rpc.specs.ReadMessage.{answers_begin, answers_commit, answers_names, answers_rollback, begin_result_at, begin_result_members, code_named, commit_result_at, commit_result_members, documents_result_at, error_at, if_numbered, list_result_at, message_at, message_members, object_result_at, outcome_at, outcomes, query_result_at, required_integer_at, result_at, unasked_at}
 use Rattle.fs_rpc.specs.ReadMessage as read
+use Rattle.fs_rpc.specs.ListenJson.{listen_json}
+use Rattle.fs_rpc.specs.ReadListen.{listen_at}
 use Rattle.fs_rpc.specs.ReadResults.{answered, batch_answer_at, batch_answer_members, document_in, found_or_missing, query_answer_at, query_answer_members, results_in, answers_time}
 use Rattle.fs_rpc.specs.Transaction.{transaction_at}
 use Rattle.fs_rpc.specs.declared.message.BatchAnswer.{BatchAnswer}
 use Rattle.fs_rpc.specs.declared.message.Message.{Message}
+use Rattle.fs_query.specs.declared.listen.ListenMessage.{ListenMessage}
+use Rattle.fs_rpc.proofs.ListenDepth.{listen_within}
 use Rattle.fs_writejson.proofs.WriteResults.{write_result_within}
 
 -- ---- results of writes
@@ -192,6 +196,12 @@ error_within root id d place n =
     (λ named. at_last_holds P (or_fault G (member_place place (codes "code")) (if_numbered number named)) _
     (λ code. let low : depth (error_json code message) ≤ n + 3 = omega arith in omega (arith, with_error id (error_json code message) (n + 3) low)))))))
 
+unasked_within : (root : Root) (id : Option (List ℕ)) (d : Data) (place : List ℕ) (n : ℕ) → depth d ≤ n + 3 → IfOk (unasked_at root id d place) (IsWithin (n + 3))
+unasked_within root None d place n h =
+    let low : ListenMessage → Type 0 = λ m. depth (listen_json m) ≤ n + 3 in
+    in_turn_holds low (IsWithin (n + 3)) (listen_at root d place) _ (listen_within root d place n h) (λ m is. omega (arith, is))
+unasked_within root (Some id) d place n h = record {}
+
 pub message_within : (root : Root) (d : Data) (n : ℕ) → depth d ≤ n + 4 → 0 < n → IfOk (message_at root d) (λ m. depth (message_json m) ≤ n + 4)
 unfolding message_at
 message_within root d n h some =
@@ -199,4 +209,5 @@ message_within root d n h some =
     IfOk-weaker (message_at root d) (IsWithin (n + 3)) P (λ m is. omega (arith, is)) (at_last_holds (IsWithin (n + 3)) (only_at message_members d []) _
     (λ u. at_last_holds (IsWithin (n + 3)) (id_at d) _
     (λ id. in_turn_holds (λ one. depth one.1 < depth d) (IsWithin (n + 3)) (one_of_at outcomes d []) _ (one_falls outcomes d [])
-    (λ one falls. either (IsWithin (n + 3)) (bytes_eq one.0 (codes "result")) _ _ (result_at_within root id one.1 one.0 n (omega (arith, falls, h)) some) (error_within root id one.1 one.0 n)))))
+    (λ one falls. either (IsWithin (n + 3)) (bytes_eq one.0 (codes "result")) _ _ (result_at_within root id one.1 one.0 n (omega (arith, falls, h)) some)
+    (either (IsWithin (n + 3)) (bytes_eq one.0 (codes "listen")) _ _ (unasked_within root id one.1 one.0 n (omega (arith, falls, h))) (error_within root id one.1 one.0 n))))))

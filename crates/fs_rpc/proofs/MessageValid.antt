@@ -21,11 +21,14 @@ use Rattle.fs_valjson.specs.Document.{document_at}
 use Rattle.fs_valjson.specs.Valid.{IsValid}
 use Rattle.fs_valjson.proofs.Valid.{document_valid}
 use Rattle.fs_rpc.specs.Id.{id_at}
-use Rattle.fs_rpc.specs.ReadMessage.{answers_begin, answers_commit, answers_names, answers_rollback, begin_result_at, begin_result_members, code_named, commit_result_at, commit_result_members, documents_result_at, error_at, if_numbered, list_result_at, message_at, message_members, object_result_at, outcome_at, outcomes, query_result_at, required_integer_at, result_at}
+use Rattle.fs_rpc.specs.ReadMessage.{answers_begin, answers_commit, answers_names, answers_rollback, begin_result_at, begin_result_members, code_named, commit_result_at, commit_result_members, documents_result_at, error_at, if_numbered, list_result_at, message_at, message_members, object_result_at, outcome_at, outcomes, query_result_at, required_integer_at, result_at, unasked_at}
 use Rattle.fs_rpc.specs.ReadMessage as read
+use Rattle.fs_rpc.specs.ReadListen.{listen_at}
 use Rattle.fs_rpc.specs.ReadResults.{answered, batch_answer_at, batch_answer_members, document_in, found_at, found_or_missing, missing_at, query_answer_at, query_answer_members, results_in, answers_time}
 use Rattle.fs_rpc.specs.Transaction.{transaction_at}
-use Rattle.fs_rpc.specs.ValidMessage.{IsAnswerOf, IsMessageOf}
+use Rattle.fs_rpc.specs.ValidMessage.{IsAnswerOf, IsListenOf, IsMessageOf}
+use Rattle.fs_rpc.specs.declared.message.Message.TheVariants.{Listen}
+use Rattle.fs_rpc.proofs.ListenValid.{listen_valid}
 use Rattle.fs_writejson.proofs.WriteResults.{write_result_valid}
 use Rattle.fs_writejson.specs.Results.{write_result_at}
 use Rattle.fs_writejson.specs.Valid.{ResultHasNames}
@@ -141,10 +144,15 @@ error_valid root id d place =
     (λ status. at_last_holds (IsMessageOf root) (or_fault G (member_place place (codes "status")) (code_named status)) _
     (λ named. at_last_holds (IsMessageOf root) (or_fault G (member_place place (codes "code")) (if_numbered number named)) _ (λ code. tt))))))
 
+unasked_valid : (root : Root) (id : Option (List ℕ)) (d : Data) (place : List ℕ) → IfOk (unasked_at root id d place) (IsMessageOf root)
+unasked_valid root None d place = of_made (IsListenOf root) (IsMessageOf root) Listen (listen_at root d place) (listen_valid root d place) (λ m is. is)
+unasked_valid root (Some id) d place = record {}
+
 pub message_valid : (root : Root) (d : Data) → IfOk (message_at root d) (IsMessageOf root)
 unfolding message_at
 message_valid root d =
     at_last_holds (IsMessageOf root) (only_at message_members d []) _
     (λ u. at_last_holds (IsMessageOf root) (id_at d) _
     (λ id. at_last_holds (IsMessageOf root) (one_of_at outcomes d []) _
-    (λ one. either (IsMessageOf root) (bytes_eq one.0 (codes "result")) _ _ (result_valid root id one.1 one.0) (error_valid root id one.1 one.0))))
+    (λ one. either (IsMessageOf root) (bytes_eq one.0 (codes "result")) _ _ (result_valid root id one.1 one.0)
+    (either (IsMessageOf root) (bytes_eq one.0 (codes "listen")) _ _ (unasked_valid root id one.1 one.0) (error_valid root id one.1 one.0)))))

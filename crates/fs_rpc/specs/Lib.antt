@@ -5,8 +5,10 @@ pub mod When
 pub mod Options
 pub mod Requests
 pub mod Envelope
+pub mod ListenJson
 pub mod MessageJson
 pub mod ReadResults
+pub mod ReadListen
 pub mod ReadMessage
 pub mod ValidMessage
 pub mod Steps

@@ -1,9 +1,11 @@
 -- The JSON of messages. On a line of a transcript each has its session too, at its place in the order of names.
 -- (v1 reference: `CommitResponse`, "WriteResult", "Document", `BatchGetDocumentsResponse`, `RunQueryResponse`,
 -- `BeginTransactionResponse`, and `google.rpc.Status` as REST prints it; a rollback is answered by an empty object.)
+-- What a session that listens is told answers no request, so it has no id.
 --
 --     transaction 2 was begun    {"id":"1","result":{"transaction":"AAAAAAAAAAI="}}
 --     it was rolled back         {"id":"2","result":{}}
+--     target 1 was added         {"listen":{"targetChange":{"targetChangeType":"ADD","targetIds":[1]}}}
 use Rattle.std.specs.Prelude.{ℕ, ℤ, List, [], ◌∷◌, Option, Some, None, map, codes}
 use Rattle.serde_json.specs.Data.{Data, unsigned, number, string, array, object, Items, no_items, item, Members, no_members, member, put}
 use Rattle.serde_json.specs.View.{items_of}
@@ -18,11 +20,12 @@ use Rattle.fs_valjson.specs.Document.{document_json}
 use Rattle.fs_value.specs.declared.document.Document.{Document}
 use Rattle.fs_write.specs.declared.write_result.WriteResult.{WriteResult}
 use Rattle.fs_writejson.specs.Results.{result_json}
+use Rattle.fs_rpc.specs.ListenJson.{listen_json}
 use Rattle.fs_rpc.specs.Transaction.{transaction_json}
 use Rattle.fs_rpc.specs.declared.message.BatchAnswer.{BatchAnswer}
 use Rattle.fs_rpc.specs.declared.message.BatchAnswer.TheVariants.{Found, Missing}
 use Rattle.fs_rpc.specs.declared.message.Message.{Message}
-use Rattle.fs_rpc.specs.declared.message.Message.TheVariants.{Commit, GetDocument, BatchGetDocuments, RunQuery, BeginTransaction, Rollback, Error}
+use Rattle.fs_rpc.specs.declared.message.Message.TheVariants.{Commit, GetDocument, BatchGetDocuments, RunQuery, BeginTransaction, Rollback, Listen, Error}
 
 -- ---- errors
 
@@ -86,6 +89,7 @@ message_members (BatchGetDocuments id answers) = result_members id (array (items
 message_members (RunQuery id documents time) = result_members id (array (query_answers_json documents time))
 message_members (BeginTransaction id transaction) = result_members id (begin_json transaction)
 message_members (Rollback id) = result_members id (object no_members)
+message_members (Listen told) = member (codes "listen") (listen_json told) no_members
 message_members (Error id code message) = error_members id (error_json code message)
 
 abbrev pub message_json : Message → Data

@@ -1,23 +1,37 @@
 -- What only private clauses cite: a part of a message as its members are put in one after another, and that the parts of it,
 -- as they are written, are read back.
-use Rattle.std.specs.Prelude.{◌≡◌, ℕ, ℤ, List, Ok, codes}
+use Rattle.std.specs.Prelude.{◌≡◌, ℕ, ℤ, List, Option, Some, None, Ok, codes}
 use Rattle.std.specs.List.{AllByRecursion}
 use Rattle.fs_path.specs.declared.name.Root.{Root}
-use Rattle.serde_json.specs.Data.{Data, object, no_members, put}
+use Rattle.serde_json.specs.Data.{Data, object, Members, no_members, put}
+use Rattle.fs_json.specs.Base64.{bytes_json, bytes_of}
 use Rattle.fs_json.specs.Time.{time_json, IsTimeHeld}
+use Rattle.fs_query.specs.declared.listen.Cause.{Cause}
+use Rattle.fs_query.specs.declared.listen.ListenMessage.{ListenMessage}
+use Rattle.fs_query.specs.declared.listen.ListenMessage.TheVariants.{Add, Remove, Reset, Current, NoChange, Changed, Deleted, Removed}
 use Rattle.fs_value.specs.declared.document.Document.{Document}
 use Rattle.fs_valjson.specs.Document.{document_at, document_json}
 use Rattle.fs_valjson.specs.Valid.{IsValid}
 use Rattle.fs_writejson.specs.Results.{IsResultHeld}
+use Rattle.fs_rpc.specs.ListenJson.{cause_json}
 use Rattle.fs_rpc.specs.Transaction.{IsTransactionHeld}
 use Rattle.fs_rpc.specs.declared.message.BatchAnswer.{BatchAnswer}
 use Rattle.fs_rpc.specs.declared.message.BatchAnswer.TheVariants.{Found, Missing}
 use Rattle.fs_rpc.specs.declared.message.Message.{Message}
-use Rattle.fs_rpc.specs.declared.message.Message.TheVariants.{Commit, GetDocument, BatchGetDocuments, RunQuery, BeginTransaction, Rollback, Error}
+use Rattle.fs_rpc.specs.declared.message.Message.TheVariants.{Commit, GetDocument, BatchGetDocuments, RunQuery, BeginTransaction, Rollback, Listen, Error}
 
 -- an object of this member and the time of the read
 abbrev pub timed_put : List ℕ → Data → ℤ → Data
 timed_put name content time = object (put (codes "readTime") (time_json time) (put name content no_members))
+
+-- a cause, where there is one
+abbrev pub with_cause_put : Option Cause → Members → Members
+with_cause_put None others = others
+with_cause_put (Some cause) others = put (codes "cause") (cause_json cause) others
+
+-- a time and the token of it
+abbrev pub with_moment_put : ℤ → List ℕ → Members → Members
+with_moment_put time token others = put (codes "resumeToken") (bytes_json token) (put (codes "readTime") (time_json time) others)
 
 -- ---- what is read back
 
@@ -30,6 +44,21 @@ abbrev pub IsAnswerHeld : BatchAnswer → Type 0
 IsAnswerHeld (Found document time) = IsDocumentHeld document × IsTimeHeld time
 IsAnswerHeld (Missing name time) = IsTimeHeld time
 
+-- a token
+abbrev pub IsTokenHeld : List ℕ → Type 0
+IsTokenHeld token = bytes_of (bytes_json token) ≡ Some token
+
+-- the documents, the times and the tokens of what a session is told
+abbrev pub IsListenHeld : ListenMessage → Type 0
+IsListenHeld (Add targets) = Unit {0}
+IsListenHeld (Remove targets cause) = Unit {0}
+IsListenHeld (Reset targets) = Unit {0}
+IsListenHeld (Current targets time token) = IsTimeHeld time × IsTokenHeld token
+IsListenHeld (NoChange time token) = IsTimeHeld time × IsTokenHeld token
+IsListenHeld (Changed document targets left) = IsDocumentHeld document
+IsListenHeld (Deleted name time left) = IsTimeHeld time
+IsListenHeld (Removed name time left) = IsTimeHeld time
+
 -- the documents, the times, the results and the transaction of a message
 abbrev pub IsMessageHeld : Message → Type 0
 IsMessageHeld (Commit id time results) = IsTimeHeld time × AllByRecursion IsResultHeld results
@@ -38,4 +67,5 @@ IsMessageHeld (BatchGetDocuments id answers) = AllByRecursion IsAnswerHeld answe
 IsMessageHeld (RunQuery id documents time) = AllByRecursion IsDocumentHeld documents × IsTimeHeld time
 IsMessageHeld (BeginTransaction id transaction) = IsTransactionHeld transaction
 IsMessageHeld (Rollback id) = Unit {0}
+IsMessageHeld (Listen told) = IsListenHeld told
 IsMessageHeld (Error id code message) = Unit {0}

@@ -1,10 +1,10 @@
 -- Which message a text is, or the first place in the walk where it is at fault.
 -- (v1 reference: `CommitResponse`, "Document", `BatchGetDocumentsResponse`, `RunQueryResponse`, `BeginTransactionResponse`, and
--- `google.rpc.Status` as REST prints it.)
+-- `google.rpc.Status` as REST prints it; `ListenResponse` for what a session that listens is told.)
 --
 --     {"id":"1","result":{"transaction":"AAAAAAAAAAI="}}    transaction 2 was begun
 --     {"id":"2","result":{}}                                a transaction was rolled back
-use Rattle.std.specs.Prelude.{ℕ, ℤ, pos, Bool, true, false, ◌||◌, List, [], ◌∷◌, Option, Some, None, Result, Ok, codes, find, if◌then◌else◌, option_and_then}
+use Rattle.std.specs.Prelude.{ℕ, ℤ, pos, Bool, true, false, ◌||◌, List, [], ◌∷◌, Option, Some, None, Result, Ok, Err, codes, find, if◌then◌else◌, option_and_then}
 use Rattle.std.specs.Option.{option_map_or}
 use Rattle.std.specs.Ordering.{int_eq}
 use Rattle.std.specs.Str.{bytes_eq}
@@ -14,21 +14,23 @@ use Rattle.serde_json.specs.Read.{read}
 use Rattle.fs_path.specs.Place.{member_place}
 use Rattle.fs_path.specs.declared.name.Root.{Root}
 use Rattle.fs_path.specs.declared.place.Rule.TheVariants.{G}
-use Rattle.fs_json.specs.Answer.{or_fault, ◌>>=◌}
+use Rattle.fs_json.specs.Answer.{made, or_fault, ◌>>=◌}
 use Rattle.fs_json.specs.Members.{is_there, required_as, required_at, only_at, one_of_at}
 use Rattle.fs_json.specs.Scalars.{text_at}
 use Rattle.fs_json.specs.declared.bad.Bad.{Bad}
+use Rattle.fs_json.specs.declared.bad.Bad.TheVariants.{At}
 use Rattle.fs_status.specs.Status.{http_of, status_text}
 use Rattle.fs_status.specs.declared.code.Code.{Code}
 use Rattle.fs_status.specs.declared.code.Code.TheVariants.{InvalidArgument, FailedPrecondition, NotFound, AlreadyExists, Aborted, ResourceExhausted, Unimplemented, OutOfMemory}
 use Rattle.fs_valjson.specs.Document.{document_at}
 use Rattle.fs_json.specs.Walk.{each_at}
 use Rattle.fs_rpc.specs.Id.{id_at}
+use Rattle.fs_rpc.specs.ReadListen.{listen_at}
 use Rattle.fs_rpc.specs.ReadResults.{results_in, batch_answer_at, query_answer_at, answered}
 use Rattle.fs_json.specs.Time.{required_time_at}
 use Rattle.fs_rpc.specs.Transaction.{transaction_at}
 use Rattle.fs_rpc.specs.declared.message.Message.{Message}
-use Rattle.fs_rpc.specs.declared.message.Message.TheVariants.{Commit, GetDocument, BatchGetDocuments, RunQuery, BeginTransaction, Rollback, Error}
+use Rattle.fs_rpc.specs.declared.message.Message.TheVariants.{Commit, GetDocument, BatchGetDocuments, RunQuery, BeginTransaction, Rollback, Listen, Error}
 
 -- ---- errors
 
@@ -140,19 +142,29 @@ object_result_at root id d place =
 unfoldable pub result_at : Root → Option (List ℕ) → Data → List ℕ → Result Message Bad
 result_at root id d place = option_map_or (λ items. list_result_at root id items place) (as_array d) (object_result_at root id d place)
 
+-- ---- what a session that listens is told
+
+-- it answers no request, so an id is at fault
+abbrev pub unasked_at : Root → Option (List ℕ) → Data → List ℕ → Result Message Bad
+unasked_at root None d place = made Listen (listen_at root d place)
+unasked_at root (Some id) d place = Err (At G (codes "id"))
+
 -- ---- messages
 
 -- the members of a message
 abbrev pub message_members : List (List ℕ)
-message_members = codes "error" ∷ codes "id" ∷ codes "result" ∷ []
+message_members = codes "error" ∷ codes "id" ∷ codes "listen" ∷ codes "result" ∷ []
 
 -- those of which just one is there
 abbrev pub outcomes : List (List ℕ)
-outcomes = codes "result" ∷ codes "error" ∷ []
+outcomes = codes "result" ∷ codes "listen" ∷ codes "error" ∷ []
 
 -- what stands under one of those
 abbrev pub outcome_at : Root → Option (List ℕ) → List ℕ → Data → Result Message Bad
-outcome_at root id name d = if bytes_eq name (codes "result") then result_at root id d name else error_at id d name
+outcome_at root id name d =
+    if bytes_eq name (codes "result") then result_at root id d name
+    else if bytes_eq name (codes "listen") then unasked_at root id d name
+    else error_at id d name
 
 -- a JSON value, as a message of the root's documents
 unfoldable pub message_at : Root → Data → Result Message Bad

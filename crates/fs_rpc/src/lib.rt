@@ -6,6 +6,8 @@ mod distinct;
 mod envelope;
 mod id;
 mod list;
+mod listen_read;
+mod listen_write;
 mod message;
 mod message_read;
 mod message_write;

@@ -1,14 +1,15 @@
-//! Messages: the answers to requests.
+//! Messages: the answers to requests, and what sessions that listen are told.
 use crate::id::copy_id;
 use fs_path::{Copied, DocName, List, Text};
+use fs_query::ListenMessage;
 use fs_status::{Code, Id, Refusal, message};
 use fs_time::Micros;
 use fs_value::{Document, Documents};
 use fs_write::WriteResults;
 use std::alloc::{AllocError, Global};
 
-/// What a client is answered: one variant for each method that is built, and the error. Each has the id of its request,
-/// where that had one.
+/// What a client is told: the answer to each method that is built, with the id of the request where that had one, what the
+/// targets that it listens to are, and the error.
 #[derive(Drop, Debug)]
 pub enum Message {
     /// The writes were made at this time. (v1 reference, `CommitResponse`.)
@@ -41,6 +42,8 @@ pub enum Message {
     Rollback {
         id: Option<Text>,
     },
+    /// How the targets of the session change. It answers no request, so it has no id. (`ListenResponse`.)
+    Listen(ListenMessage),
     /// The request was refused. (`google.rpc.Status`.)
     Error {
         id: Option<Text>,
@@ -101,6 +104,7 @@ impl Message {
             Message::Rollback { id } => Message::Rollback {
                 id: copy_id(alloc, id)?,
             },
+            Message::Listen(told) => Message::Listen(told.copy(alloc)?),
             Message::Error { id, code, message } => Message::Error {
                 id: copy_id(alloc, id)?,
                 code: *code,

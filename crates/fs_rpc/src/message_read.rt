@@ -9,15 +9,16 @@ ghost use Rattle.fs_json.specs.Answer.{Gives, or_fault};
 ghost use Rattle.fs_status.specs.Status.{status_text};
 ghost use Rattle.fs_status.specs.declared.code.Code.{Code};
 ghost use Rattle.fs_rpc.specs.MessageJson.{message_json};
-ghost use Rattle.fs_rpc.specs.ReadMessage.{answers_begin, answers_commit, answers_names, answers_rollback, begin_result_at, code_named, commit_result_at, documents_result_at, error_at, has_none, if_numbered, list_result_at, message_at, message_of, object_result_at, outcome_at, query_result_at, required_integer_at, result_at};
+ghost use Rattle.fs_rpc.specs.ReadMessage.{answers_begin, answers_commit, answers_names, answers_rollback, begin_result_at, code_named, commit_result_at, documents_result_at, error_at, has_none, if_numbered, list_result_at, message_at, message_of, object_result_at, outcome_at, query_result_at, required_integer_at, result_at, unasked_at};
 ghost use Rattle.fs_rpc.specs.ValidMessage.{IsMessageOf};
 
 use crate::answers::{answered, read_answers, read_query_answers};
 use crate::id::read_id;
+use crate::listen_read::read_listen;
 use crate::message::Message;
 use crate::names::{
-    BEGIN_RESULT_MEMBERS, CODE, COMMIT_RESULT_MEMBERS, COMMIT_TIME, ERROR_MEMBERS, FOUND, MESSAGE,
-    MESSAGE_MEMBERS, MISSING, OUTCOMES, RESULT, STATUS, TRANSACTION,
+    BEGIN_RESULT_MEMBERS, CODE, COMMIT_RESULT_MEMBERS, COMMIT_TIME, ERROR_MEMBERS, FOUND, ID,
+    LISTEN, MESSAGE, MESSAGE_MEMBERS, MISSING, OUTCOMES, RESULT, STATUS, TRANSACTION,
 };
 use crate::results::read_results;
 use crate::transaction::read_transaction;
@@ -30,7 +31,8 @@ use std::alloc::{AllocError, Global};
 
 /// Reads a message of this root's documents from its JSON. It is told by its shape what was asked for: a list whose first
 /// item has `found` or `missing`, and an empty one, answers names; any other list a query; an object with `commitTime` a
-/// commit, one with `transaction` a begin, and an empty one a rollback; and any other is a document.
+/// commit, one with `transaction` a begin, and an empty one a rollback; and any other is a document. What a session that
+/// listens is told has a member of its own, `listen`, and no id.
 ///
 /// A text that is no JSON object is refused at the empty place, and a query's items that have different times at `result`.
 pub fn read_message(alloc: Global, root: &Root, text: &str) -> Result<Message, Bad>
@@ -83,7 +85,24 @@ fn read_outcome(
 {
     match name {
         RESULT => read_result(alloc, root, id, v, &Way::method(name)),
+        LISTEN => read_unasked(alloc, root, &id, v, &Way::method(name)),
         _ => read_error(alloc, id, v, &Way::method(name)),
+    }
+}
+
+/// Reads what a session that listens is told. It answers no request, so an id is at fault.
+fn read_unasked(
+    alloc: Global,
+    root: &Root,
+    id: &Option<Text>,
+    v: &Value,
+    way: &Way<'_>,
+) -> Result<Message, Bad>
+    ensures { Gives (λ m. m) result (unasked_at root.now id.now (json v.now) (place_of way.now)) }
+{
+    match id {
+        Some(_) => Err(Bad::at(alloc, Rule::G, &Way::method(ID))),
+        None => Ok(Message::Listen(read_listen(alloc, root, v, way)?)),
     }
 }
 

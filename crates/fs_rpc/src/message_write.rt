@@ -1,7 +1,7 @@
 //! Writes messages.
 ghost use Rattle.std.specs.Prelude.{◌≡◌, ◌<◌, ◌≤◌, [], false, map, length, Ok, IfOk, OnOk};
 ghost use Rattle.std.specs.List.{AllByRecursion};
-ghost use Rattle.serde_json.specs.Data.{depth};
+ghost use Rattle.serde_json.specs.Data.{depth, member, no_members};
 ghost use Rattle.serde_json.specs.Read.{max_depth};
 ghost use Rattle.serde_json.specs.View.{items_of, items_view, members_view, view as json};
 ghost use Rattle.serde_json.specs.Written.{compact_text, has_float};
@@ -17,9 +17,11 @@ ghost use Rattle.fs_rpc.specs.ValidMessage.{IsMessageOf};
 
 use crate::id::put_id;
 use crate::list::put_list;
+use crate::listen_write::write_listen;
 use crate::message::{BatchAnswer, Message};
 use crate::names::{
-    COMMIT_TIME, DOCUMENT, ERROR, FOUND, MISSING, READ_TIME, RESULT, TRANSACTION, WRITE_RESULTS,
+    COMMIT_TIME, DOCUMENT, ERROR, FOUND, LISTEN, MISSING, READ_TIME, RESULT, TRANSACTION,
+    WRITE_RESULTS,
 };
 use crate::transaction::write_transaction;
 use fs_json::{with_one, write_time};
@@ -87,6 +89,10 @@ fn write_members(alloc: Global, m: &Message) -> Result<Map<String, Value>, Alloc
             with_result(alloc, id, written)
         }
         Message::Rollback { id } => with_result(alloc, id, Value::Object(Map::new(alloc))),
+        Message::Listen(told) => {
+            let written = write_listen(alloc, told)?;
+            alone(alloc, LISTEN, written)
+        }
         Message::Error { id, code, message } => {
             let written = error_json(alloc, *code, message.as_str())?;
             with_error(alloc, id, written)
@@ -104,6 +110,15 @@ fn with_result(
     let mut members = Map::new(alloc);
     put_id(alloc, &mut members, id)?;
     serde_json::put(&mut members, alloc, RESULT, result_json)?;
+    Ok(members)
+}
+
+// The members of an object that has this one.
+fn alone(alloc: Global, name: &str, content: Value) -> Result<Map<String, Value>, AllocError>
+    ensures { IfOk result (λ ms. members_view ms.entries ≡ member name.now (json content) no_members) }
+{
+    let mut members = Map::new(alloc);
+    serde_json::put(&mut members, alloc, name, content)?;
     Ok(members)
 }
 
@@ -162,7 +177,7 @@ fn write_answers(alloc: Global, answers: &[BatchAnswer]) -> Result<Vec<Value>, A
     Ok(items)
 }
 
-fn document_value(alloc: Global, document: &Document) -> Result<Value, AllocError>
+pub(crate) fn document_value(alloc: Global, document: &Document) -> Result<Value, AllocError>
     ensures value { IfOk result (λ j. json j ≡ document_json document.now) }
     ensures held { OnOk result (IsDocumentHeld document.now) }
 {

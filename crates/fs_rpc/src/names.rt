@@ -8,7 +8,7 @@ pub const METHODS: [&str; 17] = [
     RUN_QUERY,
     BEGIN_TRANSACTION,
     ROLLBACK,
-    "listen",
+    LISTEN,
     "write",
     "createIndex",
     "createDocument",
@@ -92,9 +92,12 @@ pub const READ_WRITE_MEMBERS: [&str; 1] = [RETRY_TRANSACTION];
 pub const RETRY_TRANSACTION: &str = "retryTransaction";
 
 /// The members of a message.
-pub const MESSAGE_MEMBERS: [&str; 3] = [ERROR, ID, RESULT];
+pub const MESSAGE_MEMBERS: [&str; 4] = [ERROR, ID, LISTEN, RESULT];
 
-pub const OUTCOMES: [&str; 2] = [RESULT, ERROR];
+/// Those of which just one is there.
+pub const OUTCOMES: [&str; 3] = [RESULT, LISTEN, ERROR];
+
+pub const LISTEN: &str = "listen";
 
 pub const ERROR: &str = "error";
 
@@ -127,3 +130,54 @@ pub const MISSING: &str = "missing";
 pub const QUERY_ANSWER_MEMBERS: [&str; 2] = [DOCUMENT, READ_TIME];
 
 pub const DOCUMENT: &str = "document";
+
+/// The members of what a session that listens is told, of which just one is there.
+pub const LISTEN_MEMBERS: [&str; 4] = [
+    TARGET_CHANGE,
+    DOCUMENT_CHANGE,
+    DOCUMENT_DELETE,
+    DOCUMENT_REMOVE,
+];
+
+pub const TARGET_CHANGE: &str = "targetChange";
+
+pub const DOCUMENT_CHANGE: &str = "documentChange";
+
+pub const DOCUMENT_DELETE: &str = "documentDelete";
+
+pub const DOCUMENT_REMOVE: &str = "documentRemove";
+
+pub const CHANGE_MEMBERS: [&str; 5] = [
+    CAUSE,
+    READ_TIME,
+    RESUME_TOKEN,
+    TARGET_CHANGE_TYPE,
+    TARGET_IDS,
+];
+
+pub const CAUSE: &str = "cause";
+
+pub const CAUSE_MEMBERS: [&str; 2] = [CODE, MESSAGE];
+
+pub const RESUME_TOKEN: &str = "resumeToken";
+
+pub const TARGET_CHANGE_TYPE: &str = "targetChangeType";
+
+pub const TARGET_IDS: &str = "targetIds";
+
+pub const NO_CHANGE: &str = "NO_CHANGE";
+
+pub const ADD: &str = "ADD";
+
+pub const REMOVE: &str = "REMOVE";
+
+pub const CURRENT: &str = "CURRENT";
+
+pub const RESET: &str = "RESET";
+
+pub const DOCUMENT_CHANGE_MEMBERS: [&str; 3] = [DOCUMENT, REMOVED_TARGET_IDS, TARGET_IDS];
+
+pub const REMOVED_TARGET_IDS: &str = "removedTargetIds";
+
+/// The members of a document that was deleted, or removed from views.
+pub const GONE_MEMBERS: [&str; 3] = [DOCUMENT, READ_TIME, REMOVED_TARGET_IDS];

@@ -15,7 +15,8 @@ use std::alloc::{AllocError, Global};
 use std::cmp::Ordering;
 use std::process::Abort;
 
-fn document(rt: &impl Abort, alloc: Global, id: &str, fields: &str) -> Document {
+/// The document of an id in `t`, with these fields.
+pub(crate) fn document(rt: &impl Abort, alloc: Global, id: &str, fields: &str) -> Document {
     let text = format!(in alloc;
         "{{\"name\":\"projects/demo/databases/(default)/documents/t/{id}\",\"fields\":{fields}}}"
     ).expect(rt, "memory");

@@ -1,6 +1,6 @@
 //! The tables, line by line.
 use crate::made::Make;
-use crate::rpc::{message_tables as messages, request_tables as requests};
+use crate::rpc::{listen_tables as listen, message_tables as messages, request_tables as requests};
 use crate::table::holds;
 
 // What the short forms of a line stand for, in the order in which they are spelled out.
@@ -21,6 +21,12 @@ fn messages_are_read_and_written(rt: HostRuntime) {
 #[test]
 fn the_first_fault_of_the_walk_is_told(rt: HostRuntime) {
     holds(&rt, Make::Message, &SHORT, messages::REFUSED);
+}
+
+#[test]
+fn what_a_session_is_told_is_read_and_written(rt: HostRuntime) {
+    holds(&rt, Make::Message, &SHORT, listen::TOLD);
+    holds(&rt, Make::Message, &SHORT, listen::REFUSED);
 }
 
 #[test]
