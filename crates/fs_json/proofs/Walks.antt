@@ -17,10 +17,6 @@ use Rattle.fs_json.proofs.Readings.{at_last_holds, both_hold}
 abbrev pub behind : {A : Type 0} → List A → Result (List A) Bad → Result (List A) Bad
 behind front rest = rest >>= λ xs. Ok (front ++ xs)
 
-pub behind-nil : {A : Type 0} (rest : Result (List A) Bad) → behind [] rest ≡ rest
-behind-nil (Ok xs) = refl
-behind-nil (Err bad) = refl
-
 -- one more
 pub behind-more : {A : Type 0} (front : List A) (x : A) (rest : Result (List A) Bad) → behind front (rest >>= λ xs. Ok (x ∷ xs)) ≡ behind (front ++ x ∷ []) rest
 behind-more front x (Ok xs) = ap Ok (sym (append_assoc front (x ∷ []) xs))

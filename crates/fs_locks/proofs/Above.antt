@@ -25,13 +25,6 @@ pub record Climbed (parents : Parents) (by : ℕ) (ids rest : List (List ℕ)) (
   pub least : IsLeastOther (HoldsAbove parents ids (length rest + 1)) by first
 
 module _ (parents : Parents) (by : ℕ) (ids : List (List ℕ)) where
-  pub climbed_none : Climbed parents by ids ids None
-  climbed_none = record {
-    above = [];
-    parts = append-nil ids;
-    least = λ j h. let long = length-append h.0 h.1 in let count = ap length h.2 in let far = h.3 in absurd (omega arith);
-  }
-
   -- one more is looked at
   pub climbed_here : (rest : List (List ℕ)) (a b : Option ℕ) → Climbed parents by ids rest a → IsLeastOther (λ i. IsTrue (has i (under parents (path_text rest)))) by b
       → IsLeastOther (HoldsAbove parents ids (length rest)) by (lesser_of a b)

@@ -33,13 +33,6 @@ pub floor_compacted : (p : Past) (first : Option ℤ) (to : ℤ) → FloorIsRele
 floor_compacted p first to within =
     later_within p.floor (earlier_of first (earlier to p.released)) p.released within (earlier_within first (earlier to p.released) p.released (earlier_of_two to p.released))
 
--- it never falls
-later_from : (a b : ℤ) → a ≤ℤ later a b
-later_from a b = grind (arith, ints)
-
-pub floor_rises : (p : Past) (first : Option ℤ) (to : ℤ) → p.floor ≤ℤ (past_compacted p first to).floor
-floor_rises p first to = later_from p.floor (earlier_of first (earlier to p.released))
-
 -- ---- it rises to no later than a transaction reads
 
 abbrev IsBelow : ℤ → Option ℤ → Type 0

@@ -196,16 +196,3 @@ same_released id p above =
 
 pub fewer_released : (p : Past) (ts : Transactions) (rs : List ParkedRequest) → UnreleasedRise p → AreFewer p ts rs (past_released p) ts rs
 fewer_released p ts rs above id = let same = same_released id p above in omega (arith, same)
-
--- a settling, and a tick
-pub ids_settled : (p : Past) (ts : Transactions) (rs : List ParkedRequest) (u : Unreleased) (r : Result (Docs × List WriteResult) Refusal) (ids : ℕ) → UnreleasedRise p → IdsAreDrawn p ts rs ids
-    → IdsAreDrawn (past_released (past_decided p u r)) ts rs ids
-ids_settled p ts rs u r ids above drawn =
-    let q = past_decided p u r in
-    ids_fewer q ts rs (past_released q) ts rs ids (fewer_released q ts rs (unreleased_decided p u r above)) (ids_fewer p ts rs q ts rs ids (fewer_decided p ts rs u r) drawn)
-
-pub ids_ticked : (p : Past) (ts : Transactions) (rs : List ParkedRequest) (now : ℤ) (ids : ℕ) → UnreleasedRise p → IdsAreDrawn p ts rs ids
-    → IdsAreDrawn (past_released (past_advanced p now)) (expired_at now ts) rs ids
-ids_ticked p ts rs now ids above drawn =
-    let q = past_advanced p now in
-    ids_fewer q (expired_at now ts) rs (past_released q) (expired_at now ts) rs ids (fewer_released q (expired_at now ts) rs (unreleased_advanced p now above)) (ids_fewer p ts rs q (expired_at now ts) rs ids (fewer_expired p ts rs now) drawn)

@@ -58,12 +58,6 @@ module _ (m : Machine) (session : ℕ) (e : Envelope) (passes : arrival_refusal 
     waits id full is held = ap (unless_full m) (decided None (Some id) check held) ∙ ap (as_full id) is
 
     module _ (id : ℕ) (held : held_by m e.request ≡ Some id) where
-      pub state_full : nat_le m.limits.parked (length m.parked) ≡ true → then ≡ asked m session e
-      state_full full = sym (leads ∙ ap (arrives then r) (waits id true full held))
-
-      pub told_full : nat_le m.limits.parked (length m.parked) ≡ true → Refused (at_limit (codes "parked") m.limits.parked) ≡ answered m session e
-      told_full full = sym (tells ∙ ap (decided_answer then r) (waits id true full held))
-
       pub state_held : nat_le m.limits.parked (length m.parked) ≡ false
           → record then { parked = m.parked ++ asking session (own_number m.numbers.ids e.request) e ∷ [] } ≡ asked m session e
       state_held room =
@@ -106,9 +100,6 @@ module _ (m0 m : Machine) (view : m0 ≡ m) (session : ℕ) (e : Envelope) (pass
         (λ i. record m0 { past = past i; txns = txns i; numbers = record m0.numbers { ids = last i } })
         ∙ ap (λ (k : Machine). beside (changed k d.1) (record k.numbers { ids = ids_after k.numbers.ids e.request }) k.parked) view
         ∙ state_goes m session e passes check free d own_does
-
-    pub went_told : d.0 ≡ answered m session e
-    went_told = told_goes m session e passes check free d own_does
 
     pub went_kept : AreAllowed m0.limits → Facts m → IsKept m0.config m0.limits p ts m0.sessions m0.parked (record m0.numbers { ids = ids })
     went_kept allowed facts =

@@ -62,16 +62,6 @@ module _ (m : Machine) (when : When) (q : Request) (reads : List Read) (are : re
   behind_by true is = ap (read_behind m.config.mode m.past) is
   behind_by false is = refl
 
-  pub behind_is : noted_behind m when reads ≡ reader_behind m when q
-  behind_is = behind_by (is_noted m when) are
-
-  few_by : (b : Bool) → reads ≡ cond b (shown_at m when q) [] → b ≡ false → reads ≡ []
-  few_by true is none = absurd (cc)
-  few_by false is none = is
-
-  pub few_are : is_noted m when ≡ false → reads ≡ []
-  few_are none = few_by (is_noted m when) are none
-
 read_by : (m : Machine) (id : ℕ) (q : Request) (reads : List Read) (b : Bool) → is_noted m (In id) ≡ b → closed_refusal m.txns id ≡ None → reads ≡ cond b (shown_at m (In id) q) []
     → with_reads m id reads ≡ with_reads m id (shown_at m (In id) q)
 read_by m id q reads true is none are = ap (with_reads m id) are
@@ -87,21 +77,6 @@ noted_is m (At time) q reads none are = refl
 noted_is m (In id) q reads none are = read_by m id q reads (is_noted m (In id)) refl none are
 
 -- ---- there is room for what is noted
-
-few_passed : (over : Bool) (name : List ℕ) (n : ℕ) → passed over name n None ≡ None → over ≡ false
-few_passed true name n none = absurd (cc)
-few_passed false name n none = refl
-
-within_by : (m : Machine) (reads : List Read) (b : Bool) → (b ≡ false → reads ≡ []) → cond b (reads_refusal m reads) None ≡ None → m.limits.reads < 2 ^ 128 → shown_bytes m.txns < 2 ^ 128
-    → shown_bytes m.txns + sum_by shown_size reads < 2 ^ 128
-within_by m reads true few none limit bytes =
-    let over = few_passed (nat_lt m.limits.reads (shown_bytes m.txns + sum_by shown_size reads)) (codes "reads") m.limits.reads none in
-    grind (arith, nat_tests)
-within_by m reads false few none limit bytes = let none_of : sum_by shown_size reads ≡ 0 = ap (sum_by shown_size) (few refl) in omega (arith, none_of)
-
-pub fits_noted : (m : Machine) (when : When) (reads : List Read) → (is_noted m when ≡ false → reads ≡ []) → noted_refusal m when reads ≡ None → m.limits.reads < 2 ^ 128 → shown_bytes m.txns < 2 ^ 128
-    → shown_bytes m.txns + sum_by shown_size reads < 2 ^ 128
-fits_noted m when reads few none limit bytes = within_by m reads (is_noted m when) few none limit bytes
 
 -- ---- the time of a read can be read
 

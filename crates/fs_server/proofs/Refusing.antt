@@ -57,13 +57,6 @@ other_limit name n e = cc
 
 -- ---- sessions
 
-open_other : (full : Bool) (n limit : ℕ) → cond full (Err (at_limit (codes "sessions") limit)) (Ok n) ≡ Err (refusal_of Memory) → ⊥
-open_other true n limit e = let r : at_limit (codes "sessions") limit ≡ refusal_of Memory = cc in other_limit (codes "sessions") limit (reason_of r)
-open_other false n limit e = cc
-
-pub open_not : (m : Machine) → open_answer m ≡ Err (refusal_of Memory) → ⊥
-open_not m e = open_other (is_full m) m.numbers.sessions m.limits.sessions e
-
 -- ---- limits
 
 abbrev AreOther : Option Refusal → Type 0

@@ -32,22 +32,12 @@ pub not_passed : (over : Bool) (name : List ℕ) (n : ℕ) (others : Option Refu
 not_passed true name n others none = absurd (cc)
 not_passed false name n others none = refl
 
-then_passed : (over : Bool) (name : List ℕ) (n : ℕ) (first others all : Option Refusal) → all ≡ unless_closed first others → passed over name n all ≡ unless_closed (passed over name n first) others
-then_passed true name n first others all is = refl
-then_passed false name n first others all is = is
-
 module _ (m : Machine) (ws : List Write) (reads : List Read) where
   abbrev full : Bool
   full = nat_le m.limits.batches (journal_count m.past)
 
   abbrev large : Bool
   large = nat_lt m.limits.journal (journal_size m.past + commit_size ws reads)
-
-  -- what is behind the room that there is
-  pub room_then : (others : Option Refusal) → room_refusal m ws reads others ≡ unless_closed (room_refusal m ws reads None) others
-  room_then others =
-      then_passed full (codes "batches") m.limits.batches (passed large (codes "journal") m.limits.journal None) others (passed large (codes "journal") m.limits.journal others)
-      (then_passed large (codes "journal") m.limits.journal None others others refl)
 
   pub room_behind : (others : Option Refusal) → room_refusal m ws reads others ≡ None → others ≡ None
   room_behind others none =
@@ -106,29 +96,6 @@ retried_within m session (Rollback database transaction) none = refl
 
 below : (limit ids : ℕ) (others : Option Refusal) → passed (nat_le limit ids) (codes "ids") limit others ≡ None → ids < limit
 below limit ids others none = let is = not_passed (nat_le limit ids) (codes "ids") limit others none in grind (arith, nat_tests)
-
-plain_below : (m : Machine) (session : ℕ) (ws : List Write) → commit_refusal m session ws None ≡ None → m.numbers.ids < m.limits.ids
-plain_below m session ws none =
-    let room = room_refusal m ws [] (ids_refusal m (time_limit_refusal m)) in
-    below m.limits.ids m.numbers.ids (time_limit_refusal m)
-    (room_behind m ws [] (ids_refusal m (time_limit_refusal m))
-    (behind_passed (outbox_is_full m session) (codes "outbox") m.limits.outbox room
-    (behind_passed (nat_lt m.limits.writes (length ws)) (codes "writes") m.limits.writes (outbox_refusal m session room) none)))
-
-begin_below : (m : Machine) (session : ℕ) → begin_refusal m session ≡ None → m.numbers.ids < m.limits.ids
-begin_below m session none =
-    let many = passed (nat_le m.limits.transactions (length m.txns.open)) (codes "transactions") m.limits.transactions (ids_refusal m None) in
-    below m.limits.ids m.numbers.ids None
-    (behind_passed (nat_le m.limits.transactions (length m.txns.open)) (codes "transactions") m.limits.transactions (ids_refusal m None) (read_retried m session many none))
-
-pub number_left : (m : Machine) (session : ℕ) (q : Request) → arrival_refusal m session q ≡ None → draws q ≡ true → m.numbers.ids < m.limits.ids
-number_left m session (Commit database writes None) none is = plain_below m session writes none
-number_left m session (Commit database writes (Some id)) none is = absurd (cc)
-number_left m session (GetDocument name mask when) none is = absurd (cc)
-number_left m session (BatchGetDocuments database names mask when) none is = absurd (cc)
-number_left m session (RunQuery database query when) none is = absurd (cc)
-number_left m session (BeginTransaction database options) none is = begin_below m session none
-number_left m session (Rollback database transaction) none is = absurd (cc)
 
 -- ---- a commit that grows what was committed
 

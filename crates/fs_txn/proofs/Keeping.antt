@@ -98,11 +98,6 @@ holds_put ts len capacity more bytes shares t holds room none = (
   λ i n. holds.1 i n ∙ sym (reads_put t ts n i (ap (λ rs. is_read_write t.kind && list_any (touches n) rs) none ∙ and-false (is_read_write t.kind))),
 )
 
-pub holds_room : (ts : List Txn) (len capacity more bytes : ℕ) (shares : Shares) → Holds ts len capacity bytes shares → capacity ≤ more → Holds ts len more bytes shares
-holds_room ts len capacity more bytes shares holds room =
-    let was = holds.0.room in
-    (record { room = omega arith; few = holds.0.few; counted = holds.0.counted }, holds.1)
-
 pub holds_used : (ts : List Txn) (len capacity bytes : ℕ) (shares : Shares) (id : ℕ) (now : ℤ) → is_some (txn_of id ts) ≡ true → Holds ts len capacity bytes shares → Holds (changed_at id (λ t. record t { used = now }) ts) len capacity bytes shares
 holds_used ts len capacity bytes shares id now there holds = at (txn_of id ts) refl there
   where

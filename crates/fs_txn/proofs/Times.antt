@@ -19,7 +19,3 @@ joined_more None None time = refl
 joined_more (Some a) None time = refl
 joined_more None (Some b) time = ap Some (two b time)
 joined_more (Some a) (Some b) time = ap Some (sym (three a time b))
-
-pub joined_none : (a : Option ℤ) → joined None a ≡ a
-joined_none None = refl
-joined_none (Some time) = refl
