@@ -1,0 +1,9 @@
+pub mod Cuts
+pub mod Gathered
+pub mod Laws
+pub mod Listening
+pub mod Raised
+pub mod Runs
+pub mod Sent
+pub mod Told
+pub mod View
