@@ -1,0 +1,7 @@
+use Rattle.fs_target.specs.Seen.{gone_to, seen}
+use Rattle.fs_target.proofs.InPlace.{Changed}
+use Rattle.fs_target.proofs.raise.go_all.Given as goal
+
+-- those so far are at the time
+abbrev pub invariant-loop-i : goal.invariant-loop-i
+invariant-loop-i l = Changed seen (gone_to l.time) l.initial.entries l.entries l.i

@@ -1,0 +1,38 @@
+use Rattle.std.proofs.Common.{◌≡◌, List, arith, sym, ap, ◌∙◌, subst}
+use Rattle.std.specs.Prelude.{int_lt}
+use Rattle.std.proofs.lemmas.Grind.{common_steps}
+use Rattle.fs_target.specs.Coming.{Coming}
+use Rattle.fs_target.specs.Places.{HasPlace, HavePlaces}
+use Rattle.fs_target.specs.Room.{AreInOrder}
+use Rattle.fs_target.specs.Staged.{behind, up_to}
+use Rattle.fs_target.specs.declared.event.TimedEvent.{TimedEvent}
+use Rattle.fs_target.proofs.Each.{each_filter}
+use Rattle.fs_target.proofs.Going.{kept_places}
+use Rattle.fs_target.proofs.GoneOver.{places_up}
+use Rattle.fs_target.proofs.InOrder.{order_filter}
+use Rattle.fs_target.proofs.staged.Staged.go_to.Goals as goal
+
+pub invariant_of-self : goal.invariant_of-self
+invariant_of-self c =
+    let left : c.drop_up_to.new.staged.items ≡ behind c.args.time c.leave_all.new.staged = grind (arith, common_steps) in
+    let order = c.leave_all.ensures.order (subst AreInOrder (sym c.as_mut_slice.ensures.value) c.self.invariant.1) in (
+      omega (arith, c.drop_up_to.ensures.len, c.drop_up_to.ensures.capacity, c.self.invariant.0),
+      subst AreInOrder (sym left) (order_filter (λ (e : TimedEvent). int_lt c.args.time e.time) c.leave_all.new.staged order),
+    )
+
+pub leave_all-requires : goal.leave_all-requires
+leave_all-requires c =
+    subst (λ (es : List TimedEvent). HavePlaces c.args.places.now (up_to c.args.time es)) (sym (c.as_mut_slice.ensures.value ∙ ap (λ (s : Coming). s.staged) c.self.view_is))
+    (places_up c.args.places.now c.args.self.now.staged c.args.time c.requires)
+
+pub returns-clause-places : goal.returns-clause-places
+returns-clause-places c =
+    let time = c.args.time in
+    let old = c.args.places.now in
+    let left = c.leave_all.new.places in
+    let staged = c.args.self.now.staged in
+    let here : behind time c.as_slice.result.now ≡ behind time c.leave_all.new.staged = grind (arith, common_steps) in
+    let same : behind time c.as_slice.result.now ≡ behind time staged =
+    here ∙ c.leave_all.ensures.behind ∙ ap (behind time) (c.as_mut_slice.ensures.value ∙ ap (λ (s : Coming). s.staged) c.self.view_is) in
+    let stay = kept_places old left (behind time staged) c.leave_all.ensures.kept (each_filter (HasPlace old) (λ (e : TimedEvent). int_lt time e.time) staged c.requires) in
+    subst (HavePlaces c.give_back_all.new.places) same (c.give_back_all.ensures.places (subst (HavePlaces left) (sym same) stay))

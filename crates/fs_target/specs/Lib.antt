@@ -1,0 +1,12 @@
+pub mod Coming
+pub mod Held
+pub mod Keeps
+pub mod Kept
+pub mod Latest
+pub mod Laws
+pub mod Looks
+pub mod Places
+pub mod Raise
+pub mod Room
+pub mod Seen
+pub mod Staged

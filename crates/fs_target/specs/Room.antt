@@ -1,0 +1,17 @@
+-- Staged events in order, and those that come next. (Only private clauses cite this.)
+use Rattle.std.specs.Prelude.{◌≡◌, ⊤, false, List, [], ◌∷◌, Option, Some, None}
+use Rattle.std.specs.List.{AllByRecursion}
+use Rattle.std.specs.Ordering.{is_lt}
+use Rattle.std.specs.declared.alloc.Global.{Global}
+use Rattle.std.specs.declared.vec.Vec.{Vec}
+use Rattle.fs_target.specs.Staged.{event_cmp}
+use Rattle.fs_target.specs.declared.event.TimedEvent.{TimedEvent}
+
+-- none comes before one in front of it
+abbrev pub AreInOrder : List TimedEvent → Type 0
+AreInOrder [] = ⊤
+AreInOrder (e ∷ es) = AllByRecursion (λ (f : TimedEvent). is_lt (event_cmp f e) ≡ false) es × AreInOrder es
+
+abbrev pub coming_in : Option (Vec TimedEvent Global) → List TimedEvent
+coming_in None = []
+coming_in (Some v) = v.items

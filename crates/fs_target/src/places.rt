@@ -1,0 +1,203 @@
+//! Documents by their names, with places for those to come.
+ghost use Rattle.std.specs.Prelude.{◌≡◌, ◌++◌, [], OnOk, map};
+ghost use Rattle.std.specs.List.{cons_option};
+ghost use Rattle.std.specs.Option.{option_copied};
+ghost use Rattle.fs_target.specs.Latest.{left_behind};
+
+use crate::event::TimedEvent;
+use crate::keys::add_keys;
+use crate::latest::Latest;
+use fs_path::DocName;
+use fs_value::{Document, Documents};
+use std::alloc::{AllocError, Global};
+use std::collections::{BTreeMap, BTreeSet};
+use std::marker::Model;
+
+/// Documents by their names, and places for others, so that these are put in without memory. Contracts see a finite map of what stands at
+/// each place, and the documents are those of it.
+///
+///     c/a: {n: 1}, c/b: none     the documents c/a {n: 1}, and room for a c/b
+///     put c/a none               no documents, and room for both
+///     give_back c/a              no documents, and room for a c/b
+#[derive(Drop, Debug)]
+pub(crate) struct Places {
+    places: BTreeMap<DocName, Option<Document>>,
+}
+
+impl Model for Places {
+    ghost use Rattle.std.specs.FinMap as map;
+    ghost use Rattle.std.specs.Prelude.{Option};
+    ghost use Rattle.fs_path.specs.NameOrder.{name_cmp};
+    ghost use Rattle.fs_value.specs.declared.document.Document.{Document};
+    ghost use Rattle.fs_target.specs.Places.{places_code};
+
+    ghost Value = { map.FinMap name_cmp (Option Document) };
+
+    ghost coded = { places_code };
+
+    ghost use Rattle.fs_target.specs.Places.{StandNamed};
+
+    ghost view = { λ p. map.from_entries p.places.entries };
+
+    ghost invariant = { λ p. StandNamed p.places.entries };
+}
+
+// What stands at a name behind its last event, if there is one.
+fn left_behind<'a>(
+    event: Option<&'a TimedEvent>,
+    place: &'a Option<Document>,
+) -> Option<&'a Document>
+    ensures { option_copied result ≡ left_behind (option_copied event.entry) place.now }
+{
+    match event {
+        Some(event) => event.left(),
+        None => place.as_ref(),
+    }
+}
+
+fn push_some<'a>(
+    lent: &mut Vec<&'a Document>,
+    document: Option<&'a Document>,
+) -> Result<(), AllocError>
+    ensures { OnOk result (map (λ d. d.now) lent.new.items ≡ map (λ d. d.now) lent.old.items ++ cons_option (option_copied document.entry) []) }
+{
+    if let Some(document) = document {
+        lent.push(document)?;
+    }
+    Ok(())
+}
+
+fn set(place: &mut Option<Document>, document: Option<Document>)
+    ensures { place.new ≡ document }
+{
+    *place = document;
+}
+
+impl Places {
+    ghost use Rattle.std.specs.Prelude.{◌≡◌, false, List, map, IfOk, IfSome, IsTrue, OnOk, is_some};
+    ghost use Rattle.std.specs.BTreeSet.{contains};
+    ghost use Rattle.std.specs.FinMap as finite;
+    ghost use Rattle.std.specs.Option.{option_copied};
+    ghost use Rattle.fs_path.specs.NameOrder.{name_cmp, name_eq};
+    ghost use Rattle.fs_path.specs.declared.name.DocName.{DocName};
+    ghost use Rattle.fs_write.specs.Batch.{AreNamed, Bears, with_document};
+    ghost use Rattle.fs_target.specs.Latest.{latest_of};
+    ghost use Rattle.fs_target.specs.Places.{HavePlaces, IsPlaced, all_put, docs_in};
+    ghost use Rattle.fs_target.specs.Staged.{gone_over};
+    ghost use Rattle.fs_target.specs.declared.event.TimedEvent.{TimedEvent};
+
+    pub(crate) fn new(alloc: Global) -> Places
+        ensures { docs_in result ≡ finite.empty }
+    {
+        Places {
+            places: BTreeMap::new(alloc),
+        }
+    }
+
+    // Puts a document at its name.
+    fn insert(&mut self, alloc: Global, document: Document) -> Result<(), AllocError>
+        ensures { OnOk result (docs_in self.new ≡ finite.insert (docs_in self.old) document.name document) }
+    {
+        let name = document.name.copy(alloc)?;
+        self.places.insert(name, Some(document))?;
+        Ok(())
+    }
+
+    /// Documents, put one after another.
+    pub(crate) fn of(alloc: Global, docs: Documents) -> Result<Places, AllocError>
+        ensures { IfOk result (λ p. docs_in p ≡ all_put docs finite.empty) }
+    {
+        let mut places = Places::new(alloc);
+        for document in docs.into_vec() {
+            places.insert(alloc, document)?;
+        }
+        Ok(places)
+    }
+
+    pub(crate) fn get(&self, name: &DocName) -> Option<&Document>
+        ensures { option_copied result ≡ finite.get (docs_in self.now) name.now }
+    {
+        match self.places.get(name) {
+            Some(place) => place.as_ref(),
+            None => None,
+        }
+    }
+
+    // Makes a place for a name.
+    fn make(&mut self, alloc: Global, name: &DocName) -> Result<(), AllocError>
+        ensures same { docs_in self.new ≡ docs_in self.old }
+        ensures ok { OnOk result (IsTrue (is_some (finite.get self.new name.now))) }
+        ensures kept { (other : DocName) → IsTrue (is_some (finite.get self.old other)) → IsTrue (is_some (finite.get self.new other)) }
+    {
+        if self.places.contains_key(name) {
+            return Ok(());
+        }
+        self.places.insert(name.copy(alloc)?, None)?;
+        Ok(())
+    }
+
+    /// Makes a place for an event that is inside.
+    pub(crate) fn make_for(&mut self, alloc: Global, event: &TimedEvent) -> Result<(), AllocError>
+        ensures same { docs_in self.new ≡ docs_in self.old }
+        ensures ok { OnOk result (IsPlaced self.new event.now) }
+        ensures kept { (other : DocName) → IsTrue (is_some (finite.get self.old other)) → IsTrue (is_some (finite.get self.new other)) }
+    {
+        if event.inside {
+            self.make(alloc, &event.name)
+        } else {
+            Ok(())
+        }
+    }
+
+    /// Puts what stands at a name, where there is a place or nothing is to stand.
+    pub(crate) fn put(&mut self, name: &DocName, document: Option<Document>)
+        requires place { IsTrue (is_some document) → IsTrue (is_some (finite.get self.old name.now)) }
+        requires named { Bears document name.now }
+        ensures docs { docs_in self.new ≡ with_document (docs_in self.old) name.now document }
+        ensures kept { (other : DocName) → IsTrue (is_some (finite.get self.old other)) → IsTrue (is_some (finite.get self.new other)) }
+    {
+        let Some(place) = self.places.get_mut(name) else {
+            return;
+        };
+        set(place, document);
+    }
+
+    /// Gives the place of a name back, if no document stands there. It takes no memory.
+    pub(crate) fn give_back(&mut self, name: &DocName)
+        ensures docs { docs_in self.new ≡ docs_in self.old }
+        ensures others { (other : DocName) → name_eq other name.now ≡ false → finite.get self.new other ≡ finite.get self.old other }
+    {
+        if self.get(name).is_none() {
+            drop(self.places.remove(name));
+        }
+    }
+
+    /// The documents behind events, in the order of names.
+    pub(crate) fn documents<'a>(
+        &'a self,
+        alloc: Global,
+        latest: &Latest<'a>,
+    ) -> Result<Vec<&'a Document>, AllocError>
+        ensures values { IfOk result (λ v. (es : List TimedEvent) → latest.now ≡ latest_of es → HavePlaces self.now es
+            → map (λ d. d.now) v.items ≡ finite.values (gone_over es (docs_in self.now))) }
+        ensures named { AreNamed (docs_in self.now) }
+    {
+        let mut lent = Vec::new(alloc);
+        for (name, place) in &self.places {
+            push_some(&mut lent, left_behind(latest.get(name), place))?;
+        }
+        Ok(lent)
+    }
+
+    /// Adds the names of the documents.
+    pub(crate) fn add_names(
+        &self,
+        alloc: Global,
+        names: &mut BTreeSet<DocName>,
+    ) -> Result<(), AllocError>
+        ensures kept { (name : DocName) → IsTrue (contains name_cmp names.old name) → IsTrue (contains name_cmp names.new name) }
+        ensures added { OnOk result ((name : DocName) → IsTrue (is_some (finite.get (docs_in self.now) name)) → IsTrue (contains name_cmp names.new name)) }
+    {
+        add_keys(alloc, &self.places, names)
+    }
+}
