@@ -1,9 +1,10 @@
 //! Times what the libraries cost: `measure` prints nanoseconds of names and documents, `versions=1000` those of a million
-//! versions of so many documents, and `store=1000` what a query costs beside so many documents of another collection. Without
-//! a word it does nothing.
+//! versions of so many documents, `store=1000` what a query costs beside so many documents of another collection, and
+//! `targets=1000` what a change and a raise cost a session that listens to so many documents. Without a word it does nothing.
 #![tactic(auto)]
 
 mod store;
+mod targets;
 mod versions;
 
 use fs_path::{Bytes, DocName, Text};
@@ -31,6 +32,7 @@ fn measure_what(rt: &HostRuntime, word: &str) -> io::Result<()> {
         "measure" => measure(rt),
         "versions" => versions::measure(rt, count),
         "store" => store::measure(rt, count),
+        "targets" => targets::measure(rt, count),
         _ => Ok(()),
     }
 }

@@ -103,7 +103,7 @@ fn creation(alloc: Global, collection: &str, i: u32, time: Micros) -> Result<Cha
     })
 }
 
-fn a_document(
+pub(crate) fn a_document(
     alloc: Global,
     collection: &str,
     i: u32,
@@ -130,7 +130,7 @@ fn answered<L: Ledger>(alloc: Global, store: &Store, blank: Blank) -> Result<usi
     requires some { 0 < blank.parts }
 {
     let mut steps: Steps<L> = Steps::new(blank);
-    let query = ten_asked(alloc)?;
+    let query = collection_of(alloc, "asked", Some(10))?;
     let count = count_of(alloc, store, &query, &mut steps);
     drop(query);
     count
@@ -149,20 +149,24 @@ fn count_of<L: Ledger>(
     Ok(store.run(alloc, query, time, steps)?.len())
 }
 
-fn ten_asked(alloc: Global) -> Result<Query, AllocError> {
-    let id = Text::from_str(alloc, "asked")?;
-    Ok(ten_of(Ids::new(alloc), id, alloc))
-}
-
-fn ten_of(parent: Ids, id: Text, alloc: Global) -> Query {
-    Query {
-        scope: Scope::Collection { parent, id },
+/// So many documents of a collection, or all of them.
+pub(crate) fn collection_of(
+    alloc: Global,
+    id: &str,
+    limit: Option<i32>,
+) -> Result<Query, AllocError> {
+    let id = Text::from_str(alloc, id)?;
+    Ok(Query {
+        scope: Scope::Collection {
+            parent: Ids::new(alloc),
+            id,
+        },
         filter: Filter::All,
         orders: Orders::new(alloc),
         start: None,
         end: None,
         offset: 0,
-        limit: Some(10),
+        limit,
         select: None,
-    }
+    })
 }

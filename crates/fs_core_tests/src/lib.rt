@@ -1,4 +1,4 @@
-//! Tests of writes, histories, transactions, versions, the store and the server, by the public calls of their libraries, and of scripts whose
+//! Tests of writes, histories, transactions, versions, the store, targets and the server, by the public calls of their libraries, and of scripts whose
 //! source or sink fails.
 #![tactic(auto)]
 
@@ -16,6 +16,8 @@ mod short;
 mod store;
 #[cfg(test)]
 mod table;
+#[cfg(test)]
+mod targets;
 #[cfg(test)]
 mod txns;
 #[cfg(test)]

@@ -1,6 +1,6 @@
 //! Tests of what fs_store gives, by its public calls.
 
-mod database;
+pub(crate) mod database;
 mod tables;
 mod tests;
 mod told;
