@@ -117,6 +117,20 @@ fn each_reason_of_a_read_is_told(rt: HostRuntime) {
 }
 
 #[test]
+fn each_reason_of_a_token_and_of_a_target_is_told(rt: HostRuntime) {
+    let alloc = rt.alloc();
+    let t1 = moment(&rt, 1_704_067_200_000_001);
+    let t2 = moment(&rt, 1_704_067_200_000_002);
+    invalid(&rt, alloc, Reason::TokenLength(11), "token length 11");
+    invalid(&rt, alloc, Reason::TokenMark, "token mark");
+    invalid(&rt, alloc, Reason::TokenTime, "token time");
+    let want = "token time 2024-01-01T00:00:00.000002Z is after 2024-01-01T00:00:00.000001Z";
+    invalid(&rt, alloc, Reason::TokenAhead(t2, t1), want);
+    invalid(&rt, alloc, Reason::TargetInUse(1), "target 1 in use");
+    invalid(&rt, alloc, Reason::TargetUnknown(-1), "target -1 unknown");
+}
+
+#[test]
 fn each_reason_of_a_transaction_is_told(rt: HostRuntime) {
     let alloc = rt.alloc();
     let t1 = moment(&rt, 1_704_067_200_000_001);

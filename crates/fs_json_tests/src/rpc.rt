@@ -5,4 +5,5 @@ mod message_tables;
 pub(crate) mod messages;
 mod request_tables;
 pub(crate) mod requests;
+mod target_tables;
 mod tests;

@@ -25,6 +25,7 @@ mod projection;
 mod query;
 mod rule;
 mod rules;
+mod target;
 mod whole_order;
 
 pub use answers::{answer, answer_among};
@@ -42,3 +43,4 @@ pub use projection::project;
 pub use query::Query;
 pub use rule::QueryRule;
 pub use rules::{check, check_with};
+pub use target::Target;

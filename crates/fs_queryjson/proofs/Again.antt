@@ -1,5 +1,5 @@
 -- What is written of a query is read as the same query.
-use Rattle.std.proofs.Common.{◌≡◌, ℕ, zero, suc, ◌+◌, ℤ, pos, negsuc, Bool, true, false, List, [], ◌∷◌, map, Option, Some, None, option_map, Result, Ok, codes, refl, ap, ◌∙◌}
+use Rattle.std.proofs.Common.{◌≡◌, ℕ, zero, suc, ◌+◌, ℤ, pos, negsuc, Bool, true, false, List, [], ◌∷◌, map, Option, Some, None, option_map, Result, Ok, codes, refl, sym, ap, ◌∙◌}
 use Rattle.std.specs.List.{AllByRecursion}
 use Rattle.std.specs.Option.{option_map_or}
 use Rattle.fs_path.specs.Place.{member_place, item_place}
@@ -30,7 +30,7 @@ use Rattle.fs_queryjson.specs.From.{from_json, scopes_at, scopes_in}
 use Rattle.fs_queryjson.specs.Held.{AreFirstHeld, AreLastHeld, AreValuesHeld, IsCursorHeld, IsHeld, IsLimitHeld, IsOrderHeld, IsSelectHeld, IsSmallHeld}
 use Rattle.fs_json.specs.Scalars.{small_at}
 use Rattle.fs_queryjson.specs.Order.{order_at, order_json, orders_at, orders_in}
-use Rattle.fs_queryjson.specs.Query.{limit_in, offset_in, permitted_at, query_at, query_members, walked_at, unless_broken}
+use Rattle.fs_queryjson.specs.Query.{limit_in, listened_at, offset_in, permitted_at, query_at, query_members, walked_at, unless_broken}
 use Rattle.fs_queryjson.specs.Select.{fields_json, select_at, select_in, select_json, selection_of}
 use Rattle.fs_queryjson.specs.Valid.{CursorHasNames, IsValid, IsWhere, SelectsSome}
 use Rattle.fs_queryjson.specs.Written.{offset_json, order_by_json, query_json, query_parts, those_there, where_json}
@@ -140,42 +140,83 @@ member_or-there : {A : Type 0} (absent : A) (read : json.Data → List ℕ → R
     → member_at name d place ≡ Ok o → read_as absent read o (member_place place name) ≡ Ok x → member_or absent read name d place ≡ Ok x
 member_or-there absent read name d place o x e h = rw e h
 
--- a walk whose parts are these
-pub walked : (parent : List (List ℕ)) (d : json.Data) (place : List ℕ) (q : Asked) → only_at query_members d place ≡ Ok tt → select_in d place ≡ Ok q.select
-    → scopes_in parent d place ≡ Ok (q.scope ∷ []) → where_in d place ≡ Ok q.filter → orders_in d place ≡ Ok q.orders → cursor_in (codes "startAt") d place ≡ Ok q.start
-    → cursor_in (codes "endAt") d place ≡ Ok q.end → offset_in d place ≡ Ok q.offset → limit_in d place ≡ Ok q.limit → query_at parent d place ≡ permitted_at q place
-unfolding walked_at
-walked parent d place q known select scopes filter orders start end offset limit = rw (known, select, scopes, filter, orders, start, end, offset, limit) refl
+-- the parts are read that any query has
+record AreRead (parent : List (List ℕ)) (d : json.Data) (place : List ℕ) (q : Asked) : Type 0 where
+  known : only_at query_members d place ≡ Ok tt
+  scopes : scopes_in parent d place ≡ Ok (q.scope ∷ [])
+  filter : where_in d place ≡ Ok q.filter
+  orders : orders_in d place ≡ Ok q.orders
+  start : cursor_in (codes "startAt") d place ≡ Ok q.start
+  end : cursor_in (codes "endAt") d place ≡ Ok q.end
+  limit : limit_in d place ≡ Ok q.limit
 
-pub query_again : (q : Asked) (place : List ℕ) → AreLastHeld q → AreFirstHeld q → IsValid q → query_at (scope_parent q.scope) (query_json q) place ≡ Ok q
+parts_again : (q : Asked) (place : List ℕ) → AreLastHeld q → AreFirstHeld q → IsValid q → AreRead (scope_parent q.scope) (query_json q) place q
 unfolding query_json
-query_again q place last first valid =
+parts_again q place last first valid =
     let rows = query_parts q in
     let d = json.object (those_there rows) in
-    let at = λ (name : List ℕ). member_place place name in
+    let at = λ (name : List ℕ). member_place place name in record {
+      known = only_at-there query_members rows place refl refl;
+      scopes = member_or-there [] (scopes_at (scope_parent q.scope)) (codes "from") d place (Some (from_json q.scope)) (q.scope ∷ [])
+          (member_at-there (codes "from") rows place _ refl refl refl)
+          (from_again q.scope (at (codes "from")));
+      filter = member_or-there anything filter_at (codes "where") d place (where_json q.filter) q.filter
+          (member_at-there (codes "where") rows place _ (option_or-none _) (where_given (codes "where") q.filter) refl)
+          (where_again q.filter (at (codes "where")) last.filter valid.filter);
+      orders = member_or-there [] orders_at (codes "orderBy") d place (order_by_json q.orders) q.orders
+          (member_at-there (codes "orderBy") rows place _ (option_or-none _) (orders_given (codes "orderBy") q.orders) refl)
+          (orders_again q.orders (at (codes "orderBy")) last.orders);
+      start = member_or-there None read_cursor (codes "startAt") d place (option_map cursor_json q.start) q.start
+          (member_at-there (codes "startAt") rows place _ (option_or-none _) (cursor_given (codes "startAt") q.start) refl)
+          (cursor_again q.start (at (codes "startAt")) last.start valid.start);
+      end = member_or-there None read_cursor (codes "endAt") d place (option_map cursor_json q.end) q.end
+          (member_at-there (codes "endAt") rows place _ (option_or-none _) (cursor_given (codes "endAt") q.end) refl)
+          (cursor_again q.end (at (codes "endAt")) first.end valid.end);
+      limit = member_or-there None read_small (codes "limit") d place (option_map small_json q.limit) q.limit
+          (member_at-there (codes "limit") rows place _ (option_or-none _) (limit_given (codes "limit") q.limit) refl)
+          (limit_again q.limit (at (codes "limit")) first.limit);
+    }
+
+select_there : (q : Asked) (place : List ℕ) → member_at (codes "select") (query_json q) place ≡ Ok (option_map select_json q.select)
+unfolding query_json
+select_there q place = member_at-there (codes "select") (query_parts q) place _ (option_or-none _) (select_given (codes "select") q.select) refl
+
+offset_there : (q : Asked) (place : List ℕ) → member_at (codes "offset") (query_json q) place ≡ Ok (offset_json q.offset)
+unfolding query_json
+offset_there q place = member_at-there (codes "offset") (query_parts q) place _ (option_or-none _) (offset_given (codes "offset") q.offset) refl
+
+-- a walk whose parts are these
+walked : (parent : List (List ℕ)) (d : json.Data) (place : List ℕ) (q : Asked) → AreRead parent d place q → select_in d place ≡ Ok q.select → offset_in d place ≡ Ok q.offset
+    → query_at parent d place ≡ permitted_at q place
+unfolding walked_at
+walked parent d place q are select offset = rw (are.known, select, are.scopes, are.filter, are.orders, are.start, are.end, offset, are.limit) refl
+
+pub query_again : (q : Asked) (place : List ℕ) → AreLastHeld q → AreFirstHeld q → IsValid q → query_at (scope_parent q.scope) (query_json q) place ≡ Ok q
+query_again q place last first valid =
+    let d = query_json q in
     let select = member_or-there None select_at (codes "select") d place (option_map select_json q.select) q.select
-    (member_at-there (codes "select") rows place _ (option_or-none _) (select_given (codes "select") q.select) refl)
-    (select_again q.select (at (codes "select")) last.select valid.select) in
-    let scopes = member_or-there [] (scopes_at (scope_parent q.scope)) (codes "from") d place (Some (from_json q.scope)) (q.scope ∷ [])
-    (member_at-there (codes "from") rows place _ refl refl refl)
-    (from_again q.scope (at (codes "from"))) in
-    let filter = member_or-there anything filter_at (codes "where") d place (where_json q.filter) q.filter
-    (member_at-there (codes "where") rows place _ (option_or-none _) (where_given (codes "where") q.filter) refl)
-    (where_again q.filter (at (codes "where")) last.filter valid.filter) in
-    let orders = member_or-there [] orders_at (codes "orderBy") d place (order_by_json q.orders) q.orders
-    (member_at-there (codes "orderBy") rows place _ (option_or-none _) (orders_given (codes "orderBy") q.orders) refl)
-    (orders_again q.orders (at (codes "orderBy")) last.orders) in
-    let start = member_or-there None read_cursor (codes "startAt") d place (option_map cursor_json q.start) q.start
-    (member_at-there (codes "startAt") rows place _ (option_or-none _) (cursor_given (codes "startAt") q.start) refl)
-    (cursor_again q.start (at (codes "startAt")) last.start valid.start) in
-    let end = member_or-there None read_cursor (codes "endAt") d place (option_map cursor_json q.end) q.end
-    (member_at-there (codes "endAt") rows place _ (option_or-none _) (cursor_given (codes "endAt") q.end) refl)
-    (cursor_again q.end (at (codes "endAt")) first.end valid.end) in
+    (select_there q place) (select_again q.select (member_place place (codes "select")) last.select valid.select) in
     let offset = member_or-there (pos 0) small_at (codes "offset") d place (offset_json q.offset) q.offset
-    (member_at-there (codes "offset") rows place _ (option_or-none _) (offset_given (codes "offset") q.offset) refl)
-    (offset_again q.offset (at (codes "offset")) first.offset) in
-    let limit = member_or-there None read_small (codes "limit") d place (option_map small_json q.limit) q.limit
-    (member_at-there (codes "limit") rows place _ (option_or-none _) (limit_given (codes "limit") q.limit) refl)
-    (limit_again q.limit (at (codes "limit")) first.limit) in
-    walked (scope_parent q.scope) d place q (only_at-there query_members rows place refl refl) select scopes filter orders start end offset limit
-    ∙ ap (λ rule. unless_broken rule q place) valid.allowed
+    (offset_there q place) (offset_again q.offset (member_place place (codes "offset")) first.offset) in
+    walked (scope_parent q.scope) d place q (parts_again q place last first valid) select offset ∙ ap (λ rule. unless_broken rule q place) valid.allowed
+
+-- ---- one that is listened to
+
+-- a query that selects nothing and skips nothing
+whole : (q : Asked) → q.select ≡ None → q.offset ≡ pos 0
+    → record { scope = q.scope; filter = q.filter; orders = q.orders; start = q.start; end = q.end; offset = pos 0; limit = q.limit; select = None } ≡ q
+whole q none naught =
+    ap (λ s. record { scope = q.scope; filter = q.filter; orders = q.orders; start = q.start; end = q.end; offset = pos 0; limit = q.limit; select = s }) (sym none)
+    ∙ ap (λ z. record { scope = q.scope; filter = q.filter; orders = q.orders; start = q.start; end = q.end; offset = z; limit = q.limit; select = q.select }) (sym naught)
+
+listened : (parent : List (List ℕ)) (d : json.Data) (place : List ℕ) (q : Asked) → AreRead parent d place q → member_at (codes "select") d place ≡ Ok None
+    → member_at (codes "offset") d place ≡ Ok None → q.select ≡ None → q.offset ≡ pos 0 → listened_at parent d place ≡ Ok q
+unfolding listened_at
+listened parent d place q are select offset none naught =
+    rw (are.known, select, are.scopes, are.filter, are.orders, are.start, are.end, offset, are.limit) (ap Ok (whole q none naught))
+
+pub listened_again : (q : Asked) (place : List ℕ) → AreLastHeld q → AreFirstHeld q → IsValid q → (q.select ≡ None) × (q.offset ≡ pos 0)
+    → listened_at (scope_parent q.scope) (query_json q) place ≡ Ok q
+listened_again q place last first valid nothing =
+    listened (scope_parent q.scope) (query_json q) place q (parts_again q place last first valid)
+    (select_there q place ∙ ap (λ s. Ok (option_map select_json s)) nothing.0) (offset_there q place ∙ ap (λ z. Ok (offset_json z)) nothing.1) nothing.0 nothing.1

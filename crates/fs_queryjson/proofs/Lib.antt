@@ -10,4 +10,5 @@ pub mod QueryDepth
 pub mod QueryValid
 pub mod Rows
 mod Simple
+pub mod Walks
 pub mod Written

@@ -10,13 +10,11 @@ use Rattle.serde_json.specs.Data.{depth, items_depth, members_depth}
 use Rattle.serde_json.specs.View.{items_of}
 use Rattle.fs_value.specs.Data.{Data}
 use Rattle.fs_json.specs.Integer.{small_json}
-use Rattle.fs_json.specs.Members.{only_at, member_or}
+use Rattle.fs_json.specs.Members.{only_at, member_or, unbuilt_at}
 use Rattle.fs_query.specs.Asked.{Asked}
 use Rattle.fs_query.specs.Condition.{Condition, anything, compared, is_null, is_not_null, all_of, any_of}
-use Rattle.fs_query.specs.Rules.{rule_of_query}
 use Rattle.fs_query.specs.declared.cursor.Cursor.{Cursor}
 use Rattle.fs_query.specs.declared.order.Order.{Order}
-use Rattle.fs_query.specs.declared.rule.QueryRule.{QueryRule}
 use Rattle.fs_json.proofs.Readings.{at_last_holds, in_turn_holds, of_made}
 use Rattle.fs_json.proofs.Depths.{inside_or}
 use Rattle.fs_valjson.proofs.Depths.{list_within}
@@ -27,10 +25,11 @@ use Rattle.fs_queryjson.specs.Filter.{filter_at, where_in}
 use Rattle.fs_queryjson.specs.From.{from_json, scopes_in, the_scope}
 use Rattle.fs_json.specs.Scalars.{truth_at}
 use Rattle.fs_queryjson.specs.Order.{order_json, orders_in}
-use Rattle.fs_queryjson.specs.Query.{limit_in, offset_in, permitted_at, query_members, unless_broken, walked_at}
+use Rattle.fs_queryjson.specs.Query.{limit_in, listened_at, offset_in, permitted_at, query_members, walked_at}
 use Rattle.fs_queryjson.specs.Select.{fields_json, select_in, select_json, written_paths}
 use Rattle.fs_queryjson.specs.Written.{filter_json, offset_json, order_by_json, query_json, query_parts, those_there, where_json, with_member}
 use Rattle.fs_queryjson.proofs.FilterDepth.{filter_within}
+use Rattle.fs_queryjson.proofs.QueryValid.{permitted_holds}
 
 -- ---- members of a query
 
@@ -129,32 +128,50 @@ query_fits q n filter start end =
     (member_fits (codes "where") (where_json q.filter) json.no_members (n + 4) filter (omega arith)))))))) in
     omega (arith, all)
 
+-- the cursor of this name
+cursor_within_some : (name : List ℕ) (d : json.Data) (place : List ℕ) (n : ℕ) → depth d ≤ n + 4 → IfOk (cursor_in name d place) (λ c. IsBelow (n + 4) (option_map cursor_json c))
+cursor_within_some name d place n h =
+    IfOk-weaker (cursor_in name d place) (λ c. IsBelow (n + 3 + 1) (option_map cursor_json c)) (λ c. IsBelow (n + 4) (option_map cursor_json c)) raised
+    (cursor_below name d place (n + 3) (omega (arith, h)) (omega arith))
+  where
+    raised : (c : Option Cursor) → IsBelow (n + 3 + 1) (option_map cursor_json c) → IsBelow (n + 4) (option_map cursor_json c)
+    raised None is = record {}
+    raised (Some c) is = omega (arith, is)
+
 -- as it is walked
 pub walked_within : (parent : List (List ℕ)) (d : json.Data) (place : List ℕ) (n : ℕ) → depth d ≤ n + 4 → IfOk (walked_at parent d place) (λ q. depth (query_json q) ≤ n + 4)
 unfolding walked_at
 walked_within parent d place n h =
     let P : Asked → Type 0 = λ q. depth (query_json q) ≤ n + 4 in
     let C : Option Cursor → Type 0 = λ c. IsBelow (n + 4) (option_map cursor_json c) in
-    let cursor : (name : List ℕ) → IfOk (cursor_in name d place) C = λ name. IfOk-weaker (cursor_in name d place) (λ c. IsBelow (n + 3 + 1) (option_map cursor_json c)) C (λ c is. raised c is) (cursor_below name d place (n + 3) (omega (arith, h)) (omega arith)) in
     at_last_holds P (only_at query_members d place) _
     (λ u. at_last_holds P (select_in d place) _
     (λ select. at_last_holds P (scopes_in parent d place) _
     (λ scopes. in_turn_holds (λ c. IsBelow (n + 4) (where_json c)) P (where_in d place) _ (where_below d place (n + 4) h)
     (λ filter is. at_last_holds P (orders_in d place) _
-    (λ orders. in_turn_holds C P (cursor_in (codes "startAt") d place) _ (cursor (codes "startAt"))
-    (λ start first. in_turn_holds C P (cursor_in (codes "endAt") d place) _ (cursor (codes "endAt"))
+    (λ orders. in_turn_holds C P (cursor_in (codes "startAt") d place) _ (cursor_within_some (codes "startAt") d place n h)
+    (λ start first. in_turn_holds C P (cursor_in (codes "endAt") d place) _ (cursor_within_some (codes "endAt") d place n h)
     (λ end last. at_last_holds P (offset_in d place) _
     (λ offset. at_last_holds P (limit_in d place) _
     (λ limit. query_fits (record { scope = the_scope parent scopes; filter = filter; orders = orders; start = start; end = end; offset = offset; limit = limit; select = select }) n is first last)))))))))
-  where
-    raised : (c : Option Cursor) → IsBelow (n + 3 + 1) (option_map cursor_json c) → IsBelow (n + 4) (option_map cursor_json c)
-    raised None is = record {}
-    raised (Some c) is = omega (arith, is)
+
+-- and as one that is listened to
+pub listened_within : (parent : List (List ℕ)) (d : json.Data) (place : List ℕ) (n : ℕ) → depth d ≤ n + 4 → IfOk (listened_at parent d place) (λ q. depth (query_json q) ≤ n + 4)
+unfolding listened_at
+listened_within parent d place n h =
+    let P : Asked → Type 0 = λ q. depth (query_json q) ≤ n + 4 in
+    let C : Option Cursor → Type 0 = λ c. IsBelow (n + 4) (option_map cursor_json c) in
+    at_last_holds P (only_at query_members d place) _
+    (λ u. at_last_holds P (unbuilt_at (codes "select" ∷ []) d place) _
+    (λ v. at_last_holds P (scopes_in parent d place) _
+    (λ scopes. in_turn_holds (λ c. IsBelow (n + 4) (where_json c)) P (where_in d place) _ (where_below d place (n + 4) h)
+    (λ filter is. at_last_holds P (orders_in d place) _
+    (λ orders. in_turn_holds C P (cursor_in (codes "startAt") d place) _ (cursor_within_some (codes "startAt") d place n h)
+    (λ start first. in_turn_holds C P (cursor_in (codes "endAt") d place) _ (cursor_within_some (codes "endAt") d place n h)
+    (λ end last. at_last_holds P (unbuilt_at (codes "offset" ∷ []) d place) _
+    (λ w. at_last_holds P (limit_in d place) _
+    (λ limit. query_fits (record { scope = the_scope parent scopes; filter = filter; orders = orders; start = start; end = end; offset = pos 0; limit = limit; select = None }) n is first last)))))))))
 
 -- and as its rules were tested
 pub permitted_within : (q : Asked) (place : List ℕ) (n : ℕ) → depth (query_json q) ≤ n → IfOk (permitted_at q place) (λ p. depth (query_json p) ≤ n)
-permitted_within q place n h = at (rule_of_query q)
-  where
-    at : (rule : Option QueryRule) → IfOk (unless_broken rule q place) (λ p. depth (query_json p) ≤ n)
-    at None = h
-    at (Some rule) = record {}
+permitted_within q place n h = permitted_holds (λ p. depth (query_json p) ≤ n) q place (λ none. h)

@@ -5,7 +5,7 @@ use Rattle.fs_path.specs.declared.field.FieldPath.{FieldPath}
 use Rattle.fs_path.specs.declared.scope.Scope.{Scope}
 use Rattle.serde_json.specs.Data as json
 use Rattle.fs_value.specs.Data.{items_of}
-use Rattle.fs_json.specs.Members.{only_at, member_or}
+use Rattle.fs_json.specs.Members.{only_at, member_or, unbuilt_at}
 use Rattle.fs_query.specs.Asked.{Asked}
 use Rattle.fs_query.specs.Rules.{rule_of_query}
 use Rattle.fs_query.specs.declared.cursor.Cursor.{Cursor}
@@ -21,9 +21,9 @@ use Rattle.fs_path.specs.Scope.{scope_parent}
 use Rattle.fs_queryjson.specs.From.{from_members, scope_at, scope_of, scopes_at, scopes_in, the_scope}
 use Rattle.fs_json.specs.Scalars.{text_at, truth_at}
 use Rattle.fs_queryjson.specs.Order.{orders_in}
-use Rattle.fs_queryjson.specs.Query.{limit_in, offset_in, permitted_at, query_members, unless_broken, walked_at}
+use Rattle.fs_queryjson.specs.Query.{limit_in, listened_at, offset_in, permitted_at, query_members, unless_broken, walked_at}
 use Rattle.fs_queryjson.specs.Select.{fields_in, select_at, select_in, select_members, selection_of}
-use Rattle.fs_queryjson.specs.Valid.{CursorHasNames, IsReadBelow, IsWalked, IsWhere, SelectsSome}
+use Rattle.fs_queryjson.specs.Valid.{CursorHasNames, IsListened, IsReadBelow, IsWalked, IsWhere, SelectsSome}
 use Rattle.fs_queryjson.proofs.FilterValid.{where_valid}
 
 -- ---- cursors
@@ -93,9 +93,34 @@ walked_valid parent d place =
     (λ offset. at_last_holds (IsWalked parent) (limit_in d place) _
     (λ limit. record { below = one_below parent scopes are; filter = fits; start = first; end = last; select = some })))))))))
 
-pub permitted_valid : (parent : List (List ℕ)) (q : Asked) (place : List ℕ) → IsWalked parent q → IfOk (permitted_at q place) (IsReadBelow parent)
-permitted_valid parent q place is = at (rule_of_query q) refl
+-- and one that is listened to
+pub listened_valid : (parent : List (List ℕ)) (d : json.Data) (place : List ℕ) → IfOk (listened_at parent d place) (IsListened parent)
+unfolding listened_at
+listened_valid parent d place =
+    at_last_holds (IsListened parent) (only_at query_members d place) _
+    (λ u. at_last_holds (IsListened parent) (unbuilt_at (codes "select" ∷ []) d place) _
+    (λ v. in_turn_holds (AllByRecursion (IsBelow parent)) (IsListened parent) (scopes_in parent d place) _ (scopes_below parent d place)
+    (λ scopes are. in_turn_holds IsWhere (IsListened parent) (where_in d place) _ (where_valid d place)
+    (λ filter fits. at_last_holds (IsListened parent) (orders_in d place) _
+    (λ orders. in_turn_holds CursorHasNames (IsListened parent) (cursor_in (codes "startAt") d place) _ (cursor_in_valid (codes "startAt") d place)
+    (λ start first. in_turn_holds CursorHasNames (IsListened parent) (cursor_in (codes "endAt") d place) _ (cursor_in_valid (codes "endAt") d place)
+    (λ end last. at_last_holds (IsListened parent) (unbuilt_at (codes "offset" ∷ []) d place) _
+    (λ w. at_last_holds (IsListened parent) (limit_in d place) _
+    (λ limit. record {
+      walked = record { below = one_below parent scopes are; filter = fits; start = first; end = last; select = tt };
+      select = refl;
+      offset = refl;
+    })))))))))
+
+-- what is permitted is the query itself, which breaks no rule
+pub permitted_holds : (P : Asked → Type 0) (q : Asked) (place : List ℕ) → (rule_of_query q ≡ None → P q) → IfOk (permitted_at q place) P
+permitted_holds P q place is = at (rule_of_query q) refl
   where
-    at : (rule : Option QueryRule) → rule_of_query q ≡ rule → IfOk (unless_broken rule q place) (IsReadBelow parent)
-    at None none = record { below = is.below; valid = record { filter = is.filter; start = is.start; end = is.end; select = is.select; allowed = none } }
+    at : (rule : Option QueryRule) → rule_of_query q ≡ rule → IfOk (unless_broken rule q place) P
+    at None none = is none
     at (Some rule) broken = record {}
+
+pub permitted_valid : (parent : List (List ℕ)) (q : Asked) (place : List ℕ) → IsWalked parent q → IfOk (permitted_at q place) (IsReadBelow parent)
+permitted_valid parent q place is =
+    permitted_holds (IsReadBelow parent) q place
+    (λ none. record { below = is.below; valid = record { filter = is.filter; start = is.start; end = is.end; select = is.select; allowed = none } })

@@ -4,7 +4,7 @@ use Rattle.std.specs.Prelude.{ℕ, ℤ, pos, List, [], ◌∷◌, Option, Some, 
 use Rattle.fs_path.specs.declared.place.Rule.TheVariants.{Q}
 use Rattle.serde_json.specs.Data.{Data}
 use Rattle.fs_json.specs.Answer.{◌>>=◌, made}
-use Rattle.fs_json.specs.Members.{only_at, member_or}
+use Rattle.fs_json.specs.Members.{only_at, member_or, unbuilt_at}
 use Rattle.fs_json.specs.declared.bad.Bad.{Bad}
 use Rattle.fs_json.specs.declared.bad.Bad.TheVariants.{At}
 use Rattle.fs_query.specs.Asked.{Asked}
@@ -48,6 +48,20 @@ walked_at parent d place = do
   offset ← offset_in d place
   limit ← limit_in d place
   Ok (record { scope = the_scope parent scopes; filter = filter; orders = orders; start = start; end = end; offset = offset; limit = limit; select = select })
+
+-- one that is listened to, in which nothing may be selected or skipped
+unfoldable pub listened_at : List (List ℕ) → Data → List ℕ → Result Asked Bad
+listened_at parent d place = do
+  _ ← only_at query_members d place
+  _ ← unbuilt_at (codes "select" ∷ []) d place
+  scopes ← scopes_in parent d place
+  filter ← where_in d place
+  orders ← orders_in d place
+  start ← cursor_in (codes "startAt") d place
+  end ← cursor_in (codes "endAt") d place
+  _ ← unbuilt_at (codes "offset" ∷ []) d place
+  limit ← limit_in d place
+  Ok (record { scope = the_scope parent scopes; filter = filter; orders = orders; start = start; end = end; offset = pos 0; limit = limit; select = None })
 
 -- the walk, and then the rules
 abbrev pub query_at : List (List ℕ) → Data → List ℕ → Result Asked Bad

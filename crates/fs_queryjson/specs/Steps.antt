@@ -1,18 +1,20 @@
 -- What only private clauses cite: what the readers and the writers know on their way.
-use Rattle.std.specs.Prelude.{ℕ, List, [], Option, Some, None, option_map, Result, Ok, Err, codes}
+use Rattle.std.specs.Prelude.{ℕ, List, [], ◌∷◌, Option, Some, None, option_map, Result, Ok, Err, codes}
 use Rattle.fs_path.specs.declared.place.Rule.TheVariants.{G}
 use Rattle.serde_json.specs.Data as json
 use Rattle.fs_json.specs.Answer.{◌>>=◌}
-use Rattle.fs_json.specs.Members.{at_most_one_at, one_of_at, only_at, the_one}
+use Rattle.fs_json.specs.Members.{at_most_one_at, one_of_at, only_at, the_one, unbuilt_at}
 use Rattle.fs_json.specs.declared.bad.Bad.{Bad}
 use Rattle.fs_json.specs.declared.bad.Bad.TheVariants.{At}
 use Rattle.fs_json.specs.Integer.{small_json}
 use Rattle.fs_query.specs.Asked.{Asked}
 use Rattle.fs_query.specs.Condition.{Condition}
-use Rattle.fs_queryjson.specs.Cursor.{cursor_json}
-use Rattle.fs_queryjson.specs.Filter.{composite_of, filter_kinds, inner_in, inner_members}
-use Rattle.fs_queryjson.specs.From.{from_json}
-use Rattle.fs_queryjson.specs.Select.{select_json}
+use Rattle.fs_queryjson.specs.Cursor.{cursor_in, cursor_json}
+use Rattle.fs_queryjson.specs.Filter.{composite_of, filter_kinds, inner_in, inner_members, where_in}
+use Rattle.fs_queryjson.specs.From.{from_json, scopes_in, the_scope}
+use Rattle.fs_queryjson.specs.Order.{orders_in}
+use Rattle.fs_queryjson.specs.Query.{limit_in, offset_in, query_members}
+use Rattle.fs_queryjson.specs.Select.{select_in, select_json}
 use Rattle.fs_queryjson.specs.Written.{offset_json, order_by_json, where_json}
 
 -- ---- readers
@@ -32,6 +34,35 @@ inner_at _ place = Err (At G place)
 
 abbrev pub composite_at : json.Data → List ℕ → Result Condition Bad
 composite_at d place = composite_of d place (inner_at d place)
+
+-- the walk of a query that puts its members into this one: of those between `select` and `offset`, and of all
+unfoldable pub parts_into : Asked → List (List ℕ) → json.Data → List ℕ → Result Asked Bad
+parts_into q parent d place = do
+  scopes ← scopes_in parent d place
+  filter ← where_in d place
+  orders ← orders_in d place
+  start ← cursor_in (codes "startAt") d place
+  end ← cursor_in (codes "endAt") d place
+  Ok (record q { scope = the_scope parent scopes; filter = filter; orders = orders; start = start; end = end })
+
+unfoldable pub walked_into : Asked → List (List ℕ) → json.Data → List ℕ → Result Asked Bad
+walked_into q parent d place = do
+  _ ← only_at query_members d place
+  select ← select_in d place
+  walked ← parts_into (record q { select = select }) parent d place
+  offset ← offset_in d place
+  limit ← limit_in d place
+  Ok (record walked { offset = offset; limit = limit })
+
+-- and of one that is listened to
+unfoldable pub listened_into : Asked → List (List ℕ) → json.Data → List ℕ → Result Asked Bad
+listened_into q parent d place = do
+  _ ← only_at query_members d place
+  _ ← unbuilt_at (codes "select" ∷ []) d place
+  walked ← parts_into q parent d place
+  _ ← unbuilt_at (codes "offset" ∷ []) d place
+  limit ← limit_in d place
+  Ok (record walked { limit = limit })
 
 -- ---- writers
 

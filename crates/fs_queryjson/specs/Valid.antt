@@ -1,5 +1,5 @@
 -- The queries that are read back from what is written of them.
-use Rattle.std.specs.Prelude.{◌≡◌, ℕ, List, [], ◌∷◌, Option, Some, None}
+use Rattle.std.specs.Prelude.{◌≡◌, ℕ, pos, List, [], ◌∷◌, Option, Some, None}
 use Rattle.fs_path.specs.declared.field.FieldPath.{FieldPath}
 use Rattle.fs_value.specs.Data.{items_of}
 use Rattle.fs_query.specs.Asked.{Asked}
@@ -54,6 +54,12 @@ pub record IsWalked (parent : List (List ℕ)) (q : Asked) : Type 0 where
   pub start : CursorHasNames q.start
   pub end : CursorHasNames q.end
   pub select : SelectsSome q.select
+
+-- and one that is listened to, in which nothing is selected or skipped
+pub record IsListened (parent : List (List ℕ)) (q : Asked) : Type 0 where
+  pub walked : IsWalked parent q
+  pub select : q.select ≡ None
+  pub offset : q.offset ≡ pos 0
 
 -- a query below a parent that is read back
 pub record IsReadBelow (parent : List (List ℕ)) (q : Asked) : Type 0 where

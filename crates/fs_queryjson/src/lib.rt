@@ -15,5 +15,5 @@ mod write;
 mod write_filter;
 mod write_parts;
 
-pub use read::{judge_query, read_query, walk_query};
+pub use read::{judge_query, read_query, refuse_broken, walk_listened, walk_query};
 pub use write::write_query;

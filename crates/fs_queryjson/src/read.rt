@@ -3,7 +3,8 @@ ghost use Rattle.std.specs.Prelude.{◌≡◌, pos, IfOk};
 ghost use Rattle.fs_path.specs.Way.{place_of};
 ghost use Rattle.serde_json.specs.View.{view as json};
 ghost use Rattle.fs_json.specs.Answer.{Gives};
-ghost use Rattle.fs_queryjson.specs.Query.{offset_in, permitted_at, query_at, walked_at};
+ghost use Rattle.fs_queryjson.specs.Query.{listened_at, offset_in, permitted_at, query_at, walked_at};
+ghost use Rattle.fs_queryjson.specs.Steps.{listened_into, parts_into, walked_into};
 ghost use Rattle.fs_queryjson.specs.Valid.{IsValid};
 ghost use Rattle.fs_query.specs.Asked.{Asked};
 
@@ -11,10 +12,10 @@ use crate::cursor::read_cursor_of;
 use crate::filter::read_where_of;
 use crate::from::{no_scope, read_scopes_of, the_scope};
 use crate::member::read_small_of;
-use crate::names::{END_AT, LIMIT, OFFSET, QUERY_MEMBERS, START_AT};
+use crate::names::{END_AT, LIMIT, OFFSET, QUERY_MEMBERS, SELECT, START_AT};
 use crate::order::read_orders_of;
 use crate::select::read_select_of;
-use fs_json::{Bad, only};
+use fs_json::{Bad, only, refuse_unbuilt};
 use fs_path::{Ids, Rule, Way};
 use fs_query::{Filter, Orders, Query, check_with};
 use serde_json::Value;
@@ -41,16 +42,7 @@ pub fn read_query(alloc: Global, parent: &Ids, v: &Value, way: &Way<'_>) -> Resu
 pub fn walk_query(alloc: Global, parent: &Ids, v: &Value, way: &Way<'_>) -> Result<Query, Bad>
     ensures { Gives (λ q. q) result (walked_at parent.now (json v.now) (place_of way.now)) }
 {
-    let mut query = Query {
-        scope: no_scope(alloc, Ids::new(alloc)),
-        filter: Filter::All,
-        orders: Orders::new(alloc),
-        start: None,
-        end: None,
-        offset: 0,
-        limit: None,
-        select: None,
-    };
+    let mut query = whole(alloc);
     match walk_into(alloc, parent, v, way, &mut query) {
         Ok(()) => Ok(query),
         Err(bad) => {
@@ -60,8 +52,42 @@ pub fn walk_query(alloc: Global, parent: &Ids, v: &Value, way: &Way<'_>) -> Resu
     }
 }
 
+/// Reads a query that is listened to as it is walked. It may select nothing and skip nothing: `select` and `offset` are told by
+/// their names, whatever they are. (v1 reference, `Target.QueryTarget`.)
+///
+/// At the way `x` the reader of `{"offset":0}` tells `offset`, and where `endAt` is 1 beside it refuses at `x.endAt`.
+pub fn walk_listened(alloc: Global, parent: &Ids, v: &Value, way: &Way<'_>) -> Result<Query, Bad>
+    ensures { Gives (λ q. q) result (listened_at parent.now (json v.now) (place_of way.now)) }
+{
+    let mut query = whole(alloc);
+    match listen_into(alloc, parent, v, way, &mut query) {
+        Ok(()) => Ok(query),
+        Err(bad) => {
+            drop(query);
+            Err(bad)
+        }
+    }
+}
+
+/// A query that selects nothing and skips nothing.
+fn whole(alloc: Global) -> Query
+    ensures select { result.select ≡ None }
+    ensures offset { result.offset ≡ pos 0 }
+{
+    Query {
+        scope: no_scope(alloc, Ids::new(alloc)),
+        filter: Filter::All,
+        orders: Orders::new(alloc),
+        start: None,
+        end: None,
+        offset: 0,
+        limit: None,
+        select: None,
+    }
+}
+
 /// The walk, which puts each member into the query.
-#[tactic(auto, unfolding(crate::specs::Query::walked_at))]
+#[tactic(auto, unfolding(crate::specs::Steps::walked_into))]
 fn walk_into(
     alloc: Global,
     parent: &Ids,
@@ -69,18 +95,55 @@ fn walk_into(
     way: &Way<'_>,
     query: &mut Query,
 ) -> Result<(), Bad>
-    ensures { Gives {Y = Asked} (λ u. query.new) result (walked_at parent.now (json v.now) (place_of way.now)) }
+    ensures { Gives {Y = Asked} (λ u. query.new) result
+        (walked_into query.old parent.now (json v.now) (place_of way.now)) }
 {
     only(alloc, v, &QUERY_MEMBERS, way)?;
     query.select = read_select_of(alloc, v, way)?;
+    parts_into(alloc, parent, v, way, query)?;
+    query.offset = read_offset_of(alloc, v, way)?;
+    query.limit = read_small_of(alloc, v, LIMIT, way)?;
+    Ok(())
+}
+
+/// The walk of one that is listened to.
+#[tactic(auto, unfolding(crate::specs::Steps::listened_into))]
+fn listen_into(
+    alloc: Global,
+    parent: &Ids,
+    v: &Value,
+    way: &Way<'_>,
+    query: &mut Query,
+) -> Result<(), Bad>
+    ensures { Gives {Y = Asked} (λ u. query.new) result
+        (listened_into query.old parent.now (json v.now) (place_of way.now)) }
+{
+    only(alloc, v, &QUERY_MEMBERS, way)?;
+    refuse_unbuilt(alloc, v, &[SELECT], way)?;
+    parts_into(alloc, parent, v, way, query)?;
+    refuse_unbuilt(alloc, v, &[OFFSET], way)?;
+    query.limit = read_small_of(alloc, v, LIMIT, way)?;
+    Ok(())
+}
+
+/// The part of the walk between `select` and `offset`.
+#[tactic(auto, unfolding(crate::specs::Steps::parts_into))]
+fn parts_into(
+    alloc: Global,
+    parent: &Ids,
+    v: &Value,
+    way: &Way<'_>,
+    query: &mut Query,
+) -> Result<(), Bad>
+    ensures { Gives {Y = Asked} (λ u. query.new) result
+        (parts_into query.old parent.now (json v.now) (place_of way.now)) }
+{
     let scopes = read_scopes_of(alloc, parent, v, way)?;
     query.scope = the_scope(alloc, parent, scopes)?;
     query.filter = read_where_of(alloc, v, way)?;
     query.orders = read_orders_of(alloc, v, way)?;
     query.start = read_cursor_of(alloc, v, START_AT, way)?;
     query.end = read_cursor_of(alloc, v, END_AT, way)?;
-    query.offset = read_offset_of(alloc, v, way)?;
-    query.limit = read_small_of(alloc, v, LIMIT, way)?;
     Ok(())
 }
 
@@ -98,15 +161,21 @@ fn read_offset_of(alloc: Global, query: &Value, way: &Way<'_>) -> Result<i32, Ba
 pub fn judge_query(alloc: Global, query: Query, way: &Way<'_>) -> Result<Query, Bad>
     ensures { Gives (λ q. q) result (permitted_at query (place_of way.now)) }
 {
-    match check_with(alloc, &query) {
-        Ok(Some(rule)) => {
+    match refuse_broken(alloc, &query, way) {
+        Ok(()) => Ok(query),
+        Err(bad) => {
             drop(query);
-            Err(Bad::at(alloc, Rule::Q(rule.number, rule.count), way))
+            Err(bad)
         }
-        Ok(None) => Ok(query),
-        Err(e) => {
-            drop(query);
-            Err(Bad::from(e))
-        }
+    }
+}
+
+/// Refuses a query that breaks a rule: the least is told, at its place.
+pub fn refuse_broken(alloc: Global, query: &Query, way: &Way<'_>) -> Result<(), Bad>
+    ensures { Gives {Y = Asked} (λ u. query.now) result (permitted_at query.now (place_of way.now)) }
+{
+    match check_with(alloc, query)? {
+        Some(rule) => Err(Bad::at(alloc, Rule::Q(rule.number, rule.count), way)),
+        None => Ok(()),
     }
 }

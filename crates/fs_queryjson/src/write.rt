@@ -1,5 +1,5 @@
 //! Writes queries.
-ghost use Rattle.std.specs.Prelude.{◌≡◌, ℕ, List, false, Ok, IfOk, OnOk, Some, option_map};
+ghost use Rattle.std.specs.Prelude.{◌≡◌, ℕ, pos, List, false, Ok, IfOk, OnOk, None, Some, option_map};
 ghost use Rattle.serde_json.specs.Written.{has_float};
 ghost use Rattle.serde_json.specs.View.{members_view, view as json};
 ghost use Rattle.fs_json.specs.Integer.{small_json};
@@ -7,7 +7,7 @@ ghost use Rattle.fs_queryjson.specs.Cursor.{cursor_json};
 ghost use Rattle.fs_path.specs.Scope.{scope_parent};
 ghost use Rattle.fs_queryjson.specs.From.{from_json, scope_json};
 ghost use Rattle.fs_queryjson.specs.Held.{AreFirstHeld, AreLastHeld, IsCursorHeld, IsLimitHeld, IsSelectHeld, IsSmallHeld};
-ghost use Rattle.fs_queryjson.specs.Query.{query_at};
+ghost use Rattle.fs_queryjson.specs.Query.{listened_at, query_at};
 ghost use Rattle.fs_queryjson.specs.Select.{select_json};
 ghost use Rattle.fs_queryjson.specs.Steps.{with_first_put, with_last_put, with_put};
 ghost use Rattle.fs_queryjson.specs.Valid.{IsValid};
@@ -36,6 +36,10 @@ pub fn write_query(alloc: Global, q: &Query) -> Result<Value, AllocError>
     // Where it is valid, it is read back as the same query below its parent, at any place.
     ensures reads_back { IfOk result (λ j. (place : List ℕ) → IsValid q.now
         → query_at (scope_parent q.now.scope) (json j) place ≡ Ok q.now) }
+
+    // Where it also selects nothing and skips nothing, it is read back as one that is listened to.
+    ensures listened { IfOk result (λ j. (place : List ℕ) → IsValid q.now → (q.now.select ≡ None) × (q.now.offset ≡ pos 0)
+        → listened_at (scope_parent q.now.scope) (json j) place ≡ Ok q.now) }
 {
     let mut members = Map::new(alloc);
     put_last(alloc, &mut members, q)?;

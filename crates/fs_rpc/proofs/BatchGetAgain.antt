@@ -58,7 +58,7 @@ names_read : (root : Root) (ns : List DocName) (i : ℕ) (place : List ℕ) → 
 names_read root [] i place valid = refl
 names_read root (n ∷ ns) i place valid = rw (name_read root n (item_place place i) valid.0, names_read root ns (i + 1) place valid.1) refl
 
-names_again : (root : Root) (ns : List DocName) (place : List ℕ) → AllByRecursion (IsDocumentOf root) ns → IsDistinct name_eq ns → each_once_at root (names_json ns) 0 place ≡ Ok ns
+pub names_again : (root : Root) (ns : List DocName) (place : List ℕ) → AllByRecursion (IsDocumentOf root) ns → IsDistinct name_eq ns → each_once_at root (names_json ns) 0 place ≡ Ok ns
 names_again root ns place valid distinct =
     ap (λ r. r >>= λ names. Ok (once names)) (names_read root ns 0 place valid) ∙ ap Ok (once_again [] ns (all_new ns) distinct)
 

@@ -3,7 +3,6 @@ use Rattle.std.proofs.Common.{◌≡◌, ℕ, ℤ, false, List, [], ◌∷◌, m
 use Rattle.serde_json.specs.Data.{Data, Members, no_members, object}
 use Rattle.serde_json.specs.View.{items_of}
 use Rattle.serde_json.specs.Written.{has_float, items_have_float, members_have_float}
-use Rattle.fs_status.specs.declared.code.Code.{Code}
 use Rattle.fs_valjson.specs.Document.{document_json}
 use Rattle.fs_valjson.proofs.Floats.{document_float}
 use Rattle.fs_value.specs.declared.document.Document.{Document}

@@ -13,10 +13,15 @@ pub mod CommitAgain
 pub mod GetAgain
 pub mod BatchGetAgain
 pub mod RunQueryAgain
+pub mod TargetSteps
+pub mod TargetsAgain
 pub mod TransactionAgain
 pub mod RequestAgain
 pub mod RequestFloats
+pub mod NamesValid
+pub mod TargetsValid
 pub mod RequestValid
 pub mod MessageValid
+pub mod TargetsDepth
 pub mod RequestDepth
 pub mod MessageDepth

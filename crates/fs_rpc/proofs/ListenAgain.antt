@@ -30,7 +30,7 @@ small_again n small =
     let short : ltb n (2 ^ 31) ≡ true = grind (arith, nat_tests) in
     rw (long, short) refl
 
-number_again : (n : ℕ) (place : List ℕ) → IsSmall n → number_at (number_json n) place ≡ Ok n
+pub number_again : (n : ℕ) (place : List ℕ) → IsSmall n → number_at (number_json n) place ≡ Ok n
 number_again n place small = rw (small_again n small) refl
 
 numbers_again : (ns : List ℕ) (i : ℕ) (place : List ℕ) → AreSmall ns → each_at number_at (items_of (map number_json ns)) i place ≡ Ok ns

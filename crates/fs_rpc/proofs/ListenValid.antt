@@ -40,7 +40,7 @@ small_if None place = record {}
 small_if (Some (pos n)) place = fitting n place (ltb n (2 ^ 31)) refl
 small_if (Some (negsuc n)) place = below n place (ltb n (2 ^ 31))
 
-number_small : (d : Data) (place : List ℕ) → IfOk (number_at d place) IsSmall
+pub number_small : (d : Data) (place : List ℕ) → IfOk (number_at d place) IsSmall
 number_small d place = small_if (integer_of d) place
 
 targets_small : (name : List ℕ) (d : Data) (place : List ℕ) → IfOk (targets_in name d place) AreSmall

@@ -1,5 +1,6 @@
 -- What is written of a request that was read nests no deeper than what was read, or than a few levels.
-use Rattle.std.proofs.Common.{ℕ, ◌+◌, ◌≤◌, ◌<◌, ℤ, List, [], ◌∷◌, ◌++◌, Option, Some, None, Ok, IfOk, codes, bytes_eq, arith}
+use Rattle.std.proofs.Common.{ℕ, ◌+◌, ◌-◌, ◌≤◌, ◌<◌, ℤ, List, [], ◌∷◌, ◌++◌, Option, Some, None, Ok, IfOk, codes, bytes_eq, arith}
+use Rattle.std.proofs.lemmas.Result.{IfOk-weaker}
 use Rattle.std.specs.List.{AllByRecursion}
 use Rattle.serde_json.specs.Data.{Data, Members, no_members, member, depth, items_depth, members_depth}
 use Rattle.fs_path.specs.Place.{member_place}
@@ -21,24 +22,23 @@ use Rattle.fs_writejson.specs.Draft.{drafts_at}
 use Rattle.fs_writejson.specs.Rules.{judged_at}
 use Rattle.fs_writejson.specs.Written.{write_json}
 use Rattle.fs_writejson.specs.declared.draft.Draft.{Draft}
+use Rattle.fs_rpc.specs.ByMethod.{request_at}
 use Rattle.fs_rpc.specs.Envelope.{envelope_at}
 use Rattle.fs_rpc.specs.Id.{id_at}
 use Rattle.fs_rpc.specs.Methods.{envelope_head, methods}
 use Rattle.fs_rpc.specs.Options.{options_in}
-use Rattle.fs_rpc.specs.RequestJson.{envelope_json, name_json, names_json, request_json, with_mask, writes_json, writes_member}
-use Rattle.fs_rpc.specs.Requests.{batch_get_at, batch_get_members, begin_at, begin_members, commit_at, commit_members, database_at, drafts_in, get_at, get_members, mask_in, names_at, parent_at, request_at, rollback_at, rollback_members, run_query_at, run_query_members, structured_at}
+use Rattle.fs_rpc.specs.ReadTargets.{listen_request_at}
+use Rattle.fs_rpc.specs.RequestJson.{envelope_json, name_json, with_mask, writes_json, writes_member}
+use Rattle.fs_rpc.specs.Requests.{batch_get_at, batch_get_members, begin_at, begin_members, commit_at, commit_members, database_at, drafts_in, get_at, get_members, mask_in, names_at, parent_at, rollback_at, rollback_members, run_query_at, run_query_members, structured_at}
 use Rattle.fs_rpc.specs.Transaction.{optional_transaction_at, transaction_at, with_transaction}
 use Rattle.fs_rpc.specs.When.{time_of, transaction_of, when_at, with_read_time, with_when}
 use Rattle.fs_rpc.specs.declared.options.TransactionOptions.{TransactionOptions}
 use Rattle.fs_rpc.specs.declared.options.TransactionOptions.TheVariants.{ReadWrite, ReadOnly}
 use Rattle.fs_rpc.specs.declared.request.Envelope.{Envelope}
 use Rattle.fs_rpc.specs.declared.request.Request.{Request}
-use Rattle.fs_rpc.specs.declared.request.Request.TheVariants.{Commit, GetDocument, BatchGetDocuments, RunQuery, BeginTransaction, Rollback}
+use Rattle.fs_rpc.specs.declared.request.Request.TheVariants.{Commit, GetDocument, BatchGetDocuments, RunQuery, BeginTransaction, Rollback, AddTarget, RemoveTarget}
 use Rattle.fs_rpc.specs.declared.when.When.{When}
-
--- what is written under the method
-abbrev IsWithin : ℕ → Request → Type 0
-IsWithin n r = depth (request_json r) ≤ n
+use Rattle.fs_rpc.proofs.TargetsDepth.{IsWithin, listen_within, names_flat}
 
 -- ---- members in front of others
 
@@ -91,10 +91,6 @@ get_fits name mask when n =
     let rest = member (codes "name") (name_json name) (with_when when no_members) in
     let all : members_depth rest ≤ n + 2 = omega (arith, when_fits when no_members (n + 2) (omega arith)) in
     omega (arith, mask_fits mask rest n all)
-
-names_flat : (ns : List DocName) → items_depth (names_json ns) ≤ 0
-names_flat [] = omega arith
-names_flat (n ∷ ns) = omega (arith, names_flat ns)
 
 batch_get_fits : (root : Root) (names : List DocName) (mask : Option (List FieldPath)) (when : When) (n : ℕ) → IsWithin (n + 3) (BatchGetDocuments root names mask when)
 batch_get_fits root names mask when n =
@@ -173,15 +169,17 @@ rollback_within root d place n =
 
 -- ---- requests with their ids
 
-request_within : (root : Root) (method : List ℕ) (d : Data) (n : ℕ) → depth d ≤ n + 5 → 0 < n → IfOk (request_at root method d) (IsWithin (n + 5))
+request_within : (root : Root) (method : List ℕ) (d : Data) (n : ℕ) → depth d ≤ n + 5 → 1 < n → IfOk (request_at root method d) (IsWithin (n + 5))
 request_within root method d n h some =
     let P = IsWithin (n + 5) in
-    either P (bytes_eq method (codes "commit")) _ _ (commit_within root d method n h some)
+    either P (bytes_eq method (codes "commit")) _ _ (commit_within root d method n h (omega arith))
     (either P (bytes_eq method (codes "getDocument")) _ _ (get_within root d method n)
     (either P (bytes_eq method (codes "batchGetDocuments")) _ _ (batch_get_within root d method n)
     (either P (bytes_eq method (codes "runQuery")) _ _ (run_query_within root d method n h)
     (either P (bytes_eq method (codes "beginTransaction")) _ _ (begin_within root d method n)
-    (either P (bytes_eq method (codes "rollback")) _ _ (rollback_within root d method n) (record {}))))))
+    (either P (bytes_eq method (codes "rollback")) _ _ (rollback_within root d method n)
+    (either P (bytes_eq method (codes "listen")) _ _
+    (IfOk-weaker (listen_request_at root d method) (IsWithin (n - 2 + 7)) P (λ r is. omega (arith, is)) (listen_within root d method (n - 2) (omega (arith, h)))) (record {})))))))
 
 envelope_fits : (id : Option (List ℕ)) (r : Request) (n : ℕ) → IsWithin n r → depth (envelope_json (record { id = id; request = r })) ≤ n + 1
 envelope_fits None r n h = omega (arith, h)
@@ -191,8 +189,10 @@ envelope_fits (Some id) (BatchGetDocuments root names mask when) n h = omega (ar
 envelope_fits (Some id) (RunQuery root q when) n h = omega (arith, h)
 envelope_fits (Some id) (BeginTransaction root options) n h = omega (arith, h)
 envelope_fits (Some id) (Rollback root transaction) n h = omega (arith, h)
+envelope_fits (Some id) (AddTarget root k t token) n h = omega (arith, h)
+envelope_fits (Some id) (RemoveTarget root k) n h = omega (arith, h)
 
-pub envelope_within : (root : Root) (d : Data) (n : ℕ) → depth d ≤ n + 6 → 0 < n → IfOk (envelope_at root d) (λ e. depth (envelope_json e) ≤ n + 6)
+pub envelope_within : (root : Root) (d : Data) (n : ℕ) → depth d ≤ n + 6 → 1 < n → IfOk (envelope_at root d) (λ e. depth (envelope_json e) ≤ n + 6)
 unfolding envelope_at
 envelope_within root d n h some =
     let P : Envelope → Type 0 = λ e. depth (envelope_json e) ≤ n + 6 in

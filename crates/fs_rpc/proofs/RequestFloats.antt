@@ -1,5 +1,5 @@
 -- What is written of a request has no float, so its text is told byte for byte.
-use Rattle.std.proofs.Common.{◌≡◌, ℕ, ℤ, false, List, [], ◌∷◌, Option, Some, None, codes, refl}
+use Rattle.std.proofs.Common.{◌≡◌, ℕ, ℤ, pos, negsuc, false, List, [], ◌∷◌, Option, Some, None, codes, refl}
 use Rattle.std.proofs.lemmas.Bool.{or_parts}
 use Rattle.std.specs.declared.cmp.Ordering.{Ordering}
 use Rattle.std.specs.declared.cmp.Ordering.TheVariants.{Less, Equal, Greater}
@@ -10,16 +10,19 @@ use Rattle.serde_json.specs.Data.{Data, Members, no_members, member, put, string
 use Rattle.serde_json.specs.Written.{has_float, items_have_float, members_have_float}
 use Rattle.fs_path.specs.declared.field.FieldPath.{FieldPath}
 use Rattle.fs_path.specs.declared.name.DocName.{DocName}
+use Rattle.fs_path.specs.declared.name.Root.{Root}
+use Rattle.fs_query.specs.declared.target.Target.{Target}
+use Rattle.fs_query.specs.declared.target.Target.TheVariants as target
 use Rattle.fs_write.specs.declared.write.Write.{Write}
 use Rattle.fs_rpc.specs.Id.{with_id_put}
-use Rattle.fs_rpc.specs.RequestJson.{envelope_json, envelope_members, method_of, names_json, request_json, with_mask, writes_json, writes_member}
-use Rattle.fs_rpc.specs.RequestSteps.{IsMaskHeld, IsRequestHeld, IsWriteHeld}
+use Rattle.fs_rpc.specs.RequestJson.{envelope_json, envelope_members, method_of, names_json, request_json, with_mask, with_target, with_token, writes_json, writes_member}
+use Rattle.fs_rpc.specs.RequestSteps.{IsMaskHeld, IsRequestHeld, IsTargetHeld, IsWriteHeld}
 use Rattle.fs_rpc.specs.Transaction.{with_transaction}
 use Rattle.fs_rpc.specs.When.{time_of, transaction_of, with_read_time, with_when}
 use Rattle.fs_rpc.specs.declared.options.TransactionOptions.TheVariants.{ReadWrite, ReadOnly}
 use Rattle.fs_rpc.specs.declared.request.Envelope.{Envelope}
 use Rattle.fs_rpc.specs.declared.request.Request.{Request}
-use Rattle.fs_rpc.specs.declared.request.Request.TheVariants.{Commit, GetDocument, BatchGetDocuments, RunQuery, BeginTransaction, Rollback}
+use Rattle.fs_rpc.specs.declared.request.Request.TheVariants.{Commit, GetDocument, BatchGetDocuments, RunQuery, BeginTransaction, Rollback, AddTarget, RemoveTarget}
 use Rattle.fs_rpc.specs.declared.when.When.{When}
 
 -- ---- the parts of a request
@@ -51,6 +54,14 @@ transaction_float (Some n) rest h = h
 when_float : (when : When) (rest : Members) → members_have_float rest ≡ false → members_have_float (with_when when rest) ≡ false
 when_float when rest h = time_float (time_of when) (with_transaction (transaction_of when) rest) (transaction_float (transaction_of when) rest h)
 
+target_float : (root : Root) (t : Target) (rest : Members) → IsTargetHeld t → members_have_float rest ≡ false → members_have_float (with_target root t rest) ≡ false
+target_float root (target.Query q) rest held h = rw (held.float, h) refl
+target_float root (target.Documents names) rest held h = rw (names_float names, h) refl
+
+token_float : (token : Option (List ℕ)) (rest : Members) → members_have_float rest ≡ false → members_have_float (with_token token rest) ≡ false
+token_float None rest h = h
+token_float (Some token) rest h = h
+
 content_float : (r : Request) → IsRequestHeld r → has_float (request_json r) ≡ false
 content_float (Commit database writes transaction) held = transaction_float transaction (writes_member writes) (member_float writes held.0)
 content_float (GetDocument name mask when) held = mask_float mask _ held.0 (when_float when no_members refl)
@@ -61,6 +72,9 @@ content_float (RunQuery database query when) held =
 content_float (BeginTransaction database ReadWrite) held = refl
 content_float (BeginTransaction database (ReadOnly time)) held = rw (time_float time no_members refl) refl
 content_float (Rollback database transaction) held = refl
+content_float (AddTarget database id t token) held = rw (target_float database t _ held.0 (token_float token _ refl)) refl
+content_float (RemoveTarget database (pos n)) held = refl
+content_float (RemoveTarget database (negsuc n)) held = refl
 
 -- ---- members that are put in
 

@@ -27,7 +27,7 @@ use Rattle.fs_rpc.proofs.Structured.{structured_gives, asked_when}
 
 -- ---- the query
 
-query_given : (key : List ℕ) (q : Asked) → is_given key (query_json q) ≡ true
+pub query_given : (key : List ℕ) (q : Asked) → is_given key (query_json q) ≡ true
 unfolding query_json
 query_given key q = refl
 

@@ -11,7 +11,7 @@ use Rattle.fs_json.specs.Scalars.{text_at}
 use Rattle.fs_json.specs.declared.bad.Bad.{Bad}
 use Rattle.fs_rpc.specs.Id.{id_at}
 use Rattle.fs_rpc.specs.Methods.{methods, envelope_head, session_head}
-use Rattle.fs_rpc.specs.Requests.{request_at}
+use Rattle.fs_rpc.specs.ByMethod.{request_at}
 use Rattle.fs_rpc.specs.declared.envelope.SessionRequest.{SessionRequest}
 use Rattle.fs_rpc.specs.declared.request.Envelope.{Envelope}
 

@@ -1,8 +1,8 @@
 -- The JSON of requests, as it is written. The members of each object stand in byte order of their names, and what is absent is
 -- left out. So are writes where there are none; documents that are none are an empty list, since they have to be there. A
 -- query's parent, the root's documents or one of them, stands beside it. (v1 reference: `CommitRequest`,
--- `GetDocumentRequest`, `BatchGetDocumentsRequest`, `RunQueryRequest`, `BeginTransactionRequest`, `RollbackRequest`; proto3
--- JSON.)
+-- `GetDocumentRequest`, `BatchGetDocumentsRequest`, `RunQueryRequest`, `BeginTransactionRequest`, `RollbackRequest`,
+-- `ListenRequest`; proto3 JSON.)
 --
 --     a commit of a delete            {"commit":{"database":"projects/p/databases/d","writes":[{"delete":".."}]},"id":"1"}
 --     a read, without an id           {"getDocument":{"name":"projects/p/databases/d/documents/c/a"}}
@@ -13,7 +13,12 @@
 --     a begin, which has no id        {"beginTransaction":{"database":"projects/p/databases/d","options":{"readWrite":{}}}}
 --     a rollback of transaction 2     {"id":"3","rollback":{"database":"projects/p/databases/d",
 --                                      "transaction":"AAAAAAAAAAI="}}
-use Rattle.std.specs.Prelude.{ℕ, List, [], ◌∷◌, Option, Some, None, map, codes}
+--     listens to a document           {"listen":{"addTarget":{"documents":{"documents":[".."]},"targetId":1},
+--                                      "database":"projects/p/databases/d"}}
+--     to a query from a token on      {"listen":{"addTarget":{"query":{"parent":"..","structuredQuery":{..}},
+--                                      "resumeToken":"RlNSMQAGDdcQISAB","targetId":2},"database":".."}}
+--     no longer to target 1           {"listen":{"database":"projects/p/databases/d","removeTarget":1}}
+use Rattle.std.specs.Prelude.{ℕ, ℤ, List, [], ◌∷◌, Option, Some, None, map, codes}
 use Rattle.fs_path.specs.Database.{database_text}
 use Rattle.fs_path.specs.Document.{document_text, under}
 use Rattle.fs_path.specs.declared.field.FieldPath.{FieldPath}
@@ -22,20 +27,25 @@ use Rattle.fs_path.specs.declared.name.Root.{Root}
 use Rattle.fs_path.specs.declared.scope.Scope.{Scope}
 use Rattle.serde_json.specs.Data.{Data, string, array, object, Items, Members, no_members, member}
 use Rattle.serde_json.specs.View.{items_of}
+use Rattle.fs_json.specs.Base64.{bytes_json}
+use Rattle.fs_json.specs.Integer.{small_json}
 use Rattle.fs_query.specs.Asked.{Asked}
+use Rattle.fs_query.specs.declared.target.Target.{Target}
+use Rattle.fs_query.specs.declared.target.Target.TheVariants as target
 use Rattle.fs_path.specs.Scope.{scope_parent}
 use Rattle.fs_queryjson.specs.Written.{query_json}
 use Rattle.fs_write.specs.declared.write.Write.{Write}
 use Rattle.fs_writejson.specs.Mask.{mask_json}
 use Rattle.fs_writejson.specs.Written.{write_json}
 use Rattle.fs_rpc.specs.Id.{with_id_put}
+use Rattle.fs_rpc.specs.ListenJson.{number_json}
 use Rattle.fs_rpc.specs.Options.{options_json}
 use Rattle.fs_rpc.specs.Transaction.{transaction_json, with_transaction}
 use Rattle.fs_rpc.specs.When.{time_of, transaction_of, with_read_time, with_when}
 use Rattle.fs_rpc.specs.declared.options.TransactionOptions.{TransactionOptions}
 use Rattle.fs_rpc.specs.declared.request.Envelope.{Envelope}
 use Rattle.fs_rpc.specs.declared.request.Request.{Request}
-use Rattle.fs_rpc.specs.declared.request.Request.TheVariants.{Commit, GetDocument, BatchGetDocuments, RunQuery, BeginTransaction, Rollback}
+use Rattle.fs_rpc.specs.declared.request.Request.TheVariants.{Commit, GetDocument, BatchGetDocuments, RunQuery, BeginTransaction, Rollback, AddTarget, RemoveTarget}
 use Rattle.fs_rpc.specs.declared.when.When.{When}
 
 -- ---- parts
@@ -93,6 +103,36 @@ abbrev pub rollback_json : Root → ℕ → Data
 rollback_json database transaction =
     object (member (codes "database") (database_json database) (member (codes "transaction") (transaction_json transaction) no_members))
 
+-- ---- targets
+
+abbrev pub query_target_json : Root → Asked → Data
+query_target_json database query = object (member (codes "parent") (parent_json database query.scope) (member (codes "structuredQuery") (query_json query) no_members))
+
+abbrev pub documents_target_json : List DocName → Data
+documents_target_json names = object (member (codes "documents") (array (names_json names)) no_members)
+
+-- what is listened to, in front of what follows
+abbrev pub with_target : Root → Target → Members → Members
+with_target database (target.Query query) rest = member (codes "query") (query_target_json database query) rest
+with_target database (target.Documents names) rest = member (codes "documents") (documents_target_json names) rest
+
+-- a token, where there is one, in front of what follows
+abbrev pub with_token : Option (List ℕ) → Members → Members
+with_token None rest = rest
+with_token (Some token) rest = member (codes "resumeToken") (bytes_json token) rest
+
+abbrev pub add_target_json : Root → ℕ → Target → Option (List ℕ) → Data
+add_target_json database id t token = object (with_target database t (with_token token (member (codes "targetId") (number_json id) no_members)))
+
+abbrev pub listen_add_json : Root → ℕ → Target → Option (List ℕ) → Data
+listen_add_json database id t token =
+    object (member (codes "addTarget") (add_target_json database id t token) (member (codes "database") (database_json database) no_members))
+
+abbrev pub listen_remove_json : Root → ℤ → Data
+listen_remove_json database id = object (member (codes "database") (database_json database) (member (codes "removeTarget") (small_json id) no_members))
+
+-- ---- requests
+
 -- what stands under the method
 abbrev pub request_json : Request → Data
 request_json (Commit database writes transaction) = commit_json database writes transaction
@@ -101,6 +141,8 @@ request_json (BatchGetDocuments database documents mask when) = batch_get_json d
 request_json (RunQuery database query when) = run_query_json database query when
 request_json (BeginTransaction database options) = begin_json database options
 request_json (Rollback database transaction) = rollback_json database transaction
+request_json (AddTarget database id t token) = listen_add_json database id t token
+request_json (RemoveTarget database id) = listen_remove_json database id
 
 abbrev pub method_of : Request → List ℕ
 method_of (Commit database writes transaction) = codes "commit"
@@ -109,8 +151,10 @@ method_of (BatchGetDocuments database documents mask when) = codes "batchGetDocu
 method_of (RunQuery database query when) = codes "runQuery"
 method_of (BeginTransaction database options) = codes "beginTransaction"
 method_of (Rollback database transaction) = codes "rollback"
+method_of (AddTarget database id t token) = codes "listen"
+method_of (RemoveTarget database id) = codes "listen"
 
--- ---- requests with their ids
+-- with their ids
 
 abbrev pub envelope_members : Envelope → Members
 envelope_members e = with_id_put e.id (member (method_of e.request) (request_json e.request) no_members)

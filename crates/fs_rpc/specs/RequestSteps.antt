@@ -1,15 +1,21 @@
--- What only private clauses cite: a mask, a transaction and when documents are read, as the members of a request are put in one
--- after another, and that the parts of a request, as they are written, have no float and are read back.
-use Rattle.std.specs.Prelude.{◌≡◌, ℕ, false, List, Option, Some, None, Ok, IfSome, codes}
+-- What only private clauses cite: a mask, a transaction, when documents are read, a target and its token, as the members of a
+-- request are put in one after another, and that the parts of a request, as they are written, have no float and are read back.
+use Rattle.std.specs.Prelude.{◌≡◌, ℕ, ℤ, pos, false, List, Option, Some, None, Result, Ok, IfSome, codes}
 use Rattle.std.specs.List.{AllByRecursion}
 use Rattle.fs_path.specs.declared.field.FieldPath.{FieldPath}
 use Rattle.fs_path.specs.declared.name.Root.{Root}
-use Rattle.serde_json.specs.Data.{Members, put}
+use Rattle.serde_json.specs.Data.{Data, Members, put}
+use Rattle.fs_json.specs.Answer.{◌>>=◌}
 use Rattle.serde_json.specs.Written.{has_float}
+use Rattle.fs_json.specs.Base64.{bytes_json}
+use Rattle.fs_json.specs.Integer.{small_json, small_of}
 use Rattle.fs_json.specs.Time.{IsTimeHeld, time_json}
+use Rattle.fs_json.specs.declared.bad.Bad.{Bad}
 use Rattle.fs_query.specs.Asked.{Asked}
+use Rattle.fs_query.specs.declared.target.Target.{Target}
+use Rattle.fs_query.specs.declared.target.Target.TheVariants as target
 use Rattle.fs_path.specs.Scope.{scope_parent}
-use Rattle.fs_queryjson.specs.Query.{query_at}
+use Rattle.fs_queryjson.specs.Query.{listened_at, query_at}
 use Rattle.fs_queryjson.specs.Valid.{IsValid}
 use Rattle.fs_queryjson.specs.Written.{query_json}
 use Rattle.fs_write.specs.declared.write.Write.{Write}
@@ -17,13 +23,24 @@ use Rattle.fs_writejson.specs.Mask.{mask_at, mask_json}
 use Rattle.fs_writejson.specs.Rules.{write_at}
 use Rattle.fs_writejson.specs.Valid.{IsWriteOf}
 use Rattle.fs_writejson.specs.Written.{write_json}
+use Rattle.fs_rpc.specs.MessageSteps.{IsTokenHeld}
+use Rattle.fs_rpc.specs.ReadTargets.{labels_in, permitted_request}
+use Rattle.fs_rpc.specs.RequestJson.{documents_target_json, query_target_json}
 use Rattle.fs_rpc.specs.Transaction.{IsTransactionHeld, transaction_json}
 use Rattle.fs_rpc.specs.declared.options.TransactionOptions.{TransactionOptions}
 use Rattle.fs_rpc.specs.declared.options.TransactionOptions.TheVariants.{ReadWrite, ReadOnly}
 use Rattle.fs_rpc.specs.declared.request.Request.{Request}
-use Rattle.fs_rpc.specs.declared.request.Request.TheVariants.{Commit, GetDocument, BatchGetDocuments, RunQuery, BeginTransaction, Rollback}
+use Rattle.fs_rpc.specs.declared.request.Request.TheVariants.{Commit, GetDocument, BatchGetDocuments, RunQuery, BeginTransaction, Rollback, AddTarget, RemoveTarget}
 use Rattle.fs_rpc.specs.declared.when.When.{When}
 use Rattle.fs_rpc.specs.declared.when.When.TheVariants.{Released, At, In}
+
+-- ---- what is read
+
+-- what comes behind a change of targets: the labels, and then the rules
+abbrev pub behind_at : Request → Data → List ℕ → Result Request Bad
+behind_at request d place = labels_in d place >>= λ _. permitted_request request place
+
+-- ---- what is written
 
 -- a mask, where there is one
 abbrev pub with_mask_put : Option (List FieldPath) → Members → Members
@@ -40,6 +57,16 @@ abbrev pub with_when_put : When → Members → Members
 with_when_put Released others = others
 with_when_put (At time) others = put (codes "readTime") (time_json time) others
 with_when_put (In n) others = put (codes "transaction") (transaction_json n) others
+
+-- what is listened to
+abbrev pub with_target_put : Root → Target → Members → Members
+with_target_put database (target.Query query) others = put (codes "query") (query_target_json database query) others
+with_target_put database (target.Documents names) others = put (codes "documents") (documents_target_json names) others
+
+-- a token, where there is one
+abbrev pub with_token_put : Option (List ℕ) → Members → Members
+with_token_put None others = others
+with_token_put (Some token) others = put (codes "resumeToken") (bytes_json token) others
 
 -- ---- what is read back
 
@@ -61,6 +88,7 @@ IsMaskHeld (Some paths) = ArePathsHeld paths
 pub record IsQueryHeld (q : Asked) : Type 0 where
   pub float : has_float (query_json q) ≡ false
   pub again : (place : List ℕ) → IsValid q → query_at (scope_parent q.scope) (query_json q) place ≡ Ok q
+  pub listened : (place : List ℕ) → IsValid q → (q.select ≡ None) × (q.offset ≡ pos 0) → listened_at (scope_parent q.scope) (query_json q) place ≡ Ok q
 
 -- when documents are read
 abbrev pub IsWhenHeld : When → Type 0
@@ -73,6 +101,15 @@ abbrev pub AreOptionsHeld : TransactionOptions → Type 0
 AreOptionsHeld ReadWrite = Unit {0}
 AreOptionsHeld (ReadOnly time) = IfSome time IsTimeHeld
 
+-- a target
+abbrev pub IsTargetHeld : Target → Type 0
+IsTargetHeld (target.Query query) = IsQueryHeld query
+IsTargetHeld (target.Documents names) = Unit {0}
+
+-- the number of one that is to be removed
+abbrev pub IsNumberHeld : ℤ → Type 0
+IsNumberHeld n = small_of (small_json n) ≡ Some n
+
 -- the parts of a request
 abbrev pub IsRequestHeld : Request → Type 0
 IsRequestHeld (Commit database writes transaction) = AllByRecursion IsWriteHeld writes × IfSome transaction IsTransactionHeld
@@ -81,3 +118,5 @@ IsRequestHeld (BatchGetDocuments database documents mask when) = IsMaskHeld mask
 IsRequestHeld (RunQuery database query when) = IsQueryHeld query × IsWhenHeld when
 IsRequestHeld (BeginTransaction database options) = AreOptionsHeld options
 IsRequestHeld (Rollback database transaction) = IsTransactionHeld transaction
+IsRequestHeld (AddTarget database id t token) = IsTargetHeld t × IfSome token IsTokenHeld
+IsRequestHeld (RemoveTarget database id) = IsNumberHeld id

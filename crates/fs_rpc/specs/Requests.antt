@@ -4,9 +4,8 @@
 --
 --     under "beginTransaction"    {"database":"projects/p/databases/d"}                                  begins one that reads and writes
 --     under "rollback"            {"database":"projects/p/databases/d","transaction":"AAAAAAAAAAI="}     ends transaction 2
-use Rattle.std.specs.Prelude.{ℕ, List, [], ◌∷◌, ◌++◌, Option, Some, None, Result, Ok, Err, codes, if◌then◌else◌, ⊤}
+use Rattle.std.specs.Prelude.{ℕ, List, [], ◌∷◌, ◌++◌, Option, Some, None, Result, Ok, codes, if◌then◌else◌, ⊤}
 use Rattle.std.specs.List.{list_any}
-use Rattle.std.specs.Str.{bytes_eq}
 use Rattle.serde_json.specs.Data.{Data, Items}
 use Rattle.serde_json.specs.Find.{as_array}
 use Rattle.fs_path.specs.Database.{database_of}
@@ -22,7 +21,6 @@ use Rattle.fs_json.specs.Members.{member_or, required_as, required_at, only_at}
 use Rattle.fs_json.specs.Paths.{path_at, document_name_at as name_at}
 use Rattle.fs_json.specs.Scalars.{text_at}
 use Rattle.fs_json.specs.declared.bad.Bad.{Bad}
-use Rattle.fs_json.specs.declared.bad.Bad.TheVariants.{Method}
 use Rattle.fs_query.specs.Asked.{Asked}
 use Rattle.fs_queryjson.specs.Query.{permitted_at, walked_at}
 use Rattle.fs_writejson.specs.Draft.{drafts_at}
@@ -149,14 +147,3 @@ rollback_at root d place = do
   _ ← database_at root d place
   transaction ← required_as transaction_at (codes "transaction") d place
   Ok (Rollback root transaction)
-
--- what a method asks for
-abbrev pub request_at : Root → List ℕ → Data → Result Request Bad
-request_at root method d =
-    if bytes_eq method (codes "commit") then commit_at root d method
-    else if bytes_eq method (codes "getDocument") then get_at root d method
-    else if bytes_eq method (codes "batchGetDocuments") then batch_get_at root d method
-    else if bytes_eq method (codes "runQuery") then run_query_at root d method
-    else if bytes_eq method (codes "beginTransaction") then begin_at root d method
-    else if bytes_eq method (codes "rollback") then rollback_at root d method
-    else Err (Method method)

@@ -1,6 +1,6 @@
 -- The requests that are read back from what is written of them. A text is read only where its JSON nests no deeper than JSON
 -- is read; that is asked beside this.
-use Rattle.std.specs.Prelude.{◌≡◌, List}
+use Rattle.std.specs.Prelude.{◌≡◌, ◌≢◌, ℕ, ◌≤◌, ◌<◌, ◌^◌, pos, List, [], None}
 use Rattle.std.specs.List.{AllByRecursion, IsDistinct}
 use Rattle.fs_path.specs.Database.{IsDatabase}
 use Rattle.fs_path.specs.Document.{IsDocumentOf, IsParentOf}
@@ -8,12 +8,14 @@ use Rattle.fs_path.specs.NameOrder.{name_eq}
 use Rattle.fs_path.specs.declared.name.DocName.{DocName}
 use Rattle.fs_path.specs.declared.name.Root.{Root}
 use Rattle.fs_query.specs.Asked.{Asked}
+use Rattle.fs_query.specs.declared.target.Target.{Target}
+use Rattle.fs_query.specs.declared.target.Target.TheVariants as target
 use Rattle.fs_path.specs.Scope.{scope_parent}
 use Rattle.fs_queryjson.specs.Valid.{IsValid}
 use Rattle.fs_write.specs.declared.write.Write.{Write}
 use Rattle.fs_writejson.specs.Valid.{IsWriteOf}
 use Rattle.fs_rpc.specs.declared.request.Request.{Request}
-use Rattle.fs_rpc.specs.declared.request.Request.TheVariants.{Commit, GetDocument, BatchGetDocuments, RunQuery, BeginTransaction, Rollback}
+use Rattle.fs_rpc.specs.declared.request.Request.TheVariants.{Commit, GetDocument, BatchGetDocuments, RunQuery, BeginTransaction, Rollback, AddTarget, RemoveTarget}
 
 -- writes of the root's documents, none of which breaks a rule of writes
 pub record IsCommitOf (root : Root) (database : Root) (writes : List Write) : Type 0 where
@@ -39,7 +41,20 @@ pub record IsOfRoot (root : Root) (database : Root) : Type 0 where
   pub same : database ≡ root
   pub named : IsDatabase root
 
--- a request of the root's documents; any mask, any time, any transaction and any options may be given
+-- a query below the root's documents or one of them that breaks no rule of queries, selects nothing and skips nothing; or names of the
+-- root's documents, each once
+abbrev pub IsTargetOf : Root → Target → Type 0
+IsTargetOf root (target.Query q) = IsParentOf root (scope_parent q.scope) × IsValid q × (q.select ≡ None) × (q.offset ≡ pos 0)
+IsTargetOf root (target.Documents names) = AllByRecursion (IsDocumentOf root) names × IsDistinct name_eq names × (names ≢ [])
+
+-- a target of an id that JSON holds
+pub record IsAddingOf (root : Root) (asked : Root) (id : ℕ) (t : Target) : Type 0 where
+  pub database : IsOfRoot root asked
+  pub least : 1 ≤ id
+  pub most : id < 2 ^ 31
+  pub target : IsTargetOf root t
+
+-- a request of the root's documents; any token, any mask, any time, any transaction and any options may be given
 abbrev pub IsRequestOf : Root → Request → Type 0
 IsRequestOf root (Commit database writes transaction) = IsCommitOf root database writes
 IsRequestOf root (GetDocument name mask when) = IsDocumentOf root name
@@ -47,3 +62,5 @@ IsRequestOf root (BatchGetDocuments database documents mask when) = IsBatchOf ro
 IsRequestOf root (RunQuery database query when) = IsQueryOf root database query
 IsRequestOf root (BeginTransaction database options) = IsOfRoot root database
 IsRequestOf root (Rollback database transaction) = IsOfRoot root database
+IsRequestOf root (AddTarget database id t token) = IsAddingOf root database id t
+IsRequestOf root (RemoveTarget database id) = IsOfRoot root database

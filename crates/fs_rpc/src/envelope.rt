@@ -6,7 +6,7 @@ ghost use Rattle.serde_json.specs.View.{view as json};
 ghost use Rattle.fs_json.specs.Answer.{Gives};
 ghost use Rattle.fs_rpc.specs.Envelope.{envelope_at, request_of, session_request_at};
 ghost use Rattle.fs_rpc.specs.RequestJson.{envelope_json};
-ghost use Rattle.fs_rpc.specs.Requests.{request_at};
+ghost use Rattle.fs_rpc.specs.ByMethod.{request_at};
 ghost use Rattle.fs_rpc.specs.ValidRequest.{IsRequestOf};
 
 use crate::id::read_id;

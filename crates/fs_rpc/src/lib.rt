@@ -17,6 +17,8 @@ mod read;
 mod request;
 mod request_write;
 mod results;
+mod targets_read;
+mod targets_write;
 mod transaction;
 mod when;
 

@@ -290,7 +290,7 @@ fn read_required_number(alloc: Global, v: &Value, name: &str, way: &Way<'_>) -> 
 }
 
 /// Reads a 32-bit integer that isn't negative.
-fn read_number(alloc: Global, v: &Value, way: &Way<'_>) -> Result<u32, Bad>
+pub(crate) fn read_number(alloc: Global, v: &Value, way: &Way<'_>) -> Result<u32, Bad>
     ensures { Gives (λ n. n) result (number_at (json v.now) (place_of way.now)) }
 {
     let signed = read_small(alloc, v, way)?;

@@ -167,7 +167,7 @@ fn put_moment(
     serde_json::put(members, alloc, RESUME_TOKEN, token)
 }
 
-fn token_value(alloc: Global, token: &Bytes) -> Result<Value, AllocError>
+pub(crate) fn token_value(alloc: Global, token: &Bytes) -> Result<Value, AllocError>
     ensures value { IfOk result (λ j. json j ≡ bytes_json token.now) }
     ensures held { OnOk result (IsTokenHeld token.now) }
 {
@@ -238,7 +238,7 @@ fn write_numbers(alloc: Global, numbers: &[u32]) -> Result<Vec<Value>, AllocErro
     Ok(items)
 }
 
-fn number_value(number: u32) -> Value
+pub(crate) fn number_value(number: u32) -> Value
     ensures { json result ≡ number_json number }
 {
     Value::from(number)

@@ -1,6 +1,6 @@
 //! The names of methods and members.
 
-/// The method of each request, in the order of the walk. The first six are built.
+/// The method of each request, in the order of the walk. The first seven are built.
 pub const METHODS: [&str; 17] = [
     COMMIT,
     GET_DOCUMENT,
@@ -32,6 +32,9 @@ pub const RUN_QUERY: &str = "runQuery";
 pub const BEGIN_TRANSACTION: &str = "beginTransaction";
 
 pub const ROLLBACK: &str = "rollback";
+
+/// The method of a change of targets, and the member of what a session that listens is told.
+pub const LISTEN: &str = "listen";
 
 /// The members of an envelope beside its method.
 pub const ENVELOPE_HEAD: [&str; 1] = [ID];
@@ -96,8 +99,6 @@ pub const MESSAGE_MEMBERS: [&str; 4] = [ERROR, ID, LISTEN, RESULT];
 
 /// Those of which just one is there.
 pub const OUTCOMES: [&str; 3] = [RESULT, LISTEN, ERROR];
-
-pub const LISTEN: &str = "listen";
 
 pub const ERROR: &str = "error";
 
@@ -181,3 +182,43 @@ pub const REMOVED_TARGET_IDS: &str = "removedTargetIds";
 
 /// The members of a document that was deleted, or removed from views.
 pub const GONE_MEMBERS: [&str; 3] = [DOCUMENT, READ_TIME, REMOVED_TARGET_IDS];
+
+/// The members of a request that changes the targets of a session.
+pub const LISTEN_REQUEST_MEMBERS: [&str; 4] = [DATABASE, ADD_TARGET, REMOVE_TARGET, LABELS];
+
+/// Those of which just one is there.
+pub const TARGET_CHANGES: [&str; 2] = [ADD_TARGET, REMOVE_TARGET];
+
+pub const ADD_TARGET: &str = "addTarget";
+
+pub const REMOVE_TARGET: &str = "removeTarget";
+
+pub const LABELS: &str = "labels";
+
+pub const ADD_TARGET_MEMBERS: [&str; 7] = [
+    TARGET_ID,
+    QUERY,
+    DOCUMENTS,
+    RESUME_TOKEN,
+    EXPECTED_COUNT,
+    ONCE,
+    READ_TIME,
+];
+
+pub const TARGET_ID: &str = "targetId";
+
+/// What a target is, of which just one is there.
+pub const TARGET_MEMBERS: [&str; 2] = [QUERY, DOCUMENTS];
+
+pub const QUERY: &str = "query";
+
+pub const EXPECTED_COUNT: &str = "expectedCount";
+
+/// The members of a target that aren't built.
+pub const UNBUILT_OF_TARGET: [&str; 2] = [ONCE, READ_TIME];
+
+pub const ONCE: &str = "once";
+
+pub const QUERY_TARGET_MEMBERS: [&str; 2] = [PARENT, STRUCTURED_QUERY];
+
+pub const DOCUMENTS_TARGET_MEMBERS: [&str; 1] = [DOCUMENTS];

@@ -3,18 +3,21 @@ ghost use Rattle.fs_query.specs.Asked.{Asked};
 ghost use Rattle.fs_path.specs.Way.{place_of};
 ghost use Rattle.serde_json.specs.View.{view as json};
 ghost use Rattle.fs_json.specs.Answer.{Gives};
+ghost use Rattle.fs_rpc.specs.ByMethod.{request_at};
 ghost use Rattle.fs_rpc.specs.Options.{options_in};
-ghost use Rattle.fs_rpc.specs.Requests.{batch_get_at, begin_at, commit_at, database_at, drafts_in, get_at, mask_in, parent_at, request_at, rollback_at, run_query_at, structured_at};
+ghost use Rattle.fs_rpc.specs.Requests.{batch_get_at, begin_at, commit_at, database_at, drafts_in, get_at, mask_in, parent_at, rollback_at, run_query_at, structured_at};
 ghost use Rattle.fs_rpc.specs.declared.when.When.{When};
 
 use crate::distinct::read_names;
 use crate::names::{
     BATCH_GET_DOCUMENTS, BATCH_GET_MEMBERS, BEGIN_MEMBERS, BEGIN_TRANSACTION, COMMIT,
-    COMMIT_MEMBERS, DATABASE, DOCUMENTS, GET_DOCUMENT, GET_MEMBERS, MASK, NAME, PARENT, ROLLBACK,
-    ROLLBACK_MEMBERS, RUN_QUERY, RUN_QUERY_MEMBERS, STRUCTURED_QUERY, TRANSACTION, WRITES,
+    COMMIT_MEMBERS, DATABASE, DOCUMENTS, GET_DOCUMENT, GET_MEMBERS, LISTEN, MASK, NAME, PARENT,
+    ROLLBACK, ROLLBACK_MEMBERS, RUN_QUERY, RUN_QUERY_MEMBERS, STRUCTURED_QUERY, TRANSACTION,
+    WRITES,
 };
 use crate::options::read_options_of;
 use crate::request::Request;
+use crate::targets_read::read_listen_request;
 use crate::transaction::{read_optional_transaction, read_transaction};
 use crate::when::{When, read_when};
 use fs_json::{Bad, member, only, read_document_name, required, unless_refused};
@@ -37,6 +40,7 @@ pub fn read_method(alloc: Global, root: &Root, method: &str, v: &Value) -> Resul
         RUN_QUERY => read_run_query(alloc, root, v, &place),
         BEGIN_TRANSACTION => read_begin(alloc, root, v, &place),
         ROLLBACK => read_rollback(alloc, root, v, &place),
+        LISTEN => read_listen_request(alloc, root, v, &place),
         _ => Err(Bad::Method(Text::from_str(alloc, method)?)),
     }
 }
@@ -161,7 +165,7 @@ fn read_rollback(alloc: Global, root: &Root, v: &Value, way: &Way<'_>) -> Result
 }
 
 // The database has to be the root's.
-fn read_database(alloc: Global, root: &Root, v: &Value, way: &Way<'_>) -> Result<(), Bad>
+pub(crate) fn read_database(alloc: Global, root: &Root, v: &Value, way: &Way<'_>) -> Result<(), Bad>
     ensures { Gives (λ u. u) result (database_at root.now (json v.now) (place_of way.now)) }
 {
     let database = required(alloc, v, DATABASE, way)?;
@@ -172,7 +176,7 @@ fn read_database(alloc: Global, root: &Root, v: &Value, way: &Way<'_>) -> Result
     }
 }
 
-fn read_parent(alloc: Global, root: &Root, v: &Value, way: &Way<'_>) -> Result<Ids, Bad>
+pub(crate) fn read_parent(alloc: Global, root: &Root, v: &Value, way: &Way<'_>) -> Result<Ids, Bad>
     ensures { Gives (λ ids. ids) result (parent_at root.now (json v.now) (place_of way.now)) }
 {
     match v.as_str() {

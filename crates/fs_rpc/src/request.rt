@@ -4,8 +4,8 @@ ghost use Rattle.std.specs.Prelude.{◌≡◌, IfOk};
 use crate::id::copy_id;
 use crate::options::TransactionOptions;
 use crate::when::When;
-use fs_path::{DocName, Names, Paths, Root, Text};
-use fs_query::Query;
+use fs_path::{Bytes, DocName, Names, Paths, Root, Text};
+use fs_query::{Query, Target};
 use fs_status::Id;
 use fs_write::Writes;
 use std::alloc::{AllocError, Global};
@@ -52,6 +52,19 @@ pub enum Request {
         database: Root,
         transaction: Id,
     },
+    /// `listen` with `addTarget`: the session listens to a target from here on, by an id of its own. A token that an earlier session was
+    /// given for it resumes it. (`ListenRequest`, `Target`.)
+    AddTarget {
+        database: Root,
+        id: u32,
+        target: Target,
+        token: Option<Bytes>,
+    },
+    /// `listen` with `removeTarget`: the session listens to a target no longer. The number may be no id of a target. (`ListenRequest`.)
+    RemoveTarget {
+        database: Root,
+        id: i32,
+    },
 }
 
 fn copy_mask(alloc: Global, mask: &Option<Paths>) -> Result<Option<Paths>, AllocError>
@@ -59,6 +72,15 @@ fn copy_mask(alloc: Global, mask: &Option<Paths>) -> Result<Option<Paths>, Alloc
 {
     match mask {
         Some(paths) => Ok(Some(paths.copy(alloc)?)),
+        None => Ok(None),
+    }
+}
+
+fn copy_token(alloc: Global, token: &Option<Bytes>) -> Result<Option<Bytes>, AllocError>
+    ensures { IfOk result (λ t. t ≡ token.now) }
+{
+    match token {
+        Some(token) => Ok(Some(token.copy(alloc)?)),
         None => Ok(None),
     }
 }
@@ -113,6 +135,21 @@ impl Request {
             } => Request::Rollback {
                 database: database.copy(alloc)?,
                 transaction: *transaction,
+            },
+            Request::AddTarget {
+                database,
+                id,
+                target,
+                token,
+            } => Request::AddTarget {
+                database: database.copy(alloc)?,
+                token: copy_token(alloc, token)?,
+                target: target.copy(alloc)?,
+                id: *id,
+            },
+            Request::RemoveTarget { database, id } => Request::RemoveTarget {
+                database: database.copy(alloc)?,
+                id: *id,
             },
         })
     }

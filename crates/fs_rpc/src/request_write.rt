@@ -18,11 +18,12 @@ ghost use Rattle.fs_rpc.specs.ValidRequest.{IsRequestOf};
 use crate::id::put_id;
 use crate::list::put_list;
 use crate::names::{
-    BATCH_GET_DOCUMENTS, BEGIN_TRANSACTION, COMMIT, DATABASE, DOCUMENTS, GET_DOCUMENT, MASK, NAME,
-    OPTIONS, PARENT, ROLLBACK, RUN_QUERY, STRUCTURED_QUERY, WRITES,
+    BATCH_GET_DOCUMENTS, BEGIN_TRANSACTION, COMMIT, DATABASE, DOCUMENTS, GET_DOCUMENT, LISTEN,
+    MASK, NAME, OPTIONS, PARENT, ROLLBACK, RUN_QUERY, STRUCTURED_QUERY, WRITES,
 };
 use crate::options::{TransactionOptions, write_options};
 use crate::request::{Envelope, Request};
+use crate::targets_write::{write_listen_add, write_listen_remove};
 use crate::transaction::put_transaction;
 use crate::when::{When, put_when};
 use fs_path::{DocName, Paths, Root, Scope, Text, print_database, print_document, print_parent};
@@ -69,6 +70,8 @@ fn method_of(request: &Request) -> &'static str
         Request::RunQuery { .. } => RUN_QUERY,
         Request::BeginTransaction { .. } => BEGIN_TRANSACTION,
         Request::Rollback { .. } => ROLLBACK,
+        Request::AddTarget { .. } => LISTEN,
+        Request::RemoveTarget { .. } => LISTEN,
     }
 }
 
@@ -100,6 +103,13 @@ fn write_content(alloc: Global, request: &Request) -> Result<Value, AllocError>
             database,
             transaction,
         } => write_rollback(alloc, database, *transaction),
+        Request::AddTarget {
+            database,
+            id,
+            target,
+            token,
+        } => write_listen_add(alloc, database, *id, target, token),
+        Request::RemoveTarget { database, id } => write_listen_remove(alloc, database, *id),
     }
 }
 
@@ -187,7 +197,7 @@ fn write_batch_get(
     Ok(Value::Object(members))
 }
 
-fn write_names(alloc: Global, names: &[DocName]) -> Result<Vec<Value>, AllocError>
+pub(crate) fn write_names(alloc: Global, names: &[DocName]) -> Result<Vec<Value>, AllocError>
     ensures { IfOk result (λ l. items_view l.items ≡ names_json names.now) }
 {
     let mut items = Vec::with_capacity(alloc, names.len())?;
@@ -240,7 +250,7 @@ fn write_run_query(
     Ok(Value::Object(members))
 }
 
-fn query_value(alloc: Global, query: &Query) -> Result<Value, AllocError>
+pub(crate) fn query_value(alloc: Global, query: &Query) -> Result<Value, AllocError>
     ensures value { IfOk result (λ v. json v ≡ query_json query.now) }
     ensures held { OnOk result (IsQueryHeld query.now) }
 {
@@ -248,7 +258,11 @@ fn query_value(alloc: Global, query: &Query) -> Result<Value, AllocError>
 }
 
 /// The parent of a query's collections. It isn't part of the query's own JSON.
-fn parent_value(alloc: Global, database: &Root, scope: &Scope) -> Result<Value, AllocError>
+pub(crate) fn parent_value(
+    alloc: Global,
+    database: &Root,
+    scope: &Scope,
+) -> Result<Value, AllocError>
     ensures { IfOk result (λ v. json v ≡ parent_json database.now scope.now) }
 {
     let parent = print_parent(alloc, database, scope.parent())?;
@@ -284,7 +298,7 @@ fn write_rollback(alloc: Global, database: &Root, transaction: Id) -> Result<Val
     Ok(Value::Object(members))
 }
 
-fn database_value(alloc: Global, database: &Root) -> Result<Value, AllocError>
+pub(crate) fn database_value(alloc: Global, database: &Root) -> Result<Value, AllocError>
     ensures { IfOk result (λ v. json v ≡ database_json database.now) }
 {
     Ok(Value::String(print_database(alloc, database)?.into_string()))

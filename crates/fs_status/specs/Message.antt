@@ -1,5 +1,6 @@
 -- The messages of refusals.
 use Rattle.std.specs.Prelude.{ℕ, ℤ, Option, Some, None, List, ◌++◌, codes, decimal}
+use Rattle.std.specs.Fmt.{signed_decimal}
 use Rattle.fs_path.specs.declared.place.Rule.{Rule}
 use Rattle.fs_path.specs.declared.place.Rule.TheVariants.{G, T, P, E, Q}
 use Rattle.fs_time.specs.Rfc3339.{time_text}
@@ -38,6 +39,10 @@ update_time_text write None = write_text write (codes "update time is none")
 abbrev pub read_time_text : ℤ → List ℕ → ℤ → List ℕ
 read_time_text time side bound = codes "read time " ++ time_text time ++ (codes " is " ++ (side ++ (codes " " ++ time_text bound)))
 
+-- the time that a resume token shows, and the latest that can be read
+abbrev pub token_ahead_text : ℤ → ℤ → List ℕ
+token_ahead_text time released = codes "token time " ++ time_text time ++ (codes " is after " ++ time_text released)
+
 -- what is told of a transaction, which is named by its number
 abbrev pub transaction_text : ℕ → List ℕ → List ℕ
 transaction_text n what = codes "transaction " ++ decimal n ++ (codes " " ++ what)
@@ -60,6 +65,12 @@ message_text (reasons.NotOpen n) = transaction_text n (codes "is not open")
 message_text (reasons.Expired n since now) = transaction_text n (expired_text since now)
 message_text (reasons.ReadOnly n) = transaction_text n (codes "is read-only")
 message_text (reasons.Conflict n) = codes "conflict with " ++ decimal n
+message_text (reasons.TokenLength n) = codes "token length " ++ decimal n
+message_text reasons.TokenMark = codes "token mark"
+message_text reasons.TokenTime = codes "token time"
+message_text (reasons.TokenAhead time released) = token_ahead_text time released
+message_text (reasons.TargetInUse n) = codes "target " ++ decimal n ++ codes " in use"
+message_text (reasons.TargetUnknown n) = codes "target " ++ signed_decimal n ++ codes " unknown"
 message_text (reasons.AtLimit name number) = codes "limit " ++ name ++ (codes " " ++ decimal number)
 message_text (reasons.Method name) = codes "method " ++ name
 message_text (reasons.Line line) = line_text line

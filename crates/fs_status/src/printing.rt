@@ -1,6 +1,6 @@
 //! The messages of refusals.
 ghost use Rattle.std.specs.Prelude.{◌≡◌, IfOk, string_bytes};
-ghost use Rattle.fs_status.specs.Message.{message_text, expired_text, line_text, numbered_text, read_time_text, rule_text, transaction_text, update_time_text, write_text};
+ghost use Rattle.fs_status.specs.Message.{message_text, expired_text, line_text, numbered_text, read_time_text, rule_text, token_ahead_text, transaction_text, update_time_text, write_text};
 
 use crate::id::Id;
 use crate::reason::{LineFault, Reason};
@@ -49,6 +49,12 @@ fn reason_text(alloc: Global, reason: &Reason) -> Result<String, AllocError>
             let with = with.get();
             format!(in alloc; "conflict with {with}")
         }
+        Reason::TokenLength(bytes) => format!(in alloc; "token length {bytes}"),
+        Reason::TokenMark => String::from_str(alloc, "token mark"),
+        Reason::TokenTime => String::from_str(alloc, "token time"),
+        Reason::TokenAhead(time, released) => token_ahead_text(alloc, *time, *released),
+        Reason::TargetInUse(target) => format!(in alloc; "target {target} in use"),
+        Reason::TargetUnknown(target) => format!(in alloc; "target {target} unknown"),
         Reason::AtLimit(name, number) => {
             let name = name.as_str();
             format!(in alloc; "limit {name} {number}")
@@ -96,6 +102,16 @@ fn read_time_text(
     let bound = print(alloc, bound)?;
     let (time, bound) = (time.as_str(), bound.as_str());
     format!(in alloc; "read time {time} is {side} {bound}")
+}
+
+// The time that a resume token shows, and the latest that can be read.
+fn token_ahead_text(alloc: Global, time: Micros, released: Micros) -> Result<String, AllocError>
+    ensures { IfOk result (λ s. string_bytes s ≡ token_ahead_text time released) }
+{
+    let time = print(alloc, time)?;
+    let released = print(alloc, released)?;
+    let (time, released) = (time.as_str(), released.as_str());
+    format!(in alloc; "token time {time} is after {released}")
 }
 
 // What is told of a transaction, which is named by its number.

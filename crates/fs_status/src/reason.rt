@@ -37,6 +37,18 @@ pub enum Reason {
     ReadOnly(Id),
     /// The transaction conflicts with the commit or the transaction of this number, the least of several, and is aborted.
     Conflict(Id),
+    /// The resume token has so many bytes, and not 12.
+    TokenLength(u64),
+    /// The resume token doesn't begin as one.
+    TokenMark,
+    /// The resume token shows no moment.
+    TokenTime,
+    /// The time that the resume token shows, and the latest time that can be read by now.
+    TokenAhead(Micros, Micros),
+    /// The session has a target of this id.
+    TargetInUse(u32),
+    /// The session has no target of this number, which may be no id.
+    TargetUnknown(i64),
     /// A limit by its name, with the number that it allows.
     AtLimit(Text, u64),
     /// A method or a member that isn't served, by its name.
@@ -75,6 +87,12 @@ impl Reason {
             Reason::Expired(_, _, _) => Code::InvalidArgument,
             Reason::ReadOnly(_) => Code::InvalidArgument,
             Reason::Conflict(_) => Code::Aborted,
+            Reason::TokenLength(_) => Code::InvalidArgument,
+            Reason::TokenMark => Code::InvalidArgument,
+            Reason::TokenTime => Code::InvalidArgument,
+            Reason::TokenAhead(_, _) => Code::InvalidArgument,
+            Reason::TargetInUse(_) => Code::InvalidArgument,
+            Reason::TargetUnknown(_) => Code::InvalidArgument,
             Reason::AtLimit(_, _) => Code::ResourceExhausted,
             Reason::Method(_) => Code::Unimplemented,
             Reason::Line(_) => Code::InvalidArgument,
@@ -113,6 +131,12 @@ impl Reason {
             Reason::Expired(transaction, since, now) => Reason::Expired(*transaction, *since, *now),
             Reason::ReadOnly(transaction) => Reason::ReadOnly(*transaction),
             Reason::Conflict(with) => Reason::Conflict(*with),
+            Reason::TokenLength(bytes) => Reason::TokenLength(*bytes),
+            Reason::TokenMark => Reason::TokenMark,
+            Reason::TokenTime => Reason::TokenTime,
+            Reason::TokenAhead(time, released) => Reason::TokenAhead(*time, *released),
+            Reason::TargetInUse(target) => Reason::TargetInUse(*target),
+            Reason::TargetUnknown(target) => Reason::TargetUnknown(*target),
             Reason::AtLimit(name, number) => Reason::AtLimit(name.copy(alloc)?, *number),
             Reason::Method(name) => Reason::Method(name.copy(alloc)?),
             Reason::Line(line) => Reason::Line(*line),

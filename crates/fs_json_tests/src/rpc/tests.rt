@@ -1,6 +1,9 @@
 //! The tables, line by line.
 use crate::made::Make;
-use crate::rpc::{listen_tables as listen, message_tables as messages, request_tables as requests};
+use crate::rpc::{
+    listen_tables as listen, message_tables as messages, request_tables as requests,
+    target_tables as targets,
+};
 use crate::table::holds;
 
 // What the short forms of a line stand for, in the order in which they are spelled out.
@@ -54,6 +57,16 @@ fn documents_are_read_as_of_a_time(rt: HostRuntime) {
 fn transactions_are_read_and_written(rt: HostRuntime) {
     holds(&rt, Make::Request, &SHORT, requests::TRANSACTIONS);
     holds(&rt, Make::Transaction, &[], requests::NUMBERS);
+}
+
+#[test]
+fn targets_are_read_and_written(rt: HostRuntime) {
+    holds(&rt, Make::Request, &SHORT, targets::ASKED);
+}
+
+#[test]
+fn the_first_fault_of_a_target_is_told(rt: HostRuntime) {
+    holds(&rt, Make::Request, &SHORT, targets::REFUSED);
 }
 
 #[test]

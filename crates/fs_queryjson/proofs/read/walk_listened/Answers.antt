@@ -1,0 +1,16 @@
+use Rattle.std.proofs.Common.{Err, sym, subst, ◌∙◌}
+use Rattle.fs_path.specs.Way.{place_of}
+use Rattle.serde_json.specs.View.{view as json}
+use Rattle.fs_json.specs.Answer.{Gives}
+use Rattle.fs_query.specs.Asked.{Asked}
+use Rattle.fs_queryjson.proofs.Walks.{listened_same, passed_on}
+use Rattle.fs_queryjson.proofs.read.walk_listened.Goals as goal
+
+pub returns-in-Ok : goal.returns-in-Ok
+returns-in-Ok c =
+    sym (listened_same c.whole-query.result c.args.parent.now (json c.args.v.now) (place_of c.args.way.now) c.whole-query.ensures.select c.whole-query.ensures.offset) ∙ c.in-Ok.ensures
+
+pub returns-in-Err : goal.returns-in-Err
+returns-in-Err c =
+    subst (λ r. Gives {X = Asked} (λ q. q) (Err c.in-Err.bad) r)
+    (listened_same c.whole-query.result c.args.parent.now (json c.args.v.now) (place_of c.args.way.now) c.whole-query.ensures.select c.whole-query.ensures.offset) (passed_on {X = Unit {0}} {Y = Asked} (λ u. c.listen_into.new.query) (λ q. q) c.in-Err.bad _ c.in-Err.ensures)

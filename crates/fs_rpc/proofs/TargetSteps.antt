@@ -1,0 +1,26 @@
+-- How a query that is listened to is read, once its parent is, and what is read of a request whose target is permitted.
+use Rattle.std.proofs.Common.{◌≡◌, ℕ, List, Result, Ok, Err, codes, refl, ap}
+use Rattle.serde_json.specs.Data.{Data}
+use Rattle.fs_path.specs.Place.{member_place}
+use Rattle.fs_path.specs.declared.name.Root.{Root}
+use Rattle.fs_json.specs.Answer.{Gives, made}
+use Rattle.fs_json.specs.Members.{only_at, required_at}
+use Rattle.fs_json.specs.declared.bad.Bad.{Bad}
+use Rattle.fs_json.specs.declared.bad.Bad.TheVariants.{At, Method, Memory}
+use Rattle.fs_query.specs.declared.target.Target.TheVariants as target
+use Rattle.fs_queryjson.specs.Query.{listened_at}
+use Rattle.fs_rpc.specs.ReadTargets.{query_target_at, query_target_members}
+use Rattle.fs_rpc.specs.Requests.{parent_at}
+
+pub query_steps : (root : Root) (d name s : Data) (place : List ℕ) (parent : List (List ℕ)) → only_at query_target_members d place ≡ Ok tt → required_at (codes "parent") d place ≡ Ok name
+    → parent_at root name (member_place place (codes "parent")) ≡ Ok parent → required_at (codes "structuredQuery") d place ≡ Ok s
+    → query_target_at root d place ≡ made target.Query (listened_at parent s (member_place place (codes "structuredQuery")))
+unfolding query_target_at
+query_steps root d name s place parent known named is there = rw (known, named, is, there) refl
+
+-- what is answered where something was read is answered where something is made of it
+pub made_gives : {X Y Z : Type 0} (make : Y → Z) (y : Y) (answer : Result X Bad) (reading : Result Y Bad) → Gives (λ u. y) answer reading → Gives (λ u. make y) answer (made make reading)
+made_gives make y (Ok x) reading gives = ap (made make) gives
+made_gives make y (Err (At rule place)) reading gives = ap (made make) gives
+made_gives make y (Err (Method name)) reading gives = ap (made make) gives
+made_gives make y (Err (Memory e)) reading gives = record {}
