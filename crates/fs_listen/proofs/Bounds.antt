@@ -7,7 +7,7 @@ use Rattle.fs_time.proofs.Tests.{at_most}
 use Rattle.fs_listen.specs.Cuts.{cut_behind, first_loading, greatest, greater_of, is_from, is_loaded, least, lesser_of}
 use Rattle.fs_listen.specs.Listening.{Listened, has_shard, later_of}
 use Rattle.fs_listen.specs.declared.cut.Cut.TheVariants.{At}
-use Rattle.fs_listen.specs.declared.target.Target.{Target}
+use Rattle.fs_query.specs.declared.target.Target.{Target}
 
 -- times that may be there, none above a bound
 abbrev pub AreBy : ℤ → List (Option ℤ) → Type 0

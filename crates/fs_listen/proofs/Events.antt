@@ -13,6 +13,7 @@ use Rattle.fs_time.proofs.Tests.{after as is_after, through}
 use Rattle.fs_path.proofs.Bools.{to_true}
 use Rattle.fs_path.specs.NameOrder.{name_cmp}
 use Rattle.fs_path.specs.declared.name.DocName.{DocName}
+use Rattle.fs_query.specs.declared.listen.Cause.{Cause}
 use Rattle.fs_query.specs.declared.listen.ListenMessage.{ListenMessage}
 use Rattle.fs_query.specs.declared.listen.ListenMessage.TheVariants as message
 use Rattle.fs_value.specs.declared.document.Document.{Document}
@@ -27,12 +28,12 @@ use Rattle.fs_listen.specs.Gathered.{NeverFalls, ended_at, gathered, is_in, rais
 use Rattle.fs_listen.specs.Laws.{IsOneTime, gathered_of}
 use Rattle.fs_listen.specs.Listening.{Loaded, Listened, Listening, added, loaded_at, loaded_one, made_current, matched, moved, raised_to, removed, with_loaded}
 use Rattle.fs_listen.specs.Raised.{raised, sent_time, sent_view, stands_at, views_of}
-use Rattle.fs_listen.specs.Runs.{Event, World, adds, removes, loads, matches, raises, releases, compacts, May, MayAll, after, after_all, begun, is_lost, raising_at, reset_of, token_of_target}
+use Rattle.fs_listen.specs.Runs.{Event, World, adds, refuses, removes, loads, matches, raises, releases, compacts, May, MayAll, after, after_all, begun, is_lost, raising_at, reset_of, token_of_target}
 use Rattle.fs_listen.specs.Told.{Views}
 use Rattle.fs_listen.specs.View.{shown_names, view, view_at}
 use Rattle.fs_listen.specs.declared.cut.Cut.{Cut}
 use Rattle.fs_listen.specs.declared.cut.Cut.TheVariants.{At, Loading, NoTarget}
-use Rattle.fs_listen.specs.declared.target.Target.{Target}
+use Rattle.fs_query.specs.declared.target.Target.{Target}
 use Rattle.fs_listen.proofs.Bounds.{AreBy, at_positions, by_append, by_later, cut_is, from_first, least_within, none_loading, set_within}
 use Rattle.fs_listen.proofs.Listed.{at_found, from_found, number_is, other_number, same_itself}
 use Rattle.fs_listen.proofs.Sending.{all_later, by_with, ended_with, falls_with, sent_ends, sent_tells, sent_times, times, times_with}
@@ -118,6 +119,27 @@ adding id t token w is by = record {
   within : (q : ℕ) (l : Listened) (same : Bool) → cond same (Some new) (get w.listening.targets q) ≡ Some l → IsWithin w.released l
   within q l true found = let one : new ≡ l = cc in subst (IsWithin w.released) one (by, tt)
   within q l false found = is.within q l found
+
+-- ---- refusing
+
+refusing : (id : ℕ) (cause : Cause) (w : World) → IsTold w → get w.listening.targets id ≡ None
+    → IsTold (record w { said = w.said ++ message.Remove (id ∷ []) (Some cause) ∷ [] })
+refusing id cause w is absent = record {
+  told = λ q l found name. told q l name (eq_by_cmp nat_cmp q id) refl found;
+  within = is.within;
+  raised = is.raised;
+  ends = λ time ended. absurd (let none = sym (ended_with w.said (message.Remove (id ∷ []) (Some cause))) ∙ ended in cc);
+  falls = subst NeverFalls (sym (times_with w.said (message.Remove (id ∷ []) (Some cause)) refl)) is.falls;
+  up_to = subst (AreUpTo w.listening.raised) (sym (times_with w.said (message.Remove (id ∷ []) (Some cause)) refl)) is.up_to;
+} where
+  told : (q : ℕ) (l : Listened) (name : DocName) (same : Bool) → eq_by_cmp nat_cmp q id ≡ same → get w.listening.targets q ≡ Some l
+      → gathered_of w.history q l (w.said ++ message.Remove (id ∷ []) (Some cause) ∷ []) name ≡ get (view_at l.target w.history (sent_time w.listening.raised l.token l.loaded)) name
+  told q l name true ties found = absurd (let none = ap (get w.listening.targets) (number_is q id ties) ∙ absent in cc)
+  told q l name false ties found =
+      let start = get (view_at l.target w.history l.token) name in
+      gathered-append q name start w.said (message.Remove (id ∷ []) (Some cause) ∷ []) None
+      ∙ ap (λ b. cond b None (gathered q name start w.said None)) (other_one q id ties)
+      ∙ is.told q l found name
 
 -- ---- removing
 
@@ -411,6 +433,7 @@ module _ (own_names : (h : List Batch) (t : ℤ) → AreNamed (at h t)) (shards 
 
   keeps : (e : Event) (w : World) → IsTold w → May e w → IsTold (after shards e w)
   keeps (adds id t token) w is may = adding id t token w is may.1
+  keeps (refuses id cause) w is may = refusing id cause w is may
   keeps (removes id) w is may = removing id w is
   keeps (loads id time) w is may = load_keeps shards id time w (get w.listening.targets id) refl is may.0 may.2
   keeps (matches shard to) w is may = match_keeps shard to w is may

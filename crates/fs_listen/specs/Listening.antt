@@ -18,8 +18,8 @@ use Rattle.std.specs.Ordering.{nat_cmp}
 use Rattle.std.specs.FinMap.{FinMap, empty, entries, get, insert, remove, from_entries}
 use Rattle.std.specs.List.{list_any, range_with_len}
 use Rattle.fs_path.specs.Scope.{in_shard, scope_id}
-use Rattle.fs_listen.specs.declared.target.Target.{Target}
-use Rattle.fs_listen.specs.declared.target.Target.TheVariants as target
+use Rattle.fs_query.specs.declared.target.Target.{Target}
+use Rattle.fs_query.specs.declared.target.Target.TheVariants as target
 
 -- what a target that is loaded is at
 pub record Loaded : Type 0 where

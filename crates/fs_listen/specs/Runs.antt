@@ -12,6 +12,7 @@
 use Rattle.std.specs.Prelude.{◌≡◌, ℕ, ℤ, int_lt, ◌<ℤ◌, ◌≤ℤ◌, ⊤, Bool, false, List, [], ◌∷◌, ◌++◌, Option, Some, None, IfSome, if◌then◌else◌}
 use Rattle.std.specs.FinMap.{get}
 use Rattle.std.specs.List.{AllByRecursion}
+use Rattle.fs_query.specs.declared.listen.Cause.{Cause}
 use Rattle.fs_query.specs.declared.listen.ListenMessage.{ListenMessage}
 use Rattle.fs_query.specs.declared.listen.ListenMessage.TheVariants as message
 use Rattle.fs_history.specs.declared.batch.Batch.{Batch}
@@ -20,7 +21,7 @@ use Rattle.fs_listen.specs.Listening.{Listened, Listening, none_listened, added,
 use Rattle.fs_listen.specs.Raised.{raised}
 use Rattle.fs_listen.specs.declared.cut.Cut.{Cut}
 use Rattle.fs_listen.specs.declared.cut.Cut.TheVariants.{At, Loading, NoTarget}
-use Rattle.fs_listen.specs.declared.target.Target.{Target}
+use Rattle.fs_query.specs.declared.target.Target.{Target}
 
 pub record World : Type 0 where
   pub history : List Batch
@@ -34,6 +35,8 @@ pub record World : Type 0 where
 
 pub data Event : Type 0 where
   adds : ℕ → Target → Option ℤ → Event
+  -- a target that isn't there is refused
+  refuses : ℕ → Cause → Event
   removes : ℕ → Event
   loads : ℕ → ℤ → Event
   matches : ℕ → ℤ → Event
@@ -71,6 +74,7 @@ raising w = raising_at (is_ready w.listening) (cut w.listening) w
 
 abbrev pub after : ℕ → Event → World → World
 after shards (adds id t token) w = with_told (added id t token w.listening) (message.Add (id ∷ []) ∷ []) w
+after shards (refuses id cause) w = record w { said = w.said ++ message.Remove (id ∷ []) (Some cause) ∷ [] }
 after shards (removes id) w = with_told (removed id w.listening) (message.Remove (id ∷ []) None ∷ []) w
 after shards (loads id time) w = loading shards id time (is_lost w.floor (token_of_target (get w.listening.targets id))) w
 after shards (matches shard to) w = record w { listening = matched shard to w.listening }
@@ -86,6 +90,7 @@ IsNotLoaded l = IfSome l (λ l. l.loaded ≡ None)
 -- a token is of a time that was released, a target is loaded at one, and a shard is matched up to one; what is released is later
 abbrev pub May : Event → World → Type 0
 May (adds id t token) w = (get w.listening.targets id ≡ None) × IfSome token (λ k. k ≤ℤ w.released)
+May (refuses id cause) w = get w.listening.targets id ≡ None
 May (removes id) w = ⊤
 May (loads id time) w = IsNotLoaded (get w.listening.targets id) × (w.floor ≤ℤ time) × (time ≤ℤ w.released)
 May (matches shard to) w = to ≤ℤ w.released

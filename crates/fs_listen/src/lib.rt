@@ -4,8 +4,8 @@
 
 mod cut;
 mod laws;
-mod target;
+mod whole;
 
 pub use cut::Cut;
 pub use laws::listening_is_lawful;
-pub use target::Target;
+pub use whole::is_whole;

@@ -1,6 +1,5 @@
 -- What passes a test is a stretch of a list.
 use Rattle.std.proofs.Common.{◌≡◌, ℕ, zero, suc, ◌-◌, ◌<◌, ◌≤◌, Bool, true, false, cond, List, [], ◌∷◌, length, take, drop, get_or, refl, sym, ap, ◌∙◌, arith}
-use Rattle.std.specs.Prelude.{◌&&◌}
 use Rattle.std.specs.List.{filter}
 
 module _ {X : Type 0} (p : X → Bool) where
@@ -33,14 +32,6 @@ module _ {X : Type 0} (p : X → Bool) where
 -- ---- one test and another
 
 module _ {X : Type 0} (p q : X → Bool) where
-  twice_next : (x : X) (xs : List X) (a b : Bool) → p x ≡ a → q x ≡ b → filter p (filter q xs) ≡ filter (λ y. q y && p y) xs → filter p (cond b (x ∷ filter q xs) (filter q xs)) ≡ cond (b && a) (x ∷ filter (λ y. q y && p y) xs) (filter (λ y. q y && p y) xs)
-  twice_next x xs a true is so same = ap (λ c. cond c (x ∷ filter p (filter q xs)) (filter p (filter q xs))) is ∙ ap (λ ys. cond a (x ∷ ys) ys) same
-  twice_next x xs a false is so same = same
-
-  pub filter_twice : (xs : List X) → filter p (filter q xs) ≡ filter (λ y. q y && p y) xs
-  filter_twice [] = refl
-  filter_twice (x ∷ xs) = twice_next x xs (p x) (q x) refl refl (filter_twice xs)
-
   pub filter_alike : (xs : List X) → ((x : X) → p x ≡ q x) → filter p xs ≡ filter q xs
   filter_alike [] same = refl
   filter_alike (x ∷ xs) same = ap (λ b. cond b (x ∷ filter p xs) (filter p xs)) (same x) ∙ ap (λ ys. cond (q x) (x ∷ ys) ys) (filter_alike xs same)

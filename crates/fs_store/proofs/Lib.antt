@@ -1,7 +1,9 @@
 pub mod Absorbing
+pub mod Answered
 pub mod Filters
 pub mod Fitting
 pub mod Holding
+pub mod InScope
 pub mod Installing
 pub mod Listing
 pub mod Logging
@@ -10,4 +12,5 @@ pub mod Noting
 pub mod Ordered
 pub mod Places
 pub mod Rooms
+pub mod Standing
 pub mod Telling

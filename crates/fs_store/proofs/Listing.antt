@@ -30,16 +30,16 @@ use Rattle.fs_versions.specs.Listed.{all_shown, documents_at, documents_in}
 use Rattle.fs_versions.proofs.Cutting.{all_reverse}
 use Rattle.fs_store.specs.Held.{AreNamed}
 
-abbrev Tree : Type 0
+abbrev pub Tree : Type 0
 Tree = List (DocName × List Version)
 
 -- ---- the document that an entry shows bears its name
 
-abbrev ShowsNamed : ℤ → Tree → Type 0
+abbrev pub ShowsNamed : ℤ → Tree → Type 0
 ShowsNamed t [] = ⊤
 ShowsNamed t (e ∷ es) = Bears (shown_at t e.1) e.0 × ShowsNamed t es
 
-bears_shown : (t : ℤ) (q : DocName) (vs : List Version) → All (λ w. Bears w.after q) vs → Bears (shown t vs) q
+pub bears_shown : (t : ℤ) (q : DocName) (vs : List Version) → All (λ w. Bears w.after q) vs → Bears (shown t vs) q
 bears_shown t q [] named = tt
 bears_shown t q (v ∷ vs) named =
     elim (int_le v.time t) as (λ b. Bears (cond b v.after (shown t vs)) q) [
@@ -79,7 +79,7 @@ module _ (v : Chains) (t : ℤ) (named : AreNamed v) where
   entries_rise : IsTrue (is_sorted name_cmp (entries v.by_name))
   entries_rise = to_true _ (entries_sorted v.by_name)
 
-  entries_named : ShowsNamed t (entries v.by_name)
+  pub entries_named : ShowsNamed t (entries v.by_name)
   entries_named =
       shows_named t (entries v.by_name) entries_rise
       (λ q. subst (λ o. All (λ w. Bears w.after q) (unwrap_or o [])) (get-entries v.by_name q) (named q))
@@ -101,7 +101,7 @@ rise_with name None ds bears below rise = rise
 rise_with name (Some d) ds bears below rise =
     and_from (below_all name_cmp d.name (by_name ds)) _ (subst (λ n. IsTrue (below_all name_cmp n (by_name ds))) (sym bears) below) rise
 
-shown_rise : (t : ℤ) (es : Tree) → ShowsNamed t es → IsTrue (is_sorted name_cmp es) → IsTrue (is_sorted name_cmp (by_name (all_shown t es)))
+pub shown_rise : (t : ℤ) (es : Tree) → ShowsNamed t es → IsTrue (is_sorted name_cmp es) → IsTrue (is_sorted name_cmp (by_name (all_shown t es)))
 shown_rise t [] named rise = refl
 shown_rise t (e ∷ es) named rise =
     rise_with e.0 (shown_at t e.1) (all_shown t es) named.0

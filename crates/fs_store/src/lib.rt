@@ -3,6 +3,7 @@
 
 mod absorb;
 mod fits;
+mod listened;
 mod log;
 mod logs;
 mod noted;

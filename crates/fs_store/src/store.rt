@@ -4,13 +4,14 @@ ghost use Rattle.fs_store.specs.Changes.{later};
 
 use crate::absorb::{count_changes, install_all, make_room};
 use crate::fits::{are_next, times_rise};
+use crate::listened::{listened, view};
 use crate::logs::Logs;
 use crate::noted::Noted;
 use crate::release::Release;
 use crate::told::commits_told;
 use fs_edge::Steps;
 use fs_path::DocName;
-use fs_query::{Query, answer_among};
+use fs_query::{Query, Target, answer_among};
 use fs_time::Micros;
 use fs_value::{Document, Documents};
 use fs_versions::{Version, Versions};
@@ -67,16 +68,21 @@ impl Model for Store {
 
 impl Store {
     ghost use Rattle.std.specs.Prelude.{◌≡◌, ◌↔◌, ◌<◌, ◌≤ℤ◌, List, [], ◌∷◌, IsTrue, IsNone, IfOk, IfSome, OnOk, OnErr, length};
-    ghost use Rattle.std.specs.FinMap.{get, values};
+    ghost use Rattle.std.specs.FinMap.{get, is_sorted, values};
     ghost use Rattle.std.specs.Option.{option_copied};
     ghost use Rattle.fs_history.specs.History.{at};
     ghost use Rattle.fs_history.specs.declared.batch.Batch.{Batch};
+    ghost use Rattle.fs_listen.specs.View.{is_listened, view};
+    ghost use Rattle.fs_match.specs.Followed.{docs_fitting};
+    ghost use Rattle.fs_path.specs.NameOrder.{name_cmp};
     ghost use Rattle.fs_path.specs.Scope.{in_shard, AreShards};
     ghost use Rattle.fs_query.specs.Answer.{IsAnswer};
+    ghost use Rattle.fs_value.specs.Named.{by_name};
     ghost use Rattle.fs_versions.specs.Chain.{shown_at};
     ghost use Rattle.fs_versions.specs.Chains.{chain_of};
     ghost use Rattle.fs_versions.specs.Listed.{documents_at};
     ghost use Rattle.fs_versions.specs.Room.{HasRoom, KeepsRoom};
+    ghost use Rattle.fs_write.specs.Batch.{docs_of};
     ghost use Rattle.fs_history.specs.Brings.{AreChangesIn, Brings};
     ghost use Rattle.fs_store.specs.Changes.{changes_in, later};
     ghost use Rattle.fs_store.specs.Events.{store_of};
@@ -154,6 +160,41 @@ impl Store {
     {
         let documents = self.versions.documents_in(alloc, &q.scope, time)?;
         answer_among(alloc, q, documents.as_slice())
+    }
+
+    /// All documents that a target listens to at a time that can be read, by rising names: those that fit its query, cursors, offset and
+    /// limit aside, or those that there are of its names. It looks at the documents in the query's scope, or at those of the names, and
+    /// copies only those that it gives, which share their fields with those here.
+    pub fn listened(
+        &self,
+        alloc: Global,
+        target: &Target,
+        time: Micros,
+    ) -> Result<Documents, AllocError>
+        requires from { self.now.stored.chains.floor ≤ℤ time }
+        requires to { time ≤ℤ self.now.stored.absorbed }
+        ensures sorted { IfOk result (λ ds. IsTrue (is_sorted name_cmp (by_name ds))) }
+        ensures shows { IfOk result (λ ds. (h : List Batch) → Shows h self.now.stored
+            → docs_of ds ≡ docs_fitting (is_listened target.now) (at h time)) }
+    {
+        listened(alloc, &self.versions, target, time)
+    }
+
+    /// The view of a target at a time that can be read, by rising names: the answer to its query, or the documents that there are of its
+    /// names. It looks at no more than `listened`, and copies only what the view has. (v1 reference, `Target`.)
+    /// (docs/DECISIONS.md, "A view is made from what is answered".)
+    pub fn view(
+        &self,
+        alloc: Global,
+        target: &Target,
+        time: Micros,
+    ) -> Result<Documents, AllocError>
+        requires from { self.now.stored.chains.floor ≤ℤ time }
+        requires to { time ≤ℤ self.now.stored.absorbed }
+        ensures sorted { IfOk result (λ ds. IsTrue (is_sorted name_cmp (by_name ds))) }
+        ensures shows { IfOk result (λ ds. (h : List Batch) → Shows h self.now.stored → docs_of ds ≡ view target.now (at h time)) }
+    {
+        view(alloc, &self.versions, target, time)
     }
 
     /// The chain of a name: its versions, by rising time, and `None` where there are none.

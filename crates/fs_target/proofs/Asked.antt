@@ -8,8 +8,9 @@ use Rattle.std.proofs.lemmas.Bool.Decides.{nat_tests}
 use Rattle.std.proofs.lemmas.List.{length-map}
 use Rattle.std.proofs.lemmas.Simd.{map-map}
 use Rattle.fs_listen.specs.Listening.{Listened}
+use Rattle.fs_target.specs.Entries.{IsAbsentAt, IsThereAt, Rises, found, ids_of}
 use Rattle.fs_target.specs.Held.{Held, refusal}
-use Rattle.fs_target.specs.Seen.{IsAbsentAt, IsThereAt, Rises, Seen, found, held_of, ids_of, listed_in, listening_of, seen}
+use Rattle.fs_target.specs.Seen.{Seen, held_of, listed_in, listening_of, seen}
 use Rattle.fs_target.specs.declared.entry.Entry.{Entry}
 use Rattle.fs_target.specs.declared.error.TargetError.{TargetError}
 use Rattle.fs_target.specs.declared.error.TargetError.TheVariants as error
@@ -44,7 +45,7 @@ module _ (shards limit : ℕ) (raised : Option ℤ) (id : ℕ) (ss : List Seen) 
   abbrev held : Held
   held = held_of shards limit raised ss
 
-  len_is : Rises ss → len held.listening.targets ≡ length ss
+  pub len_is : Rises ss → len held.listening.targets ≡ length ss
   len_is rise =
       len-entries held.listening.targets ∙ ap length (entries_of (λ (s : Seen). s.listened) ss rise) ∙ length-map ss listed_in
 

@@ -14,7 +14,7 @@ use Rattle.fs_history.specs.declared.batch.Batch.{Batch}
 use Rattle.fs_match.specs.Followed.{docs_fitting}
 use Rattle.fs_listen.specs.Listening.{Listened, Loaded, has_shard, loaded_at, loaded_one, positions_at}
 use Rattle.fs_listen.specs.View.{is_listened, view_at}
-use Rattle.fs_listen.specs.declared.target.Target.{Target}
+use Rattle.fs_query.specs.declared.target.Target.{Target}
 use Rattle.fs_listen.proofs.Listed.{number_is}
 use Rattle.fs_target.specs.Held.{Held, with_loaded, with_target, without_target}
 use Rattle.fs_target.specs.Keeps.{AreWithin, Keeps, KeepsOf, KeepsOne, events_of, is_staged, is_told}
@@ -22,7 +22,7 @@ use Rattle.fs_target.specs.Kept.{Kept}
 use Rattle.fs_target.specs.Laws.{NoneKeep}
 use Rattle.fs_target.specs.declared.event.TimedEvent.{TimedEvent}
 use Rattle.fs_target.proofs.Each.{each_of}
-use Rattle.fs_target.proofs.Filters.{filter_none}
+use Rattle.fs_listen.proofs.Filters.{filter_none}
 use Rattle.fs_target.proofs.Times.{at_index, both_false}
 
 -- ---- none

@@ -26,13 +26,13 @@ use Rattle.fs_history.proofs.Brought.{rising_front}
 use Rattle.fs_match.specs.Event.{event_for}
 use Rattle.fs_listen.specs.Listening.{has_shard}
 use Rattle.fs_listen.specs.View.{is_listened}
-use Rattle.fs_listen.specs.declared.target.Target.{Target}
+use Rattle.fs_query.specs.declared.target.Target.{Target}
 use Rattle.fs_target.specs.Keeps.{event_of, events_of}
 use Rattle.fs_target.specs.Staged.{event_cmp}
 use Rattle.fs_target.specs.declared.event.TimedEvent.{TimedEvent}
 use Rattle.fs_target.proofs.Commits.{IsBetween, changes_between}
 use Rattle.fs_target.proofs.Each.{each_append, each_weaker}
-use Rattle.fs_target.proofs.Filters.{filter_all, filter_none}
+use Rattle.fs_listen.proofs.Filters.{filter_all, filter_none}
 use Rattle.fs_target.proofs.Shards.{event_in_shard, told_at_change}
 
 pub if_told : (P Q : TimedEvent → Type 0) (o : Option TimedEvent) → ((e : TimedEvent) → P e → Q e) → IfSome o P → IfSome o Q

@@ -10,13 +10,14 @@ use Rattle.std.proofs.lemmas.List.Folds.{flat_map-map}
 use Rattle.std.proofs.lemmas.Simd.{map-map}
 use Rattle.fs_listen.specs.Cuts.{base, cut, cut_behind, first_loading, greatest, greatest_before, is_current, is_loaded, least, least_before, least_position, load_time, positions_of, some_new, times_of}
 use Rattle.fs_listen.specs.Listening.{Listened}
-use Rattle.fs_target.specs.Seen.{Rises, Seen, listed_in, listening_of, loaded_in, seen}
+use Rattle.fs_target.specs.Entries.{Rises}
+use Rattle.fs_target.specs.Seen.{Seen, listed_in, listening_of, loaded_in, seen}
 use Rattle.fs_target.specs.declared.entry.Entry.{Entry}
 use Rattle.fs_target.specs.declared.entry.Loaded as entry
 use Rattle.fs_target.proofs.Entries.{entries_of}
 use Rattle.fs_target.proofs.Joined.{greatest_thrice, least-append}
 
-pub loaded_alike : (o : Option entry.Loaded) → is_loaded (option_map loaded_in o) ≡ is_some o
+loaded_alike : (o : Option entry.Loaded) → is_loaded (option_map loaded_in o) ≡ is_some o
 loaded_alike None = refl
 loaded_alike (Some l) = refl
 
@@ -57,12 +58,16 @@ greatest_next e es = greatest_thrice e.token (load_time (option_map loaded_in e.
 listed_values : (ss : List Seen) → Rises ss → values (from_entries {R = nat_cmp} (map listed_in ss)) ≡ map (λ (s : Seen). s.listened) ss
 listed_values ss rise = ap (map (λ (e : ℕ × Listened). e.1)) (entries_of (λ (s : Seen). s.listened) ss rise) ∙ map-map (λ (e : ℕ × Listened). e.1) listed_in ss
 
+pub least_of : (raised : Option ℤ) (es : List Entry) → Rises (map seen es) → least_position (listening_of raised (map seen es)) ≡ least_of_entries es
+least_of raised es rise =
+    ap (λ ls. least (flat_map (λ (l : Listened). positions_of l.loaded) ls)) (listed_values (map seen es) rise)
+    ∙ ap least (flat_map-map (λ (l : Listened). positions_of l.loaded) (λ (s : Seen). s.listened) (map seen es))
+
 pub cut_of : (raised : Option ℤ) (es : List Entry) → Rises (map seen es)
     → cut (listening_of raised (map seen es)) ≡ cut_behind (first_loading (map listed_in (map seen es))) (least_of_entries es)
 cut_of raised es rise =
     ap (λ ts. cut_behind (first_loading ts) (least_position (listening_of raised (map seen es)))) (entries_of (λ (s : Seen). s.listened) (map seen es) rise)
-    ∙ ap (λ ls. cut_behind (first_loading (map listed_in (map seen es))) (least ls))
-    (ap (flat_map (λ (l : Listened). positions_of l.loaded)) (listed_values (map seen es) rise) ∙ flat_map-map (λ (l : Listened). positions_of l.loaded) (λ (s : Seen). s.listened) (map seen es))
+    ∙ ap (cut_behind (first_loading (map listed_in (map seen es)))) (least_of raised es rise)
 
 pub base_of : (raised : Option ℤ) (es : List Entry) → Rises (map seen es)
     → base (listening_of raised (map seen es)) ≡ greatest (raised ∷ flat_map (λ (s : Seen). times_of s.listened) (map seen es))

@@ -1,20 +1,21 @@
 -- What holds of each of a list.
-use Rattle.std.proofs.Common.{◌≡◌, ℕ, zero, suc, ◌<◌, Bool, true, false, cond, List, [], ◌∷◌, ◌++◌, map, length, get_or, Option, Some, refl, arith}
+use Rattle.std.proofs.Common.{◌≡◌, ℕ, zero, suc, ◌+◌, ◌<◌, Bool, true, false, cond, List, [], ◌∷◌, ◌++◌, map, length, get_or, take, refl, sym, subst, arith}
 use Rattle.std.proofs.Math.ListN.{set}
-use Rattle.std.specs.List.{AllByRecursion, cons_option, filter, filter_map}
+use Rattle.std.specs.List.{AllByRecursion, filter, insert as put_in, remove as take_out}
+use Rattle.std.proofs.lemmas.List.{take_more}
 
 -- what is made of each
 pub map_alike : {X Y : Type 0} (f g : X → Y) (xs : List X) → AllByRecursion (λ x. f x ≡ g x) xs → map f xs ≡ map g xs
 map_alike f g [] same = refl
 map_alike f g (x ∷ xs) same = λ i. same.0 i ∷ map_alike f g xs same.1 i
 
-pub filter_map_alike : {X Y : Type 0} (f : X → Option Y) (g : X → Y) (xs : List X) → AllByRecursion (λ x. f x ≡ Some (g x)) xs → filter_map f xs ≡ map g xs
-filter_map_alike f g [] same = refl
-filter_map_alike f g (x ∷ xs) same = λ i. cons_option (same.0 i) (filter_map_alike f g xs same.1 i)
-
 pub each_from_map : {X Y : Type 0} (f : X → Y) (P : Y → Type 0) (Q : X → Type 0) → ((x : X) → P (f x) → Q x) → (xs : List X) → AllByRecursion P (map f xs) → AllByRecursion Q xs
 each_from_map f P Q so [] all = tt
 each_from_map f P Q so (x ∷ xs) all = (so x all.0, each_from_map f P Q so xs all.1)
+
+pub each_in_map : {X Y : Type 0} (f : X → Y) (P : Y → Type 0) → (xs : List X) → AllByRecursion (λ x. P (f x)) xs → AllByRecursion P (map f xs)
+each_in_map f P [] all = tt
+each_in_map f P (x ∷ xs) all = (all.0, each_in_map f P xs all.1)
 
 module _ {X : Type 0} (P : X → Type 0) where
   pub each_push : (xs : List X) (x : X) → AllByRecursion P xs → P x → AllByRecursion P (xs ++ x ∷ [])
@@ -62,3 +63,20 @@ module _ {X : Type 0} (P : X → Type 0) where
   pub each_before : (xs ys : List X) → AllByRecursion P (xs ++ ys) → AllByRecursion P xs
   each_before [] ys all = tt
   each_before (x ∷ xs) ys all = (all.0, each_before xs ys all.1)
+
+  -- one more of those in front
+  pub each_more : (xs : List X) (i : ℕ) (x : X) → i < length xs → x ≡ get_or xs i x → AllByRecursion P (take i xs) → P x → AllByRecursion P (take (i + 1) xs)
+  each_more xs i x low is all here = subst (AllByRecursion P) (sym (take_more xs i x low)) (each_push (take i xs) (get_or xs i x) all (subst P is here))
+
+  -- one more at a place, and one less
+  pub each_insert : (xs : List X) (i : ℕ) (x : X) → AllByRecursion P xs → P x → AllByRecursion P (put_in xs i x)
+  each_insert [] zero x all here = (here, tt)
+  each_insert [] (suc i) x all here = (here, tt)
+  each_insert (y ∷ ys) zero x all here = (here, all)
+  each_insert (y ∷ ys) (suc i) x all here = (all.0, each_insert ys i x all.1 here)
+
+  pub each_remove : (xs : List X) (i : ℕ) → AllByRecursion P xs → AllByRecursion P (take_out xs i)
+  each_remove [] zero all = tt
+  each_remove [] (suc i) all = tt
+  each_remove (x ∷ xs) zero all = all.1
+  each_remove (x ∷ xs) (suc i) all = (all.0, each_remove xs i all.1)

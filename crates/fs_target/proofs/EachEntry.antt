@@ -3,7 +3,8 @@ use Rattle.std.proofs.Common.{◌≡◌, ℕ, List, map, Option, Some, ap, ◌�
 use Rattle.std.specs.FinMap.{find, from_entries, get, get-from_entries}
 use Rattle.std.specs.Ordering.{nat_cmp}
 use Rattle.std.proofs.lemmas.Cmp.{nat_cmp_total}
-use Rattle.fs_target.specs.Seen.{Rises, Seen}
+use Rattle.fs_target.specs.Entries.{Rises}
+use Rattle.fs_target.specs.Seen.{Seen}
 use Rattle.fs_target.proofs.Each.{each_from_map, map_alike}
 use Rattle.fs_target.proofs.Entries.{rising}
 use Rattle.fs_target.proofs.Found.{all_found}

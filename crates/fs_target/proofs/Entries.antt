@@ -18,11 +18,13 @@ use Rattle.fs_path.proofs.Orders.{less_is}
 use Rattle.fs_value.proofs.Places.{map-insert, put-apart, put-tied, put_sorted}
 use Rattle.fs_value.proofs.Search.{find-apart, find-tied, rising_sorted}
 use Rattle.fs_value.proofs.Tree.{entries_rising}
+use Rattle.fs_listen.specs.Listening.{Listened}
 use Rattle.fs_listen.proofs.Listed.{other_number}
+use Rattle.fs_target.specs.Entries.{IsAbsentAt, IsThereAt, Rises, found, ids_of}
 use Rattle.fs_target.specs.Held.{id_after}
-use Rattle.fs_target.specs.Seen.{IsAbsentAt, IsThereAt, Rises, Seen, found, ids_of, listed_in, seen}
+use Rattle.fs_target.specs.Seen.{Seen, listed_in, seen}
 use Rattle.fs_target.specs.declared.entry.Entry.{Entry}
-use Rattle.fs_target.proofs.Each.{each_at, each_weaker}
+use Rattle.fs_target.proofs.Each.{each_at, each_of, each_weaker, map_alike}
 
 -- ---- a map of entries
 
@@ -201,6 +203,16 @@ rises_set id ss i s rise at same =
 pub rises_remove : (id : ℕ) (ss : List Seen) (i : ℕ) → Rises ss → IsThereAt id ss i → Rises (take_out ss i)
 rises_remove id ss i rise at =
     subst (λ es. IsTrue (is_sorted nat_cmp es)) (sym (taken_out (λ (t : Seen). t.listened) id ss i rise at)) (others_rise id (map listed_in ss) rise)
+
+-- where what each listens to is changed by itself
+pub rises_changed : (change : Entry → Seen) (g : Seen → Listened) (ds : List Entry) → ((e : Entry) → listed_in (change e) ≡ (e.id, g (seen e))) → Rises (map seen ds)
+    → Rises (map change ds)
+rises_changed change g ds is rise =
+    subst (λ es. IsTrue (is_sorted nat_cmp es))
+    (map-map (at_id g) seen ds
+    ∙ map_alike (λ (e : Entry). at_id g (seen e)) (λ e. listed_in (change e)) ds (each_of (λ (e : Entry). at_id g (seen e) ≡ listed_in (change e)) (λ e. sym (is e)) ds)
+    ∙ sym (map-map listed_in change ds))
+    (rising g (map seen ds) rise)
 
 -- ---- what is found
 

@@ -1,6 +1,6 @@
 -- What is kept of targets, as the events of a shard are fed.
 use Rattle.std.proofs.Common.{◌≡◌, ℕ, ℤ, ◌≤ℤ◌, Bool, ◌&&◌, ◌||◌, false, List, [], Option, Some, None, refl, sym, ap, ◌∙◌, subst}
-use Rattle.std.specs.Prelude.{◌==◌, IfSome, int_le, int_lt, slice_index_or}
+use Rattle.std.specs.Prelude.{IfSome, int_le, int_lt, slice_index_or}
 use Rattle.std.specs.FinMap.{get}
 use Rattle.std.specs.List.{filter}
 use Rattle.std.specs.Option.{option_map}
@@ -11,7 +11,7 @@ use Rattle.fs_history.specs.History.{IsRising}
 use Rattle.fs_history.specs.declared.batch.Batch.{Batch}
 use Rattle.fs_history.proofs.Brought.{brings_between}
 use Rattle.fs_listen.specs.Listening.{Listened, Loaded, moved, with_loaded}
-use Rattle.fs_listen.specs.declared.target.Target.{Target}
+use Rattle.fs_query.specs.declared.target.Target.{Target}
 use Rattle.fs_listen.proofs.Targets.{from_each, get_each}
 use Rattle.fs_target.specs.Held.{Held, events_behind, fed, kept_fed, position_in, position_of}
 use Rattle.fs_target.specs.Keeps.{Keeps, KeepsOf, KeepsOne, events_of, is_staged}
@@ -22,7 +22,7 @@ use Rattle.fs_target.specs.declared.event.TimedEvent.{TimedEvent}
 use Rattle.fs_target.proofs.CommitEvents.{events_sorted, filter-names, filter-times}
 use Rattle.fs_target.proofs.Commits.{same_commits}
 use Rattle.fs_target.proofs.Each.{each_of}
-use Rattle.fs_target.proofs.Filters.{filter_alike, filter_twice}
+use Rattle.fs_listen.proofs.Filters.{filter_alike, filter_twice}
 use Rattle.fs_target.proofs.KeptMaps.{get-each_kept}
 use Rattle.fs_target.proofs.Moving.{is_new, moved_in, moved_some, moved_within, none_moves, not_both, told_then}
 use Rattle.fs_target.proofs.Putting.{put_filters}
@@ -55,9 +55,9 @@ module _ (h : List Batch) (commits : List TimedChange) (brought : Brings [] comm
 
     fed_events : events_behind id (Some position) es ≡ filter (λ (e : TimedEvent). is_new shard are.from position to (shard_of shards e.name) e.time) of_target
     fed_events =
-        sym (filter_twice is_behind (λ (e : TimedEvent). e.target == id) es)
+        are.told
         ∙ ap (filter is_behind)
-        (are.told ∙ ap (events_of id target) (are.changed.told ∙ ap (of_names (in_shard shards shard)) same) ∙ sym (filter-names id target (in_shard shards shard) (between are.from to commits))
+        (ap (events_of id target) (are.changed.told ∙ ap (of_names (in_shard shards shard)) same) ∙ sym (filter-names id target (in_shard shards shard) (between are.from to commits))
         ∙ ap (filter is_there) (sym (filter-times id target (λ t. int_lt are.from t && int_le t to) commits)) ∙ filter_twice is_there is_between of_target)
         ∙ filter_twice is_behind (λ e. is_between e && is_there e) of_target
 

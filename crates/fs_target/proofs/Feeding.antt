@@ -1,21 +1,22 @@
 -- Targets that are fed, as contracts see them.
 use Rattle.std.proofs.Common.{◌≡◌, ℕ, zero, suc, ◌<◌, ℤ, false, cond, List, [], ◌∷◌, ◌++◌, length, get_or, set, Option, Some, None, map, refl, sym, ap, ◌∙◌, subst, arith}
-use Rattle.std.specs.Prelude.{IfSome, IsTrue, int_lt, ◌&&◌, ◌==◌, slice_index_or}
-use Rattle.std.specs.FinMap.{is_sorted}
+use Rattle.std.specs.Prelude.{IfSome, int_lt, ◌&&◌, ◌==◌, slice_index_or}
 use Rattle.std.specs.List.{AllByRecursion}
-use Rattle.std.specs.Ordering.{nat_cmp}
+use Rattle.std.specs.Option.{option_map}
 use Rattle.std.proofs.lemmas.List.{append-nil}
 use Rattle.std.proofs.lemmas.List.Elements.{filter-append}
 use Rattle.std.proofs.lemmas.Simd.{map-map}
-use Rattle.fs_listen.specs.Listening.{Loaded, moved}
+use Rattle.fs_listen.specs.Listening.{Loaded, moved, with_loaded}
+use Rattle.fs_target.specs.Entries.{Rises, fed_in, taken}
 use Rattle.fs_target.specs.Held.{events_behind}
-use Rattle.fs_target.specs.Seen.{IsPrepared, Rises, Seen, fed_in, listed_in, loaded_in, seen, taken}
+use Rattle.fs_target.specs.Prepared.{IsPrepared}
+use Rattle.fs_target.specs.Seen.{Seen, loaded_in, seen}
 use Rattle.fs_target.specs.Staged.{put_events}
 use Rattle.fs_target.specs.declared.entry.Entry.{Entry}
 use Rattle.fs_target.specs.declared.entry.Loaded as entry
 use Rattle.fs_target.specs.declared.event.TimedEvent.{TimedEvent}
 use Rattle.fs_target.proofs.Each.{each_weaker, map_alike}
-use Rattle.fs_target.proofs.Entries.{other_before, others_behind, rises_rest, rising}
+use Rattle.fs_target.proofs.Entries.{other_before, others_behind, rises_changed, rises_rest}
 
 -- ---- the events of a target, and one more
 
@@ -92,7 +93,12 @@ all_fed shard es to ds ready =
     (each_weaker (IsPrepared shard es) (λ e. taken shard to e ≡ fed_in shard es to (seen e)) (taken_fed shard es to) ds ready)
     ∙ sym (map-map (fed_in shard es to) seen ds)
 
--- they rise still
-pub rises_fed : (shard : ℕ) (es : List TimedEvent) (to : ℤ) (ss : List Seen) → Rises ss → Rises (map (fed_in shard es to) ss)
-rises_fed shard es to ss rise =
-    subst (λ ts. IsTrue (is_sorted nat_cmp ts)) (sym (map-map listed_in (fed_in shard es to) ss)) (rising (λ (s : Seen). (fed_in shard es to s).listened) ss rise)
+-- they rise still, whatever was ready
+pub rises_taken : (shard : ℕ) (to : ℤ) (ds : List Entry) → Rises (map seen ds) → Rises (map (taken shard to) ds)
+rises_taken shard to ds rise =
+    rises_changed (taken shard to) (λ (s : Seen). record s.listened { loaded = with_loaded (moved shard to) s.listened.loaded }) ds
+    (λ e. ap (λ o. (e.id, record { target = e.target; token = e.token; loaded = o })) (by_loaded e.loaded)) rise
+  where
+    by_loaded : (o : Option entry.Loaded) → option_map (λ (l : entry.Loaded). moved shard to (loaded_in l)) o ≡ with_loaded (moved shard to) (option_map loaded_in o)
+    by_loaded None = refl
+    by_loaded (Some l) = refl

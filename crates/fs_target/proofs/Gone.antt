@@ -21,7 +21,7 @@ use Rattle.fs_match.specs.Laws.{MapsFollow}
 use Rattle.fs_match.specs.declared.events.Event.{Event}
 use Rattle.fs_match.specs.declared.events.Event.TheVariants as event
 use Rattle.fs_listen.specs.View.{is_listened}
-use Rattle.fs_listen.specs.declared.target.Target.{Target}
+use Rattle.fs_query.specs.declared.target.Target.{Target}
 use Rattle.fs_target.specs.Keeps.{events_of, told_as}
 use Rattle.fs_target.specs.Staged.{gone_over, left_by}
 use Rattle.fs_target.specs.declared.event.TimedEvent.{TimedEvent}

@@ -18,14 +18,14 @@ use Rattle.fs_match.specs.Followed.{docs_fitting}
 use Rattle.fs_listen.specs.Listening.{Loaded}
 use Rattle.fs_listen.specs.Raised.{sent_time}
 use Rattle.fs_listen.specs.View.{is_listened, view, view_at}
-use Rattle.fs_listen.specs.declared.target.Target.{Target}
+use Rattle.fs_query.specs.declared.target.Target.{Target}
 use Rattle.fs_target.specs.Held.{Held}
 use Rattle.fs_target.specs.Keeps.{Keeps, KeepsOf, KeepsOne, events_of, is_staged}
 use Rattle.fs_target.specs.Kept.{Kept}
 use Rattle.fs_target.specs.declared.event.TimedEvent.{TimedEvent}
 use Rattle.fs_target.proofs.CommitEvents.{all_times, events-append}
 use Rattle.fs_target.proofs.Each.{each_weaker}
-use Rattle.fs_target.proofs.Filters.{filter_none}
+use Rattle.fs_listen.proofs.Filters.{filter_none}
 use Rattle.fs_target.proofs.Times.{at_index, not_told_yet}
 
 -- ---- times that stay known

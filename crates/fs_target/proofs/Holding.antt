@@ -9,10 +9,11 @@ use Rattle.std.proofs.lemmas.List.{get_or-map}
 use Rattle.std.proofs.lemmas.Simd.{map-map}
 use Rattle.fs_listen.specs.Listening.{Listened, Listening, each, loaded_at, loaded_one, made_current, matched, moved, positions_at, raised_to}
 use Rattle.fs_listen.specs.Listening as listening
-use Rattle.fs_listen.specs.declared.target.Target.{Target}
+use Rattle.fs_query.specs.declared.target.Target.{Target}
+use Rattle.fs_target.specs.Entries.{IsAbsentAt, IsThereAt, Rises, fed_in, raised_in}
 use Rattle.fs_target.specs.Held.{Held, each_kept, events_behind, fed, kept_fed, kept_raised, position_in, raised_at, with_loaded, with_target, without_target}
 use Rattle.fs_target.specs.Kept.{Kept}
-use Rattle.fs_target.specs.Seen.{IsAbsentAt, IsThereAt, Rises, Seen, fed_in, held_of, kept_in, listed_in, listening_of, raised_in, seen}
+use Rattle.fs_target.specs.Seen.{Seen, held_of, kept_in, listed_in, listening_of, seen}
 use Rattle.fs_target.specs.declared.entry.Entry.{Entry}
 use Rattle.fs_target.specs.declared.entry.Loaded as entry
 use Rattle.fs_target.specs.declared.event.TimedEvent.{TimedEvent}

@@ -14,14 +14,14 @@ use Rattle.fs_match.specs.Followed.{docs_fitting}
 use Rattle.fs_match.specs.Laws.{FittingByName, MapsFollow}
 use Rattle.fs_listen.specs.Listening.{Loaded, has_shard, made_current}
 use Rattle.fs_listen.specs.View.{is_listened, view}
-use Rattle.fs_listen.specs.declared.target.Target.{Target}
+use Rattle.fs_query.specs.declared.target.Target.{Target}
 use Rattle.fs_target.specs.Keeps.{KeepsOne, events_of, is_staged}
 use Rattle.fs_target.specs.Kept.{Kept, docs_at, kept_at, shown_of}
 use Rattle.fs_target.specs.Staged.{behind, gone_over, up_to}
 use Rattle.fs_target.specs.declared.event.TimedEvent.{TimedEvent}
 use Rattle.fs_target.proofs.CommitEvents.{events_in_shards, filter-times}
 use Rattle.fs_target.proofs.Each.{each_both, each_of, each_weaker}
-use Rattle.fs_target.proofs.Filters.{filter_alike, filter_twice}
+use Rattle.fs_listen.proofs.Filters.{filter_alike, filter_twice}
 use Rattle.fs_target.proofs.Gone.{docs_then}
 use Rattle.fs_target.proofs.Shards.{shard_within}
 use Rattle.fs_target.proofs.Shown.{shown_is_view}

@@ -1,5 +1,6 @@
 pub mod Asked
 pub mod Changing
+pub mod Collected
 pub mod CommitEvents
 pub mod Commits
 pub mod Cutting
@@ -9,7 +10,6 @@ pub mod EachEntry
 pub mod Entries
 pub mod Fed
 pub mod Feeding
-pub mod Filters
 pub mod Found
 pub mod GivenBack
 pub mod Going
@@ -19,11 +19,13 @@ pub mod Growing
 pub mod Holding
 pub mod InOrder
 pub mod InPlace
+pub mod InShards
 pub mod Joined
 pub mod Keeping
 pub mod KeptMaps
 pub mod Lent
 pub mod Looking
+pub mod MayStand
 pub mod Moving
 pub mod Named
 pub mod Putting
@@ -33,6 +35,9 @@ pub mod Rising
 pub mod Shards
 pub mod Shown
 pub mod Standing
+pub mod Stands
+pub mod StandsOn
 pub mod Telling
 pub mod Times
+pub mod Unloaded
 pub mod Viewing

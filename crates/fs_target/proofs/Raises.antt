@@ -20,7 +20,7 @@ use Rattle.fs_listen.specs.Listening.{Listened, Loaded, made_current, with_loade
 use Rattle.fs_listen.specs.Raised.{sent_time, views_of}
 use Rattle.fs_listen.specs.View.{view, view_at}
 use Rattle.fs_listen.specs.declared.cut.Cut.TheVariants.{At}
-use Rattle.fs_listen.specs.declared.target.Target.{Target}
+use Rattle.fs_query.specs.declared.target.Target.{Target}
 use Rattle.fs_listen.proofs.Bounds.{AreBy, cut_is, least_within, none_loading}
 use Rattle.fs_listen.proofs.Listed.{at_found, from_found}
 use Rattle.fs_listen.proofs.Targets.{from_each, get_each}

@@ -19,8 +19,8 @@ use Rattle.fs_match.specs.declared.events.Event.{Event}
 use Rattle.fs_match.specs.declared.events.Event.TheVariants as event
 use Rattle.fs_listen.specs.Listening.{has_shard}
 use Rattle.fs_listen.specs.View.{is_listened}
-use Rattle.fs_listen.specs.declared.target.Target.{Target}
-use Rattle.fs_listen.specs.declared.target.Target.TheVariants as target
+use Rattle.fs_query.specs.declared.target.Target.{Target}
+use Rattle.fs_query.specs.declared.target.Target.TheVariants as target
 use Rattle.fs_target.specs.Keeps.{event_of, told_as}
 use Rattle.fs_target.specs.declared.event.TimedEvent.{TimedEvent}
 

@@ -1,18 +1,18 @@
 -- Documents that are put one after another: those of a list whose names rise, and those of an answer, which are the view.
-use Rattle.std.proofs.Common.{◌≡◌, Bool, true, false, cond, ◌||◌, List, [], ◌∷◌, map, Option, Some, None, refl, sym, ap, ◌∙◌}
+use Rattle.std.proofs.Common.{◌≡◌, Bool, true, false, cond, ◌||◌, List, [], ◌∷◌, Option, Some, None, refl, sym, ap, ◌∙◌}
 use Rattle.std.specs.Prelude.{IsTrue}
 use Rattle.std.specs.Cmp.{first_so, second_so}
 use Rattle.std.specs.FinMap.{empty, find, get, get-empty, get-from_sorted, get-insert, insert, is_sorted, same_map, values}
 use Rattle.std.specs.FinMap.Entries.{below_all}
-use Rattle.std.specs.List.{AllByRecursion, list_any}
+use Rattle.std.specs.List.{list_any}
 use Rattle.std.specs.Option.{option_or}
 use Rattle.std.specs.Ordering.{eq_by_cmp}
-use Rattle.fs_path.specs.NameOrder.{name_cmp, name_cmp_total, name_eq, name_eq_equiv, name_is, name_same}
+use Rattle.fs_path.specs.NameOrder.{name_cmp, name_cmp_total, name_eq, name_is, name_same}
 use Rattle.fs_path.specs.declared.name.DocName.{DocName}
 use Rattle.fs_path.proofs.Bools.{from_true}
 use Rattle.fs_value.specs.Named.{by_name}
 use Rattle.fs_value.specs.declared.document.Document.{Document}
-use Rattle.fs_write.specs.Batch.{AreNamed, Bears, Docs, docs_of}
+use Rattle.fs_write.specs.Batch.{AreNamed, Docs, docs_of}
 use Rattle.fs_query.specs.Answer.{IsAnswer}
 use Rattle.fs_query.specs.AnswerTo.{answer_to}
 use Rattle.fs_query.specs.Asked.{Asked}
@@ -24,7 +24,8 @@ use Rattle.fs_history.proofs.ReadsStay.{in_got}
 use Rattle.fs_match.specs.Event.{fitting, is_among}
 use Rattle.fs_match.proofs.Changes.{fitting_by_name}
 use Rattle.fs_listen.specs.View.{view}
-use Rattle.fs_listen.specs.declared.target.Target.TheVariants as target
+use Rattle.fs_listen.proofs.Shown.{AreOf, names_in, shown_where}
+use Rattle.fs_query.specs.declared.target.Target.TheVariants as target
 use Rattle.fs_target.specs.Places.{all_put}
 
 -- ---- whose names rise
@@ -56,13 +57,6 @@ rising_put ds rise =
 
 -- ---- of an answer
 
--- documents that stand among others, each at its name
-abbrev AreOf : Docs → List Document → Type 0
-AreOf all ds = AllByRecursion (λ (d : Document). get all d.name ≡ Some d) ds
-
-abbrev names_of : List Document → List DocName
-names_of ds = map (λ (d : Document). d.name) ds
-
 put_first : (all had : Docs) (d : Document) (q : DocName) (here later : Bool) → name_eq q d.name ≡ here → get all d.name ≡ Some d
     → cond later (get all q) (cond here (Some d) (get had q)) ≡ cond (here || later) (get all q) (get had q)
 put_first all had d q true true ties is = refl
@@ -70,34 +64,22 @@ put_first all had d q true false ties is = sym (ap (get all) (name_is q d.name t
 put_first all had d q false true ties is = refl
 put_first all had d q false false ties is = refl
 
-put_at : (ds : List Document) (all had : Docs) (q : DocName) → AreOf all ds → get (all_put ds had) q ≡ cond (list_any (name_eq q) (names_of ds)) (get all q) (get had q)
+put_at : (ds : List Document) (all had : Docs) (q : DocName) → AreOf all ds → get (all_put ds had) q ≡ cond (list_any (name_eq q) (names_in ds)) (get all q) (get had q)
 put_at [] all had q are = refl
 put_at (d ∷ ds) all had q are =
     put_at ds all (insert had d.name d) q are.1
-    ∙ ap (cond (list_any (name_eq q) (names_of ds)) (get all q)) (get-insert name_cmp_total had d.name d q)
-    ∙ put_first all had d q (eq_by_cmp name_cmp q d.name) (list_any (name_eq q) (names_of ds)) refl are.0
-
-turned : (q : DocName) (names : List DocName) → list_any (name_eq q) names ≡ list_any (λ name. name_eq name q) names
-turned q [] = refl
-turned q (name ∷ names) = ap (λ b. b || list_any (name_eq q) names) (name_eq_equiv.symm q name) ∙ ap (λ b. name_eq name q || b) (turned q names)
-
-shown_where : (names : List DocName) (q : DocName) (o : Option Document) → Bears o q → cond (list_any (name_eq q) names) o None ≡ fitting (is_among names) o
-shown_where names q None bears = none (list_any (name_eq q) names) where
-  none : (b : Bool) → cond {A = Option Document} b None None ≡ None
-  none true = refl
-  none false = refl
-shown_where names q (Some d) bears =
-    ap (λ b. cond b (Some d) None) (turned q names ∙ ap (λ n. list_any (λ name. name_eq name n) names) (sym bears))
+    ∙ ap (cond (list_any (name_eq q) (names_in ds)) (get all q)) (get-insert name_cmp_total had d.name d q)
+    ∙ put_first all had d q (eq_by_cmp name_cmp q d.name) (list_any (name_eq q) (names_in ds)) refl are.0
 
 module _ (a : Asked) (all : Docs) (named : AreNamed all) where
   view_put : (ds : List Document) → ds ≡ answer_to a (values all) → AreOf all ds → all_put ds empty ≡ view (target.Query a) all
   view_put ds is are =
       same_map name_cmp_total name_same (all_put ds empty) (view (target.Query a) all)
       (λ q. put_at ds all empty q are
-      ∙ ap (cond (list_any (name_eq q) (names_of ds)) (get all q)) (get-empty name_cmp q)
-      ∙ shown_where (names_of ds) q (get all q) (named q)
-      ∙ ap (λ (ds : List Document). fitting (is_among (names_of ds)) (get all q)) is
-      ∙ sym (fitting_by_name (is_among (names_of (answer_to a (values all)))) all q))
+      ∙ ap (cond (list_any (name_eq q) (names_in ds)) (get all q)) (get-empty name_cmp q)
+      ∙ shown_where (names_in ds) q (get all q) (named q)
+      ∙ ap (λ (ds : List Document). fitting (is_among (names_in ds)) (get all q)) is
+      ∙ sym (fitting_by_name (is_among (names_in (answer_to a (values all)))) all q))
 
   pub answer_put : OneAnswer → SomeAnswer → AnswersFit → (ds : List Document) → IsAnswer a (values all) ds → all_put ds empty ≡ view (target.Query a) all
   answer_put one some fit ds answer =

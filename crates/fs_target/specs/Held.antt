@@ -1,18 +1,19 @@
--- What contracts see of the targets of a session: how many shards and how many targets there may be, the targets themselves with how far
+-- What is held of the targets of a session: how many shards and how many targets there may be, the targets themselves with how far
 -- each is, and what is kept of those that are loaded.
-use Rattle.std.specs.Prelude.{◌≡◌, ℕ, nat_le, nat_lt, ℤ, int_lt, Bool, true, ◌&&◌, List, [], Option, Some, None, map, refl, if◌then◌else◌, is_some, slice_index_or, ◌==◌}
-use Rattle.std.specs.Coded.{Coded, code_by, coded×, coded_bool, coded_ℕ, coded_ℤ, coded_list, coded_option}
+use Rattle.std.specs.Prelude.{◌≡◌, ℕ, nat_le, nat_lt, ℤ, int_lt, Bool, true, false, ◌&&◌, List, [], Option, Some, None, map, refl, if◌then◌else◌, is_some, slice_index_or, ◌==◌}
+use Rattle.std.specs.Coded.{Coded, code_by, coded×, coded_list}
 use Rattle.std.specs.Ordering.{nat_cmp}
-use Rattle.std.specs.FinMap.{FinMap, code, empty, entries, from_entries, get, insert, len, remove}
+use Rattle.std.specs.FinMap.{FinMap, code, empty, entries, from_entries, get, insert, keys, len, remove}
 use Rattle.std.specs.List.{filter, find}
 use Rattle.std.specs.Option.{option_map}
 use Rattle.fs_path.specs.contracts.name.DocName as name
+use Rattle.fs_path.specs.declared.name.DocName.{DocName}
 use Rattle.fs_value.specs.contracts.document.Document as document
 use Rattle.fs_value.specs.declared.document.Document.{Document}
 use Rattle.fs_write.specs.Batch.{Docs, docs_of}
 use Rattle.fs_listen.specs.Listening.{Loaded, Listened, Listening, added, loaded, matched, none_listened, raised_to, removed}
-use Rattle.fs_listen.specs.contracts.target.Target as target
-use Rattle.fs_listen.specs.declared.target.Target.{Target}
+use Rattle.fs_listen.specs.View.{is_listened}
+use Rattle.fs_query.specs.declared.target.Target.{Target}
 use Rattle.fs_target.specs.Kept.{Kept, kept_at}
 use Rattle.fs_target.specs.Staged.{put_events}
 use Rattle.fs_target.specs.contracts.event.TimedEvent as event
@@ -27,22 +28,7 @@ pub record Held : Type 0 where
   -- by the ids of targets, none of one that isn't loaded
   pub kept : FinMap nat_cmp (Option Kept)
 
--- ---- each is stored as the tuple of its parts
-
-abbrev pub loaded_code : Coded Loaded
-loaded_code =
-    code_by (ℤ × (Bool × (List (Option ℤ) × Bool))) (coded× coded_ℤ (coded× coded_bool (coded× (coded_list (coded_option coded_ℤ)) coded_bool)))
-    (λ l. (l.time, (l.reset, (l.positions, l.current)))) (λ p. record { time = p.0; reset = p.1.0; positions = p.1.1.0; current = p.1.1.1 }) (λ _. refl)
-
-abbrev pub listened_code : Coded Listened
-listened_code =
-    code_by (Target × (Option ℤ × Option Loaded)) (coded× target.the_row.coded (coded× (coded_option coded_ℤ) (coded_option loaded_code)))
-    (λ l. (l.target, (l.token, l.loaded))) (λ p. record { target = p.0; token = p.1.0; loaded = p.1.1 }) (λ _. refl)
-
-abbrev pub listening_code : Coded Listening
-listening_code =
-    code_by (FinMap nat_cmp Listened × Option ℤ) (coded× (code coded_ℕ listened_code) (coded_option coded_ℤ))
-    (λ s. (s.targets, s.raised)) (λ p. record { targets = p.0; raised = p.1 }) (λ _. refl)
+-- ---- what is kept of one is stored as the tuple of its parts
 
 abbrev pub docs_code : Coded Docs
 docs_code = code name.the_row.coded document.the_row.coded
@@ -51,11 +37,6 @@ abbrev pub kept_code : Coded Kept
 kept_code =
     code_by (Docs × (Docs × List TimedEvent)) (coded× docs_code (coded× docs_code (coded_list event.the_row.coded)))
     (λ k. (k.sent, (k.docs, k.staged))) (λ p. record { sent = p.0; docs = p.1.0; staged = p.1.1 }) (λ _. refl)
-
-abbrev pub held_code : Coded Held
-held_code =
-    code_by (ℕ × (ℕ × (Listening × FinMap nat_cmp (Option Kept)))) (coded× coded_ℕ (coded× coded_ℕ (coded× listening_code (code coded_ℕ (coded_option kept_code)))))
-    (λ h. (h.shards, (h.limit, (h.listening, h.kept)))) (λ p. record { shards = p.0; limit = p.1.0; listening = p.1.1.0; kept = p.1.1.1 }) (λ _. refl)
 
 -- ---- what happens to them
 
@@ -87,6 +68,10 @@ abbrev pub IsUnloaded : Option Listened → Type 0
 IsUnloaded None = ⊥
 IsUnloaded (Some l) = l.loaded ≡ None
 
+-- no target listens to a document of this name
+abbrev pub IsListenedByNone : DocName → Held → Type 0
+IsListenedByNone name h = (id : ℕ) (l : Listened) (d : Document) → get h.listening.targets id ≡ Some l → d.name ≡ name → is_listened l.target d ≡ false
+
 -- the events that are staged of one that is loaded
 abbrev pub staged_of : Option (Option Kept) → Option (List TimedEvent)
 staged_of None = None
@@ -114,6 +99,10 @@ position_of shard (Some l) = slice_index_or l.positions shard None
 abbrev pub position_in : ℕ → Option Listened → Option ℤ
 position_in shard None = None
 position_in shard (Some l) = position_of shard l.loaded
+
+-- of all of them, by their ids
+abbrev pub positions_in : ℕ → Held → List (Option ℤ)
+positions_in shard h = map (λ (id : ℕ). position_in shard (get h.listening.targets id)) (keys h.listening.targets)
 
 abbrev pub kept_fed : List TimedEvent → Option Kept → Option Kept
 kept_fed es None = None

@@ -24,7 +24,7 @@ use Rattle.fs_match.specs.declared.events.Event.TheVariants as event
 use Rattle.fs_listen.specs.Listening.{Listened, Loaded, has_shard}
 use Rattle.fs_listen.specs.Raised.{sent_time}
 use Rattle.fs_listen.specs.View.{is_listened, view_at}
-use Rattle.fs_listen.specs.declared.target.Target.{Target}
+use Rattle.fs_query.specs.declared.target.Target.{Target}
 use Rattle.fs_target.specs.Held.{Held}
 use Rattle.fs_target.specs.Kept.{Kept}
 use Rattle.fs_target.specs.declared.event.TimedEvent.{TimedEvent}

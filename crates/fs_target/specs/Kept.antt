@@ -3,12 +3,10 @@
 --
 --     the query of c by n, limit 1, raised at 4     sent c/a {n: 1}    documents c/a {n: 1}, c/b {n: 2}    staged 5 c/a {n: 3} inside
 --     raised at 5                                   sent c/b {n: 2}    documents c/a {n: 3}, c/b {n: 2}
-use Rattle.std.specs.Prelude.{ℤ, int_le, pos, Bool, true, false, ◌&&◌, List, is_none}
+use Rattle.std.specs.Prelude.{ℤ, Bool, true, false, List}
 use Rattle.fs_write.specs.Batch.{Docs}
-use Rattle.fs_query.specs.Asked.{Asked}
-use Rattle.fs_listen.specs.View.{view}
-use Rattle.fs_listen.specs.declared.target.Target.{Target}
-use Rattle.fs_listen.specs.declared.target.Target.TheVariants as target
+use Rattle.fs_listen.specs.View.{is_whole, view}
+use Rattle.fs_query.specs.declared.target.Target.{Target}
 use Rattle.fs_target.specs.Staged.{behind, gone_over, up_to}
 use Rattle.fs_target.specs.declared.event.TimedEvent.{TimedEvent}
 
@@ -18,14 +16,6 @@ pub record Kept : Type 0 where
   pub staged : List TimedEvent
 
 -- ---- a view
-
--- whether all that fits is shown: no cursor, offset or limit cuts it
-abbrev pub is_whole_query : Asked → Bool
-is_whole_query q = is_none q.start && (is_none q.end && (int_le q.offset (pos 0) && is_none q.limit))
-
-abbrev pub is_whole : Target → Bool
-is_whole (target.Query q) = is_whole_query q
-is_whole (target.Documents names) = true
 
 -- the view over documents that all fit
 abbrev pub shown_of_all : Bool → Target → Docs → Docs

@@ -1,5 +1,5 @@
 -- The laws of targets. Each is shown by a public call.
-use Rattle.std.specs.Prelude.{◌≡◌, ℕ, ℤ, ◌<ℤ◌, ◌≤ℤ◌, Bool, true, IfSome, List, [], Option, Some, None, if◌then◌else◌, ◌==◌, map}
+use Rattle.std.specs.Prelude.{◌≡◌, ℕ, ℤ, ◌<ℤ◌, ◌≤ℤ◌, int_lt, Bool, true, IfSome, List, [], Option, Some, None, if◌then◌else◌, map}
 use Rattle.std.specs.FinMap.{get}
 use Rattle.std.specs.List.{AllByRecursion, filter}
 use Rattle.fs_path.specs.Scope.{AreShards, in_shard}
@@ -18,8 +18,8 @@ use Rattle.fs_listen.specs.Listening.{Listened}
 use Rattle.fs_listen.specs.Raised.{raised, stands_at, views_of}
 use Rattle.fs_listen.specs.View.{is_listened, view_at}
 use Rattle.fs_listen.specs.declared.cut.Cut.TheVariants.{At}
-use Rattle.fs_listen.specs.declared.target.Target.{Target}
-use Rattle.fs_target.specs.Held.{Held, fed, none_held, position_in, raised_at, with_loaded, with_target, without_target}
+use Rattle.fs_query.specs.declared.target.Target.{Target}
+use Rattle.fs_target.specs.Held.{Held, events_behind, fed, none_held, position_in, raised_at, with_loaded, with_target, without_target}
 use Rattle.fs_target.specs.Keeps.{Keeps, events_of}
 use Rattle.fs_target.specs.Raise.{kept_told, kept_views}
 use Rattle.fs_target.specs.declared.event.TimedEvent.{TimedEvent}
@@ -80,14 +80,15 @@ LoadingKeeps = (h : List Batch) (known : ℤ) (held : Held) (id : ℕ) (l : List
     → docs_of sent ≡ view_at l.target h (if reset then None else l.token) → docs_of docs ≡ docs_fitting (is_listened l.target) (at h time)
     → Keeps h known (with_loaded id sent reset docs time held)
 
--- events of a target are those of what was changed in a shard up to a time, behind one that isn't above its position there
+-- events of a target behind its position in a shard are those of what was changed there behind that, up to a time
 pub record AreEventsIn (h : List Batch) (shards shard : ℕ) (to : ℤ) (es : List TimedEvent) (id : ℕ) (t : Target) (position : ℤ) : Type 0 where
+  -- what was changed there behind a time that isn't above the position
   pub from : ℤ
   pub low : from ≤ℤ position
   pub order : from ≤ℤ to
   pub changes : List TimedChange
   pub changed : AreChangesIn h (in_shard shards shard) from to changes
-  pub told : filter (λ (e : TimedEvent). e.target == id) es ≡ events_of id t changes
+  pub told : events_behind id (Some position) es ≡ filter (λ (e : TimedEvent). int_lt position e.time) (events_of id t changes)
 
 abbrev pub FeedingKeeps : Type 0
 FeedingKeeps = (h : List Batch) (known : ℤ) (held : Held) (shard : ℕ) (es : List TimedEvent) (to : ℤ) → Keeps h known held → to ≤ℤ known

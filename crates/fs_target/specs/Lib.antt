@@ -1,4 +1,5 @@
-pub mod Coming
+pub mod Collections
+pub mod Entries
 pub mod Held
 pub mod Keeps
 pub mod Kept
@@ -6,7 +7,10 @@ pub mod Latest
 pub mod Laws
 pub mod Looks
 pub mod Places
+pub mod Prepared
 pub mod Raise
+pub mod Ready
 pub mod Room
 pub mod Seen
 pub mod Staged
+pub mod Still

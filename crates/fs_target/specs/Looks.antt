@@ -5,9 +5,9 @@ use Rattle.std.specs.List.{AllByRecursion}
 use Rattle.fs_path.specs.declared.name.DocName.{DocName}
 use Rattle.fs_query.specs.declared.listen.ListenMessage.{ListenMessage}
 use Rattle.fs_listen.specs.Told.{Views, shown_in, told_of}
-use Rattle.fs_target.specs.Coming.{sent_of}
 use Rattle.fs_target.specs.Kept.{docs_at}
 use Rattle.fs_target.specs.Latest.{latest_of}
+use Rattle.fs_target.specs.Ready.{sent_of}
 use Rattle.fs_target.specs.Staged.{up_to}
 use Rattle.fs_target.specs.declared.told.Look.{Look}
 

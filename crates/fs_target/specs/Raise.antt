@@ -5,7 +5,7 @@ use Rattle.fs_query.specs.declared.listen.ListenMessage.{ListenMessage}
 use Rattle.fs_listen.specs.Listening.{Listened}
 use Rattle.fs_listen.specs.Sent.{sent}
 use Rattle.fs_listen.specs.Told.{Views}
-use Rattle.fs_listen.specs.declared.target.Target.{Target}
+use Rattle.fs_query.specs.declared.target.Target.{Target}
 use Rattle.fs_target.specs.Held.{Held}
 use Rattle.fs_target.specs.Kept.{Kept, docs_at, shown_of}
 

@@ -1,11 +1,23 @@
 -- Staged events in order, and those that come next. (Only private clauses cite this.)
-use Rattle.std.specs.Prelude.{◌≡◌, ⊤, false, List, [], ◌∷◌, Option, Some, None}
+use Rattle.std.specs.Prelude.{◌≡◌, ⊤, false, List, [], ◌∷◌, Option, Some, None, refl}
+use Rattle.std.specs.Coded.{Coded, code_by, coded×, coded_list}
 use Rattle.std.specs.List.{AllByRecursion}
 use Rattle.std.specs.Ordering.{is_lt}
 use Rattle.std.specs.declared.alloc.Global.{Global}
 use Rattle.std.specs.declared.vec.Vec.{Vec}
 use Rattle.fs_target.specs.Staged.{event_cmp}
+use Rattle.fs_target.specs.contracts.event.TimedEvent as event
 use Rattle.fs_target.specs.declared.event.TimedEvent.{TimedEvent}
+
+-- staged events, and those that come next
+pub record Coming : Type 0 where
+  pub staged : List TimedEvent
+  pub coming : List TimedEvent
+
+abbrev pub coming_code : Coded Coming
+coming_code =
+    code_by (List TimedEvent × List TimedEvent) (coded× (coded_list event.the_row.coded) (coded_list event.the_row.coded))
+    (λ s. (s.staged, s.coming)) (λ p. record { staged = p.0; coming = p.1 }) (λ _. refl)
 
 -- none comes before one in front of it
 abbrev pub AreInOrder : List TimedEvent → Type 0

@@ -5,7 +5,7 @@ ghost use Rattle.fs_path.specs.NameOrder.{name_cmp};
 ghost use Rattle.fs_value.specs.Named.{by_name};
 ghost use Rattle.fs_write.specs.Batch.{AreNamed, Docs};
 ghost use Rattle.fs_listen.specs.View.{view};
-ghost use Rattle.fs_listen.specs.declared.target.Target.{Target};
+ghost use Rattle.fs_query.specs.declared.target.Target.{Target};
 ghost use Rattle.fs_target.specs.Places.{docs_in};
 
 use crate::places::Places;

@@ -3,9 +3,12 @@ ghost use Rattle.std.specs.Prelude.{◌≡◌, ◌||◌, ℤ, Option, map, not, 
 ghost use Rattle.std.specs.List.{flat_map, list_any};
 ghost use Rattle.fs_listen.specs.Cuts.{base, cut, cut_at, first_loading, greatest_before, is_behind, is_current, is_from, is_ready, is_ready_at, least, least_before, load_time, positions_of, some_new};
 ghost use Rattle.fs_target.specs.declared.entry.Entry.{Entry};
-ghost use Rattle.fs_target.specs.Seen.{Rises, Seen, listed_in, listening_of, loaded_in, seen};
+ghost use Rattle.fs_target.specs.Entries.{Rises};
+ghost use Rattle.fs_target.specs.Held.{position_of};
+ghost use Rattle.fs_target.specs.Seen.{Seen, listed_in, listening_of, loaded_in, seen};
 
 use crate::entry::{Entry, Loaded};
+use crate::positions::position_in;
 use fs_listen::Cut;
 use fs_time::Micros;
 
@@ -21,7 +24,7 @@ fn lesser(a: Option<Micros>, b: Option<Micros>) -> Option<Micros>
     }
 }
 
-fn greater(a: Option<Micros>, b: Option<Micros>) -> Option<Micros>
+pub(crate) fn greater(a: Option<Micros>, b: Option<Micros>) -> Option<Micros>
     ensures { result ≡ greatest_before a b }
 {
     match (a, b) {
@@ -33,8 +36,8 @@ fn greater(a: Option<Micros>, b: Option<Micros>) -> Option<Micros>
 
 // ---- the cut
 
-// The first target that isn't loaded.
-fn first_loading(entries: &[Entry]) -> Option<u32>
+/// The first target that isn't loaded.
+pub(crate) fn first_loading(entries: &[Entry]) -> Option<u32>
     ensures { result ≡ first_loading (map listed_in (map seen entries.now)) }
 {
     for entry in entries {
@@ -45,7 +48,7 @@ fn first_loading(entries: &[Entry]) -> Option<u32>
     None
 }
 
-fn least_of(positions: &[Option<Micros>]) -> Option<Micros>
+pub(crate) fn least_of(positions: &[Option<Micros>]) -> Option<Micros>
     ensures { result ≡ least positions.now }
 {
     let mut least = None;
@@ -65,8 +68,18 @@ fn least_position(loaded: &Option<Loaded>) -> Option<Micros>
     }
 }
 
-// The least position of all targets.
-fn least_of_all(entries: &[Entry]) -> Option<Micros>
+// The position of a target in a shard.
+fn position_of(loaded: &Option<Loaded>, shard: u32) -> Option<Micros>
+    ensures { result ≡ position_of shard (option_map loaded_in loaded.now) }
+{
+    match loaded {
+        Some(loaded) => position_in(loaded.positions.as_slice(), shard),
+        None => None,
+    }
+}
+
+/// The least position of all targets.
+pub(crate) fn least_of_all(entries: &[Entry]) -> Option<Micros>
     ensures { result ≡ least (flat_map (λ (s : Seen). positions_of s.listened.loaded) (map seen entries.now)) }
 {
     let mut least = None;
@@ -76,8 +89,19 @@ fn least_of_all(entries: &[Entry]) -> Option<Micros>
     least
 }
 
+/// The least position of all targets in a shard.
+pub(crate) fn least_in(entries: &[Entry], shard: u32) -> Option<Micros>
+    ensures { result ≡ least (map (λ (s : Seen). position_of shard s.listened.loaded) (map seen entries.now)) }
+{
+    let mut least = None;
+    for entry in entries {
+        least = lesser(least, position_of(&entry.loaded, shard));
+    }
+    least
+}
+
 // By the least position of all targets, where they are loaded.
-fn cut_at(position: Option<Micros>) -> Cut
+pub(crate) fn cut_at(position: Option<Micros>) -> Cut
     ensures { result ≡ cut_at position }
 {
     match position {
@@ -138,7 +162,7 @@ fn some_new(entries: &[Entry]) -> bool
     entries.iter().any(|entry| !is_current(&entry.loaded))
 }
 
-fn is_from(base: Option<Micros>, time: Micros) -> bool
+pub(crate) fn is_from(base: Option<Micros>, time: Micros) -> bool
     ensures { result ≡ is_from base time }
 {
     match base {
@@ -147,7 +171,7 @@ fn is_from(base: Option<Micros>, time: Micros) -> bool
     }
 }
 
-fn is_behind(raised: &Option<Micros>, time: Micros) -> bool
+pub(crate) fn is_behind(raised: &Option<Micros>, time: Micros) -> bool
     ensures { result ≡ is_behind raised.now time }
 {
     match raised {

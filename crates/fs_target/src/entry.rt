@@ -1,11 +1,12 @@
 //! One target of a session.
 ghost use Rattle.std.specs.Prelude.{◌≡◌, ◌<◌, MatchResult, Some, length, map, option_map, slice_get, slice_index_or, slice_set};
+ghost use Rattle.fs_target.specs.Entries.{IsAbsentAt, IsThereAt, Rises, found, ids_of};
 ghost use Rattle.fs_target.specs.Held.{id_after};
-ghost use Rattle.fs_target.specs.Seen.{IsAbsentAt, IsThereAt, Rises, found, ids_of, seen};
+ghost use Rattle.fs_target.specs.Seen.{seen};
 ghost use Rattle.fs_target.specs.declared.entry.Entry.{Entry};
 
 use crate::kept::Kept;
-use fs_listen::Target;
+use fs_query::Target;
 use fs_time::Micros;
 
 /// One target of a session.

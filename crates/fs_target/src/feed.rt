@@ -2,9 +2,11 @@
 ghost use Rattle.std.specs.Prelude.{◌≡◌, ◌∷◌, ◌++◌, [], ℕ, List, None, OnOk, map, slice_index_or};
 ghost use Rattle.std.specs.List.{AllByRecursion};
 ghost use Rattle.fs_listen.specs.Listening.{moved};
+ghost use Rattle.fs_target.specs.Entries.{Rises, kept_taken, taken};
 ghost use Rattle.fs_target.specs.Held.{events_behind};
+ghost use Rattle.fs_target.specs.Prepared.{IsPrepared};
+ghost use Rattle.fs_target.specs.Seen.{loaded_in, seen};
 ghost use Rattle.fs_target.specs.Staged.{IsNamed};
-ghost use Rattle.fs_target.specs.Seen.{IsPrepared, Rises, kept_taken, loaded_in, seen, taken};
 ghost use Rattle.fs_target.specs.declared.event.TimedEvent.{TimedEvent};
 
 use crate::entry::{Entry, Loaded, place_of};

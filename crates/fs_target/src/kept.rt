@@ -5,17 +5,17 @@ ghost use Rattle.std.specs.FinMap.{get};
 ghost use Rattle.std.specs.Option.{option_copied, option_map};
 ghost use Rattle.fs_path.specs.NameOrder.{name_cmp};
 ghost use Rattle.fs_path.specs.declared.name.DocName.{DocName};
-ghost use Rattle.fs_target.specs.Coming.{sent_of};
 ghost use Rattle.fs_target.specs.Places.{docs_in};
+ghost use Rattle.fs_target.specs.Ready.{sent_of};
 
 use crate::answered::answered;
 use crate::event::TimedEvent;
 use crate::latest::Latest;
 use crate::places::Places;
 use crate::staged::Staged;
-use crate::whole::is_whole;
-use fs_listen::Target;
+use fs_listen::is_whole;
 use fs_path::DocName;
+use fs_query::Target;
 use fs_time::Micros;
 use fs_value::{Document, Documents};
 use std::alloc::{AllocError, Global};
@@ -41,7 +41,7 @@ pub(crate) struct Kept {
 }
 
 impl Model for Kept {
-    ghost use Rattle.fs_target.specs.Coming.{Ready, ready_code};
+    ghost use Rattle.fs_target.specs.Ready.{Ready, ready_code};
 
     ghost Value = { Ready };
 
@@ -49,8 +49,8 @@ impl Model for Kept {
 
     ghost use Rattle.std.specs.Prelude.{◌≡◌};
     ghost use Rattle.std.specs.Option.{option_map};
-    ghost use Rattle.fs_target.specs.Coming.{sent_of};
     ghost use Rattle.fs_target.specs.Places.{HavePlaces, docs_in};
+    ghost use Rattle.fs_target.specs.Ready.{sent_of};
 
     ghost view = { λ k. record {
       kept = record { sent = sent_of (option_map docs_in k.sent) (docs_in k.places); docs = docs_in k.places; staged = k.staged.staged };
@@ -133,10 +133,10 @@ impl Kept {
     ghost use Rattle.fs_path.specs.declared.name.DocName.{DocName};
     ghost use Rattle.fs_value.specs.Named.{by_name};
     ghost use Rattle.fs_write.specs.Batch.{docs_of};
-    ghost use Rattle.fs_target.specs.Coming.{next_at, sent_of};
     ghost use Rattle.fs_target.specs.Kept.{docs_at, kept_at};
     ghost use Rattle.fs_target.specs.Latest.{latest_of};
     ghost use Rattle.fs_target.specs.Places.{docs_in};
+    ghost use Rattle.fs_target.specs.Ready.{next_at, sent_of};
     ghost use Rattle.fs_target.specs.Staged.{IsNamed, behind, put_events, up_to};
 
     /// The view that was sent and all documents that the target listens to, each by rising names.

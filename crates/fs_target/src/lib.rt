@@ -3,6 +3,8 @@
 #![tactic(auto)]
 
 mod answered;
+mod awake;
+mod collections;
 mod cuts;
 mod entry;
 mod error;
@@ -16,12 +18,13 @@ mod places;
 mod positions;
 mod raise;
 mod staged;
+mod still;
 mod targets;
 mod told;
-mod whole;
 
 pub use error::TargetError;
 pub use event::{TimedEvent, TimedEvents, are_named};
-pub use fs_listen::{Cut, Target};
+pub use fs_listen::Cut;
+pub use fs_query::Target;
 pub use laws::targets_are_lawful;
 pub use targets::Targets;

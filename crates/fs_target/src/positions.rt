@@ -4,8 +4,8 @@ ghost use Rattle.std.specs.List.{list_any};
 ghost use Rattle.fs_path.specs.Scope.{AreShards, in_shard};
 ghost use Rattle.fs_listen.specs.Listening.{has_shard, later_of, positions_at};
 
-use fs_listen::Target;
 use fs_path::{DocName, shard_of, shard_of_document};
+use fs_query::Target;
 use fs_time::Micros;
 use std::alloc::{AllocError, Global};
 
@@ -59,14 +59,21 @@ pub(crate) fn positions_at(
     Ok(positions)
 }
 
+/// What is at a place of a list, if there is anything.
+pub(crate) fn position_at_place(positions: &[Option<Micros>], i: usize) -> Option<Micros>
+    ensures { result ≡ slice_index_or positions.now i None }
+{
+    match positions.get(i) {
+        Some(position) => *position,
+        None => None,
+    }
+}
+
 /// The position in a shard, if there is one.
 pub(crate) fn position_in(positions: &[Option<Micros>], shard: u32) -> Option<Micros>
     ensures { result ≡ slice_index_or positions.now shard None }
 {
-    match positions.get(shard as usize) {
-        Some(position) => *position,
-        None => None,
-    }
+    position_at_place(positions, shard as usize)
 }
 
 // A position that was below a time becomes it.

@@ -1,14 +1,17 @@
 //! What a raise says, and how the targets go on: first the views are made ready and what is told of them, and then they take the place of those
 //! that were sent without memory.
-ghost use Rattle.std.specs.Prelude.{◌≡◌, ◌++◌, [], IfOk, OnOk, map};
+ghost use Rattle.std.specs.Prelude.{◌≡◌, ◌++◌, ◌∷◌, [], IfOk, OnOk, map};
 ghost use Rattle.std.specs.List.{AllByRecursion, cons_option, filter_map};
 ghost use Rattle.fs_listen.specs.Cuts.{is_current};
 ghost use Rattle.fs_listen.specs.Listening.{made_current};
 ghost use Rattle.fs_listen.specs.Sent.{current_from, new_targets};
 ghost use Rattle.fs_listen.specs.Told.{told};
 ghost use Rattle.fs_token.specs.Token.{token_of};
+ghost use Rattle.fs_query.specs.declared.listen.ListenMessage.TheVariants as message;
+ghost use Rattle.fs_target.specs.Entries.{gone_to, kept_gone, messages_in, new_ids, views_in};
 ghost use Rattle.fs_target.specs.Looks.{AreAt, all_views};
-ghost use Rattle.fs_target.specs.Seen.{IsNext, gone_to, kept_gone, listed_in, loaded_in, messages_in, new_ids, seen, views_in};
+ghost use Rattle.fs_target.specs.Prepared.{IsNext};
+ghost use Rattle.fs_target.specs.Seen.{listed_in, loaded_in, seen};
 
 use crate::cuts::is_current;
 use crate::entry::{Entry, Loaded};
@@ -138,6 +141,14 @@ pub(crate) fn messages_at(
     let token = token_of(alloc, time)?;
     messages.push(ListenMessage::NoChange { time, token })?;
     Ok(messages)
+}
+
+/// What a raise at a time says that changes nothing.
+pub(crate) fn no_change(alloc: Global, time: Micros) -> Result<Vec<ListenMessage>, AllocError>
+    ensures { IfOk result (λ v. v.items ≡ message.NoChange time (token_of time) ∷ []) }
+{
+    let token = token_of(alloc, time)?;
+    Ok(vec![in alloc; ListenMessage::NoChange { time, token }]?)
 }
 
 // ---- then

@@ -30,7 +30,7 @@ pub(crate) struct Staged {
 }
 
 impl Model for Staged {
-    ghost use Rattle.fs_target.specs.Coming.{Coming, coming_code};
+    ghost use Rattle.fs_target.specs.Room.{Coming, coming_code};
 
     ghost Value = { Coming };
 

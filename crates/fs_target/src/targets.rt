@@ -1,19 +1,17 @@
 //! The targets of a session.
-ghost use Rattle.std.specs.Prelude.{◌≡◌, ◌<◌, ℕ, ℤ, Option, None, Some, IfErr, IfOk, OnOk, length, map};
-ghost use Rattle.std.specs.List.{remove};
-ghost use Rattle.fs_target.specs.Held.{refusal};
-ghost use Rattle.fs_target.specs.Seen.{IsAbsentAt, Rises, held_of, seen};
+ghost use Rattle.std.specs.Prelude.{◌≡◌, None};
+ghost use Rattle.fs_target.specs.Prepared.{held_in};
+ghost use Rattle.fs_target.specs.Still.{as_awake};
 
-use crate::cuts;
-use crate::entry::{Entry, Loaded, find, id_after, place_of, put_loaded};
+use crate::awake::Awake;
 use crate::error::TargetError;
 use crate::event::{TimedEvent, TimedEvents};
-use crate::feed::{prepare_all, take_all};
-use crate::kept::Kept;
-use crate::positions::{position_in, positions_at};
-use crate::raise::{go_all, make_all_next, messages_at};
-use fs_listen::{Cut, Target};
-use fs_query::ListenMessage;
+use crate::positions::{move_position, position_in};
+use crate::raise::no_change;
+use crate::still::{Next, Still, still_at};
+use fs_listen::Cut;
+use fs_path::DocName;
+use fs_query::{ListenMessage, Target};
 use fs_time::Micros;
 use fs_value::Documents;
 use std::alloc::{AllocError, Global};
@@ -27,117 +25,102 @@ use std::marker::Model;
 ///     raised at 1                                    c/a {n: 1} for 1, CURRENT, NO_CHANGE at 1
 ///     shard 0 fed up to 3                            positions 3, 3    staged 2 c/a {n: 2}, 3 d/a {n: 3}     cut 3
 ///     raised at 3                                    c/a {n: 2} and d/a {n: 3} for 1, NO_CHANGE at 3
+///
+/// While each target is loaded and current, nothing is staged and those that have a shard are at one position there, the session stands still: a
+/// commit that concerns none of its targets costs it a look at the shards, and none at the targets.
 #[derive(Drop)]
 pub struct Targets {
-    shards: u32,
-    limit: u64,
-    // the time of the last raise
-    raised: Option<Micros>,
-    // by rising ids
-    entries: Vec<Entry>,
+    awake: Awake,
+    // what stands for the positions of the targets while they stand still
+    still: Option<Still>,
+    // what they are to stand still with once they go to the time that their views were made ready for
+    next: Option<Next>,
 }
 
 impl Model for Targets {
-    ghost use Rattle.fs_target.specs.Held.{Held, held_code};
+    ghost use Rattle.fs_target.specs.Prepared.{Prepared, prepared_code};
 
-    ghost Value = { Held };
+    ghost Value = { Prepared };
 
-    ghost coded = { held_code };
+    ghost coded = { prepared_code };
 
-    ghost use Rattle.std.specs.Prelude.{map};
-    ghost use Rattle.fs_path.specs.Scope.{AreShards};
-    ghost use Rattle.fs_target.specs.Seen.{Rises, held_of, seen};
+    ghost use Rattle.std.specs.Prelude.{IfSome};
+    ghost use Rattle.fs_target.specs.Still.{AreStill, IsNextStill, as_awake};
 
-    ghost view = { λ t. held_of t.shards t.limit t.raised (map seen t.entries.items) };
+    ghost view = { λ t. as_awake t.still t.awake };
 
-    ghost invariant = { λ t. AreShards t.shards × Rises (map seen t.entries.items) };
+    ghost invariant = { λ t. IfSome t.still (λ s. AreStill s t.awake) × IfSome t.next (λ n. IsNextStill n t.awake) };
 }
 
-// The place for one more target, or why there is none.
-fn place_for(entries: &[Entry], limit: u64, id: u32) -> Result<usize, TargetError>
-    requires { Rises (map seen entries.now) }
-    ensures place { IfOk result (IsAbsentAt id (map seen entries.now)) }
-    ensures ok { (shards : ℕ) (raised : Option ℤ) → OnOk result (refusal id (held_of shards limit raised (map seen entries.now)) ≡ None) }
-    ensures err { (shards : ℕ) (raised : Option ℤ) → IfErr result (λ e. refusal id (held_of shards limit raised (map seen entries.now)) ≡ Some e) }
+// Writes the positions of targets that stand still into each, so that they are still no longer. It takes no memory.
+fn wake(still: &mut Option<Still>, awake: &mut Awake)
+    ensures still { still.new ≡ None }
+    ensures same { held_in awake.new ≡ held_in (as_awake still.old awake.old) }
 {
-    if entries.len() as u64 >= limit {
-        return Err(TargetError::TooMany(limit));
+    if let Some(still) = still.take() {
+        awake.write_positions(still.positions.as_slice());
     }
-    match place_of(entries, u64::from(id)) {
-        Ok(_) => Err(TargetError::InUse(id)),
-        Err(i) => Ok(i),
-    }
-}
-
-fn take_out(entries: &mut Vec<Entry>, i: usize)
-    requires { i < length entries.old.items }
-    ensures { entries.new.items ≡ remove entries.old.items i }
-{
-    let _ = entries.remove(i);
 }
 
 impl Targets {
-    ghost use Rattle.std.specs.Prelude.{◌≡◌, ◌<◌, Err, IfErr, IfOk, IfSome, IsTrue, None, OnErr, OnOk, alloc_error, is_some, option_copied, option_map};
+    ghost use Rattle.std.specs.Prelude.{◌≡◌, ◌<◌, Err, IfErr, IfOk, IfSome, IsFalse, IsTrue, List, None, OnErr, OnOk, alloc_error, is_some, option_copied, option_map};
     ghost use Rattle.std.specs.Option.{option_and_then};
-    ghost use Rattle.std.specs.FinMap.{get, is_sorted, keys};
+    ghost use Rattle.std.specs.FinMap.{entries, get, is_sorted, keys, len};
     ghost use Rattle.std.specs.List.{AllByRecursion};
     ghost use Rattle.fs_path.specs.NameOrder.{name_cmp};
     ghost use Rattle.fs_path.specs.Scope.{AreShards};
     ghost use Rattle.fs_value.specs.Named.{by_name};
-    ghost use Rattle.fs_listen.specs.Cuts.{base, cut, is_loaded, is_ready};
+    ghost use Rattle.fs_listen.specs.Cuts.{base, cut, first_loading, is_loaded, is_ready, least, least_position};
     ghost use Rattle.fs_listen.specs.Listening.{Listened};
     ghost use Rattle.fs_listen.specs.declared.cut.Cut.TheVariants.{At};
-    ghost use Rattle.fs_target.specs.Held.{IsUnloaded, fed, id_after, none_held, position_in, raised_at, refusal, staged_of, with_loaded, with_target, without_target};
-    ghost use Rattle.fs_target.specs.Staged.{IsNamed};
+    ghost use Rattle.fs_target.specs.Held.{IsListenedByNone, IsUnloaded, fed, id_after, none_held, position_in, positions_in, raised_at, refusal, staged_of, with_loaded, with_target, without_target};
+    ghost use Rattle.fs_target.specs.Prepared.{ArePrepared, AreReady, held_in};
     ghost use Rattle.fs_target.specs.Raise.{kept_told};
     ghost use Rattle.fs_target.specs.Seen.{seen};
+    ghost use Rattle.fs_target.specs.Staged.{IsNamed};
+    ghost use Rattle.fs_target.specs.declared.event.TimedEvent.{TimedEvent};
 
     /// No targets, of a session of a server with so many shards, 1 to 16, and of which there may be as many as the limit.
     pub fn new(alloc: Global, shards: u32, limit: u64) -> Targets
         requires { AreShards shards }
-        ensures { result ≡ none_held shards limit }
+        ensures { held_in result ≡ none_held shards limit }
     {
         Targets {
-            shards,
-            limit,
-            raised: None,
-            entries: Vec::new(alloc),
+            awake: Awake::new(alloc, shards, limit),
+            still: None,
+            next: None,
         }
     }
 
     /// Adds a target, with the time that its resume token shows. It isn't loaded. Of two refusals the limit comes first.
     pub fn add(&mut self, id: u32, target: Target, token: Option<Micros>) -> Result<(), TargetError>
-        ensures ok { OnOk result (self.new ≡ with_target id target token self.old) }
-        ensures err { OnErr result (self.new ≡ self.old) }
+        ensures ok { OnOk result (held_in self.new ≡ with_target id target token (held_in self.old)) }
+        ensures err { OnErr result (held_in self.new ≡ held_in self.old) }
 
         // `InUse` and `TooMany` just where they hold.
-        ensures refused { IfSome (refusal id self.old) (λ e. result ≡ Err e) }
-        ensures taken { refusal id self.old ≡ None → IfErr result (λ e. e ≡ TargetError.Memory alloc_error) }
+        ensures refused { IfSome (refusal id (held_in self.old)) (λ e. result ≡ Err e) }
+        ensures taken { refusal id (held_in self.old) ≡ None → IfErr result (λ e. e ≡ TargetError.Memory alloc_error) }
     {
-        let i = place_for(self.entries.as_slice(), self.limit, id)?;
-        let entry = Entry {
-            id,
-            target,
-            token,
-            loaded: None,
-        };
-        self.entries.insert(i, entry)?;
-        Ok(())
+        if let Some(refusal) = self.awake.refusal(id) {
+            return Err(refusal);
+        }
+        wake(&mut self.still, &mut self.awake);
+        self.next = None;
+        self.awake.add(id, target, token)
     }
 
     /// Removes a target, and what is kept of it.
     pub fn remove(&mut self, id: u32) -> Result<(), TargetError>
-        ensures ok { OnOk result ((self.new ≡ without_target id self.old) × IsTrue (is_some (get self.old.listening.targets id))) }
-        ensures err { OnErr result (self.new ≡ self.old) }
-        ensures unknown { IfErr result (λ e. (e ≡ TargetError.Unknown id) × (get self.old.listening.targets id ≡ None)) }
+        ensures ok { OnOk result ((held_in self.new ≡ without_target id (held_in self.old)) × IsTrue (is_some (get (held_in self.old).listening.targets id))) }
+        ensures err { OnErr result (held_in self.new ≡ held_in self.old) }
+        ensures unknown { IfErr result (λ e. (e ≡ TargetError.Unknown id) × (get (held_in self.old).listening.targets id ≡ None)) }
     {
-        match place_of(self.entries.as_slice(), u64::from(id)) {
-            Ok(i) => {
-                take_out(&mut self.entries, i);
-                Ok(())
-            }
-            Err(_) => Err(TargetError::Unknown(id)),
+        if self.target(id).is_none() {
+            return Err(TargetError::Unknown(id));
         }
+        wake(&mut self.still, &mut self.awake);
+        self.next = None;
+        self.awake.remove(id)
     }
 
     /// Loads a target that isn't loaded, with the view that was sent of it and all documents that it listens to at a time, each by rising names.
@@ -150,31 +133,19 @@ impl Targets {
         docs: Documents,
         time: Micros,
     ) -> Result<(), AllocError>
-        requires there { IsUnloaded (get self.old.listening.targets id) }
+        requires there { IsUnloaded (get (held_in self.old).listening.targets id) }
         requires sent { IsTrue (is_sorted name_cmp (by_name sent)) }
         requires docs { IsTrue (is_sorted name_cmp (by_name docs)) }
-        ensures ok { OnOk result (self.new ≡ with_loaded id sent reset docs time self.old) }
-        ensures err { OnErr result (self.new ≡ self.old) }
+        ensures ok { OnOk result (held_in self.new ≡ with_loaded id sent reset docs time (held_in self.old)) }
+        ensures err { OnErr result (held_in self.new ≡ held_in self.old) }
     {
-        let kept = Kept::new(alloc, sent, docs)?;
-        let i = match place_of(self.entries.as_slice(), u64::from(id)) {
-            Ok(i) => i,
-            Err(_) => unreachable!(),
-        };
-        let positions = positions_at(alloc, self.shards, &self.entries[i].target, time)?;
-        let loaded = Loaded {
-            time,
-            reset,
-            positions,
-            current: false,
-            kept,
-        };
-        put_loaded(self.entries.as_mut_slice(), i, loaded);
-        Ok(())
+        wake(&mut self.still, &mut self.awake);
+        self.next = None;
+        self.awake.load(alloc, id, sent, reset, docs, time)
     }
 
     /// Takes the events of a shard up to a time: of each target those behind its position there, which becomes that time where it was below it.
-    /// A target without documents in that shard takes none.
+    /// A target without documents in that shard takes none. This is `prepare`, and then `take_in`.
     pub fn feed(
         &mut self,
         alloc: Global,
@@ -183,108 +154,215 @@ impl Targets {
         to: Micros,
     ) -> Result<(), AllocError>
         requires named { AllByRecursion IsNamed events.now }
-        ensures ok { OnOk result (self.new ≡ fed shard events.now to self.old) }
-        ensures err { OnErr result (self.new ≡ self.old) }
+        ensures ok { OnOk result (held_in self.new ≡ fed shard events.now to (held_in self.old)) }
+        ensures err { OnErr result (held_in self.new ≡ held_in self.old) }
     {
-        prepare_all(alloc, self.entries.as_mut_slice(), shard, events.as_slice())?;
-        take_all(self.entries.as_mut_slice(), shard, to);
+        self.prepare(alloc, shard, events.as_slice())?;
+        self.take_in(shard, to);
         Ok(())
+    }
+
+    /// Makes the events of a shard ready to be taken in: of each target those behind its position there. What is asked of the targets stays the
+    /// same until `take_in`, so where none follows nothing has to be undone: the next `prepare` forgets what was made ready.
+    pub fn prepare(
+        &mut self,
+        alloc: Global,
+        shard: u32,
+        events: &[TimedEvent],
+    ) -> Result<(), AllocError>
+        requires named { AllByRecursion IsNamed events.now }
+        ensures same { held_in self.new ≡ held_in self.old }
+        ensures ok { OnOk result (ArePrepared shard events.now self.new) }
+    {
+        if self.still.is_some() && events.is_empty() {
+            return Ok(());
+        }
+        wake(&mut self.still, &mut self.awake);
+        self.next = None;
+        self.awake.prepare(alloc, shard, events)
+    }
+
+    /// Takes in the events of a shard up to a time, without memory. `prepare` has made them ready before, with no other change in between:
+    /// else nothing is promised of what is kept.
+    pub fn take_in(&mut self, shard: u32, to: Micros)
+        ensures { (es : List TimedEvent) → ArePrepared shard es self.old → held_in self.new ≡ fed shard es to (held_in self.old) }
+    {
+        match &mut self.still {
+            Some(still) => move_position(still.positions.as_mut_slice(), shard, to),
+            None => {
+                self.next = None;
+                self.awake.take_in(shard, to);
+            }
+        }
     }
 
     /// The time up to which each of the targets has been told each of its shards, or why there is none.
     pub fn cut(&self) -> Cut
-        ensures { result ≡ cut self.now.listening }
+        ensures { result ≡ cut (held_in self.now).listening }
     {
-        cuts::cut(self.entries.as_slice())
+        match &self.still {
+            Some(still) => still.cut(),
+            None => self.awake.cut(),
+        }
+    }
+
+    /// How many there are.
+    pub fn len(&self) -> usize
+        ensures { result ≡ len (held_in self.now).listening.targets }
+    {
+        self.awake.len()
+    }
+
+    /// The least position of those that are loaded.
+    pub fn least_position(&self) -> Option<Micros>
+        ensures { result ≡ least_position (held_in self.now).listening }
+    {
+        match &self.still {
+            Some(still) => still.least(),
+            None => self.awake.least_position(),
+        }
     }
 
     /// The time below which the session isn't raised: the greatest of the last raise, of what tokens show, and of what targets were loaded at.
     pub fn base(&self) -> Option<Micros>
-        ensures { result ≡ base self.now.listening }
+        ensures { result ≡ base (held_in self.now).listening }
     {
-        cuts::base(&self.raised, self.entries.as_slice())
+        match &self.still {
+            Some(still) => still.base(self.awake.raised()),
+            None => self.awake.base(),
+        }
+    }
+
+    /// The least position in a shard of those that are loaded.
+    pub fn least_in(&self, shard: u32) -> Option<Micros>
+        ensures { result ≡ least (positions_in shard (held_in self.now)) }
+    {
+        match &self.still {
+            Some(still) => position_in(still.positions.as_slice(), shard),
+            None => self.awake.least_in(shard),
+        }
     }
 
     /// Whether the session can be raised at its cut.
     pub fn ready(&self) -> bool
-        ensures { result ≡ is_ready self.now.listening }
+        ensures { result ≡ is_ready (held_in self.now).listening }
     {
-        cuts::ready(&self.raised, self.entries.as_slice())
+        match &self.still {
+            Some(still) => still.ready(self.awake.raised()),
+            None => self.awake.ready(),
+        }
+    }
+
+    /// The least id of a target that isn't loaded.
+    pub fn unloaded(&self) -> Option<u32>
+        ensures { result ≡ first_loading (entries (held_in self.now).listening.targets) }
+    {
+        match &self.still {
+            Some(_) => None,
+            None => self.awake.unloaded(),
+        }
     }
 
     /// The least id of a target, or the least above one.
     pub fn after(&self, id: Option<u32>) -> Option<u32>
-        ensures { result ≡ id_after id (keys self.now.listening.targets) }
+        ensures { result ≡ id_after id (keys (held_in self.now).listening.targets) }
     {
-        id_after(self.entries.as_slice(), id)
+        self.awake.after(id)
     }
 
-    // The entry of a target.
-    fn entry(&self, id: u32) -> Option<&Entry>
-        ensures listened { option_map (λ e. (seen e.now).listened) result ≡ get self.now.listening.targets id }
-        ensures kept { option_map (λ e. (seen e.now).kept) result ≡ get self.now.kept id }
+    /// Whether a document of this name may be one that a target listens to: `false` where none of them has its collection. It costs a search among
+    /// the collections that they listen to, and no look at the targets.
+    pub fn may_listen(&self, name: &DocName) -> bool
+        ensures { IsFalse result → IsListenedByNone name.now (held_in self.now) }
     {
-        find(self.entries.as_slice(), id)
+        self.awake.may_listen(name)
     }
 
     /// What a target listens to.
     pub fn target(&self, id: u32) -> Option<&Target>
-        ensures { option_copied result ≡ option_map (λ (l : Listened). l.target) (get self.now.listening.targets id) }
+        ensures { option_copied result ≡ option_map (λ (l : Listened). l.target) (get (held_in self.now).listening.targets id) }
     {
-        match self.entry(id) {
-            Some(entry) => Some(&entry.target),
-            None => None,
-        }
+        self.awake.target(id)
     }
 
     /// The time that the resume token of a target shows.
     pub fn token(&self, id: u32) -> Option<Micros>
-        ensures { result ≡ option_and_then (λ (l : Listened). l.token) (get self.now.listening.targets id) }
+        ensures { result ≡ option_and_then (λ (l : Listened). l.token) (get (held_in self.now).listening.targets id) }
     {
-        match self.entry(id) {
-            Some(entry) => entry.token,
-            None => None,
-        }
+        self.awake.token(id)
     }
 
     /// The time up to which a target that is loaded was told a shard that it has.
     pub fn position(&self, id: u32, shard: u32) -> Option<Micros>
-        ensures { result ≡ position_in shard (get self.now.listening.targets id) }
+        ensures { result ≡ position_in shard (get (held_in self.now).listening.targets id) }
     {
-        let loaded = self.entry(id)?.loaded.as_ref()?;
-        position_in(loaded.positions.as_slice(), shard)
+        let own = self.awake.position(id, shard)?;
+        match &self.still {
+            Some(still) => position_in(still.positions.as_slice(), shard),
+            None => Some(own),
+        }
     }
 
     /// Whether a target is loaded.
     pub fn loaded(&self, id: u32) -> Option<bool>
-        ensures { result ≡ option_map (λ (l : Listened). is_loaded l.loaded) (get self.now.listening.targets id) }
+        ensures { result ≡ option_map (λ (l : Listened). is_loaded l.loaded) (get (held_in self.now).listening.targets id) }
     {
-        match self.entry(id) {
-            Some(entry) => Some(entry.loaded.is_some()),
-            None => None,
-        }
+        self.awake.loaded(id)
     }
 
     /// The events that are staged of a target that is loaded, by time and then by name: those behind its base.
     pub fn staged(&self, id: u32) -> Option<&[TimedEvent]>
-        ensures { option_copied result ≡ staged_of (get self.now.kept id) }
+        ensures { option_copied result ≡ staged_of (get (held_in self.now).kept id) }
     {
-        let loaded = self.entry(id)?.loaded.as_ref()?;
-        Some(loaded.kept.staged())
+        self.awake.staged(id)
     }
 
-    /// Raises the session at its cut.
+    /// Raises the session at its cut. This is `messages`, and then `go_to`.
     pub fn raise(&mut self, alloc: Global, time: Micros) -> Result<Vec<ListenMessage>, AllocError>
-        requires cut { cut self.old.listening ≡ At time }
-        requires ready { IsTrue (is_ready self.old.listening) }
-        ensures ok { OnOk result (self.new ≡ raised_at time self.old) }
-        ensures told { IfOk result (λ v. v.items ≡ kept_told time self.old) }
-        ensures err { OnErr result (self.new ≡ self.old) }
+        requires cut { cut (held_in self.old).listening ≡ At time }
+        requires ready { IsTrue (is_ready (held_in self.old).listening) }
+        ensures ok { OnOk result (held_in self.new ≡ raised_at time (held_in self.old)) }
+        ensures told { IfOk result (λ v. v.items ≡ kept_told time (held_in self.old)) }
+        ensures err { OnErr result (held_in self.new ≡ held_in self.old) }
     {
-        make_all_next(alloc, self.entries.as_mut_slice(), time)?;
-        let messages = messages_at(alloc, self.entries.as_slice(), time)?;
-        go_all(self.entries.as_mut_slice(), time);
-        self.raised = Some(time);
+        let messages = self.messages(alloc, time)?;
+        self.go_to(time);
         Ok(messages)
+    }
+
+    /// What a raise at a time says. It makes the views ready that the targets are to go to. What is asked of these stays the same until
+    /// `go_to`, so where none follows nothing has to be undone: the next `messages` forgets what was made ready.
+    pub fn messages(
+        &mut self,
+        alloc: Global,
+        time: Micros,
+    ) -> Result<Vec<ListenMessage>, AllocError>
+        ensures same { held_in self.new ≡ held_in self.old }
+        ensures told { IfOk result (λ v. v.items ≡ kept_told time (held_in self.old)) }
+        ensures ok { OnOk result (AreReady time self.new) }
+    {
+        if self.still.is_some() {
+            return no_change(alloc, time);
+        }
+        self.next = None;
+        let messages = self.awake.messages(alloc, time)?;
+        self.next = match self.awake.next_still(alloc, time)? {
+            Some(still) => Some(Next { time, still }),
+            None => None,
+        };
+        Ok(messages)
+    }
+
+    /// Goes to a time, without memory, and is raised there. `messages` has made the views ready before, with no other change in between: else
+    /// nothing is promised of what is kept.
+    pub fn go_to(&mut self, time: Micros)
+        ensures { AreReady time self.old → held_in self.new ≡ raised_at time (held_in self.old) }
+    {
+        if self.still.is_some() {
+            self.awake.raise_to(time);
+            return;
+        }
+        self.awake.go_to(time);
+        self.still = still_at(self.next.take(), time);
     }
 }

@@ -5,7 +5,7 @@ use Rattle.fs_value.specs.declared.document.Document.{Document}
 use Rattle.fs_write.specs.Batch.{AreNamed, Docs}
 use Rattle.fs_query.specs.Answer.{IsAnswer}
 use Rattle.fs_listen.specs.View.{view}
-use Rattle.fs_listen.specs.declared.target.Target.TheVariants as target
+use Rattle.fs_query.specs.declared.target.Target.TheVariants as target
 use Rattle.fs_target.specs.Places.{all_put, docs_in}
 use Rattle.fs_target.proofs.Standing.{Placed}
 use Rattle.fs_target.proofs.Viewing.{answer_put}

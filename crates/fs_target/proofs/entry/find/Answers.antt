@@ -1,6 +1,7 @@
 use Rattle.std.proofs.Common.{sym, ap, ◌∙◌}
 use Rattle.std.specs.Prelude.{map}
-use Rattle.fs_target.specs.Seen.{found, seen}
+use Rattle.fs_target.specs.Entries.{found}
+use Rattle.fs_target.specs.Seen.{seen}
 use Rattle.fs_target.proofs.Entries.{entry_there, found_absent}
 use Rattle.fs_target.proofs.entry.find.Goals as goal
 

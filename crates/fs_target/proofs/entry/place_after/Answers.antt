@@ -1,7 +1,8 @@
 use Rattle.std.proofs.Common.{sym, ap, ◌∙◌}
 use Rattle.std.specs.Prelude.{map}
+use Rattle.fs_target.specs.Entries.{ids_of}
 use Rattle.fs_target.specs.Held.{id_after}
-use Rattle.fs_target.specs.Seen.{ids_of, seen}
+use Rattle.fs_target.specs.Seen.{seen}
 use Rattle.fs_target.proofs.Entries.{id_after_none}
 use Rattle.fs_target.proofs.entry.place_after.Goals as goal
 

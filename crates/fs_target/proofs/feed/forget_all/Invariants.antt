@@ -1,6 +1,7 @@
 use Rattle.std.proofs.Common.{◌≡◌, ℕ, [], map, take}
 use Rattle.std.specs.List.{AllByRecursion}
-use Rattle.fs_target.specs.Seen.{IsPrepared, seen}
+use Rattle.fs_target.specs.Prepared.{IsPrepared}
+use Rattle.fs_target.specs.Seen.{seen}
 use Rattle.fs_target.proofs.feed.forget_all.Given as goal
 
 -- nothing is ready of those so far

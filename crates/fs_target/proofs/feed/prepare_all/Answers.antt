@@ -1,7 +1,8 @@
 use Rattle.std.proofs.Common.{◌<◌, [], ◌∷◌, ◌++◌, length, take, sym, ap, ◌∙◌, subst, arith}
 use Rattle.std.specs.List.{AllByRecursion}
 use Rattle.std.proofs.lemmas.List.{take_all, take_more}
-use Rattle.fs_target.specs.Seen.{IsPrepared, Rises}
+use Rattle.fs_target.specs.Entries.{Rises}
+use Rattle.fs_target.specs.Prepared.{IsPrepared}
 use Rattle.fs_target.specs.Staged.{IsNamed}
 use Rattle.fs_target.specs.declared.event.TimedEvent.{TimedEvent}
 use Rattle.fs_target.proofs.Each.{each_at}

@@ -1,6 +1,7 @@
 use Rattle.std.proofs.Common.{◌≡◌, map, take}
 use Rattle.std.specs.List.{AllByRecursion}
-use Rattle.fs_target.specs.Seen.{IsPrepared, seen}
+use Rattle.fs_target.specs.Prepared.{IsPrepared}
+use Rattle.fs_target.specs.Seen.{seen}
 use Rattle.fs_target.proofs.feed.prepare_all.Given as goal
 
 -- of the events so far those are ready that are to be

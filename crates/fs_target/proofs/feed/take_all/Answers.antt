@@ -1,5 +1,6 @@
 use Rattle.std.proofs.Common.{arith}
-use Rattle.fs_target.specs.Seen.{seen, taken}
+use Rattle.fs_target.specs.Entries.{taken}
+use Rattle.fs_target.specs.Seen.{seen}
 use Rattle.fs_target.proofs.InPlace.{changed_all, changed_more, changed_none}
 use Rattle.fs_target.proofs.feed.take_all.Goals as goal
 

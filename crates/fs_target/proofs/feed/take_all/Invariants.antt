@@ -1,4 +1,5 @@
-use Rattle.fs_target.specs.Seen.{seen, taken}
+use Rattle.fs_target.specs.Entries.{taken}
+use Rattle.fs_target.specs.Seen.{seen}
 use Rattle.fs_target.proofs.InPlace.{Changed}
 use Rattle.fs_target.proofs.feed.take_all.Given as goal
 

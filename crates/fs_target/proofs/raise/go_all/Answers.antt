@@ -1,5 +1,6 @@
 use Rattle.std.proofs.Common.{arith}
-use Rattle.fs_target.specs.Seen.{gone_to, seen}
+use Rattle.fs_target.specs.Entries.{gone_to}
+use Rattle.fs_target.specs.Seen.{seen}
 use Rattle.fs_target.proofs.InPlace.{changed_all, changed_more, changed_none}
 use Rattle.fs_target.proofs.raise.go_all.Goals as goal
 

@@ -1,4 +1,5 @@
-use Rattle.fs_target.specs.Seen.{gone_to, seen}
+use Rattle.fs_target.specs.Entries.{gone_to}
+use Rattle.fs_target.specs.Seen.{seen}
 use Rattle.fs_target.proofs.InPlace.{Changed}
 use Rattle.fs_target.proofs.raise.go_all.Given as goal
 

@@ -2,7 +2,7 @@ use Rattle.std.proofs.Common.{[], ◌∷◌, ◌++◌, get_or, take, sym, ap, �
 use Rattle.std.specs.List.{cons_option, filter_map}
 use Rattle.std.proofs.lemmas.List.{take_more}
 use Rattle.std.proofs.lemmas.List.Elements.{filter_map-append}
-use Rattle.fs_target.specs.Seen.{views_in}
+use Rattle.fs_target.specs.Entries.{views_in}
 use Rattle.fs_target.proofs.raise.looks_of.Goals as goal
 
 pub loop-entry-preserved : goal.loop-entry-preserved

@@ -1,7 +1,7 @@
 use Rattle.std.proofs.Common.{◌≡◌, take}
 use Rattle.std.specs.List.{filter_map}
+use Rattle.fs_target.specs.Entries.{views_in}
 use Rattle.fs_target.specs.Looks.{AreAt, all_views}
-use Rattle.fs_target.specs.Seen.{views_in}
 use Rattle.fs_target.proofs.raise.looks_of.Given as goal
 
 -- the looks at those of the entries so far that are loaded

@@ -1,6 +1,7 @@
 use Rattle.std.proofs.Common.{◌∙◌, arith}
 use Rattle.std.proofs.Math.Seq.{map-set_same}
-use Rattle.fs_target.specs.Seen.{IsNext, seen}
+use Rattle.fs_target.specs.Prepared.{IsNext}
+use Rattle.fs_target.specs.Seen.{seen}
 use Rattle.fs_target.proofs.InPlace.{all_done, all_more}
 use Rattle.fs_target.proofs.raise.make_all_next.Goals as goal
 

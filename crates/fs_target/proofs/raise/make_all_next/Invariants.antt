@@ -1,6 +1,7 @@
 use Rattle.std.proofs.Common.{◌≡◌, map, take}
 use Rattle.std.specs.List.{AllByRecursion}
-use Rattle.fs_target.specs.Seen.{IsNext, seen}
+use Rattle.fs_target.specs.Prepared.{IsNext}
+use Rattle.fs_target.specs.Seen.{seen}
 use Rattle.fs_target.proofs.raise.make_all_next.Given as goal
 
 -- those of the entries so far are ready

@@ -1,5 +1,6 @@
 use Rattle.std.proofs.Common.{◌≡◌, map, take}
-use Rattle.fs_target.specs.Seen.{listed_in, new_ids, seen}
+use Rattle.fs_target.specs.Entries.{new_ids}
+use Rattle.fs_target.specs.Seen.{listed_in, seen}
 use Rattle.fs_target.proofs.raise.new_targets.Given as goal
 
 -- those of the entries so far

@@ -7,10 +7,10 @@ use Rattle.std.specs.Option.{option_map}
 use Rattle.fs_path.specs.NameOrder.{name_cmp}
 use Rattle.fs_path.specs.declared.name.DocName.{DocName}
 use Rattle.fs_write.specs.Batch.{Docs}
-use Rattle.fs_target.specs.Coming.{Ready, sent_of}
 use Rattle.fs_target.specs.Kept.{docs_at}
 use Rattle.fs_target.specs.Latest.{latest_of}
 use Rattle.fs_target.specs.Places.{docs_in}
+use Rattle.fs_target.specs.Ready.{Ready, sent_of}
 use Rattle.fs_target.specs.Staged.{gone_over, up_to}
 use Rattle.fs_target.specs.declared.event.TimedEvent.{TimedEvent}
 use Rattle.fs_target.proofs.GoneOver.{gone_last}

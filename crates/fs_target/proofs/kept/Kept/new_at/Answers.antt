@@ -2,10 +2,10 @@ use Rattle.std.proofs.Common.{◌≡◌, None, Some, sym, ap, ◌∙◌, subst}
 use Rattle.std.specs.FinMap.{get}
 use Rattle.std.specs.Option.{option_copied, option_map}
 use Rattle.fs_value.specs.declared.document.Document.{Document}
-use Rattle.fs_target.specs.Coming.{Ready, sent_of}
 use Rattle.fs_target.specs.Kept.{docs_at}
 use Rattle.fs_target.specs.Latest.{latest_of}
 use Rattle.fs_target.specs.Places.{docs_in}
+use Rattle.fs_target.specs.Ready.{Ready, sent_of}
 use Rattle.fs_target.specs.Staged.{gone_over, up_to}
 use Rattle.fs_target.proofs.GoneOver.{gone_last}
 use Rattle.fs_target.proofs.kept.Kept.new_at.Goals as goal

@@ -2,10 +2,10 @@ use Rattle.std.proofs.Common.{◌≡◌, List, Some, map, sym, ap, ◌∙◌, Bo
 use Rattle.std.specs.FinMap.{values}
 use Rattle.fs_value.specs.declared.document.Document.{Document}
 use Rattle.fs_listen.specs.View.{view}
-use Rattle.fs_target.specs.Coming.{Ready, cut_at}
 use Rattle.fs_target.specs.Kept.{docs_at}
 use Rattle.fs_target.specs.Latest.{latest_of}
 use Rattle.fs_target.specs.Places.{docs_in}
+use Rattle.fs_target.specs.Ready.{Ready, cut_at}
 use Rattle.fs_target.specs.Staged.{gone_over, up_to}
 use Rattle.fs_target.proofs.GoneOver.{named_up, places_up, rising_up}
 use Rattle.fs_target.proofs.kept.Kept.next_at.Goals as goal

@@ -1,9 +1,8 @@
 use Rattle.std.proofs.Common.{◌≡◌, List, arith, sym, ap, ◌∙◌, subst}
 use Rattle.std.specs.Prelude.{int_lt}
 use Rattle.std.proofs.lemmas.Grind.{common_steps}
-use Rattle.fs_target.specs.Coming.{Coming}
 use Rattle.fs_target.specs.Places.{HasPlace, HavePlaces}
-use Rattle.fs_target.specs.Room.{AreInOrder}
+use Rattle.fs_target.specs.Room.{AreInOrder, Coming}
 use Rattle.fs_target.specs.Staged.{behind, up_to}
 use Rattle.fs_target.specs.declared.event.TimedEvent.{TimedEvent}
 use Rattle.fs_target.proofs.Each.{each_filter}

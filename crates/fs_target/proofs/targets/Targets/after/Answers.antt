@@ -1,14 +1,12 @@
-use Rattle.std.proofs.Common.{List, map, ap, ◌∙◌}
+use Rattle.std.proofs.Common.{ap, ◌∙◌}
 use Rattle.std.specs.FinMap.{keys}
-use Rattle.fs_target.specs.Held.{Held, id_after}
-use Rattle.fs_target.specs.Seen.{ids_of, seen}
-use Rattle.fs_target.specs.declared.entry.Entry.{Entry}
-use Rattle.fs_target.proofs.Asked.{ids_are}
+use Rattle.fs_target.specs.Held.{id_after}
+use Rattle.fs_target.specs.Prepared.{held_in}
+use Rattle.fs_target.proofs.MayStand.{keys_shown}
 use Rattle.fs_target.proofs.targets.Targets.after.Goals as goal
 
 pub returns : goal.returns
 returns c =
-    c.id_after.ensures
-    ∙ ap (λ (es : List Entry). id_after c.args.id (ids_of (map seen es))) c.as_slice.ensures.value
-    ∙ ap (id_after c.args.id) (ids_are c.self.inside.raised (map seen c.self.inside.entries.items) c.self.invariant.1)
-    ∙ ap (λ (h : Held). id_after c.args.id (keys h.listening.targets)) c.self.view_is
+    c.after.ensures
+    ∙ ap (id_after c.args.id) (keys_shown c.self.inside.awake c.self.inside.still c.self.invariant.0)
+    ∙ ap (λ v. id_after c.args.id (keys (held_in v).listening.targets)) c.self.view_is

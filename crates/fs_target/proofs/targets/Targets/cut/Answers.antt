@@ -1,12 +1,15 @@
-use Rattle.std.proofs.Common.{List, map, ap, ◌∙◌}
+use Rattle.std.proofs.Common.{sym, ap, ◌∙◌}
 use Rattle.fs_listen.specs.Cuts.{cut}
-use Rattle.fs_target.specs.Held.{Held}
-use Rattle.fs_target.specs.Seen.{listening_of, seen}
-use Rattle.fs_target.specs.declared.entry.Entry.{Entry}
+use Rattle.fs_target.specs.Prepared.{held_in}
+use Rattle.fs_target.proofs.MayStand.{are_still, shown_still}
+use Rattle.fs_target.proofs.Stands.{still_cut}
 use Rattle.fs_target.proofs.targets.Targets.cut.Goals as goal
 
-pub returns : goal.returns
-returns c =
-    c.cut.ensures c.self.inside.raised
-    ∙ ap (λ (es : List Entry). cut (listening_of c.self.inside.raised (map seen es))) c.as_slice.ensures.value
-    ∙ ap (λ (h : Held). cut h.listening) c.self.view_is
+pub returns-in-Some : goal.returns-in-Some
+returns-in-Some c =
+    let o = c.self.inside.still in
+    let m = c.self.inside.awake in
+    let s = c.in-Some.still in
+    let are = are_still o s m c.in-Some.is c.self.invariant.0 in
+    let shown = shown_still o s m c.args.self.now c.in-Some.is c.self.view_is in
+    c.cut.ensures ∙ sym (still_cut s m are) ∙ ap (λ v. cut (held_in v).listening) shown
