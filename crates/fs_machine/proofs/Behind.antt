@@ -8,7 +8,7 @@ use Rattle.fs_write.specs.declared.write.Write.{Write}
 use Rattle.fs_history.specs.declared.batch.Batch.{Batch}
 use Rattle.fs_machine.specs.Behind.{least, lesser, write_same, writing_same}
 use Rattle.fs_machine.specs.Laws.{IsLeastOf}
-use Rattle.fs_machine.specs.Past.{Past, batches}
+use Rattle.fs_machine.specs.Past.{batches}
 use Rattle.fs_machine.specs.declared.unreleased.Unreleased.{Unreleased}
 
 -- none of the names that a batch writes is among those of these writes

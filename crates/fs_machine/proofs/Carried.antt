@@ -1,48 +1,33 @@
 -- What a request that comes, or is tried again, does to what was committed, to the numbers that were drawn, and to what transactions have
 -- read.
-use Rattle.std.proofs.Common.{◌≡◌, ◌⊎◌, inl, inr, ℕ, ℤ, ◌+◌, ◌≤◌, ◌≤ℤ◌, ◌<ℤ◌, Bool, true, false, cond, List, [], ◌∷◌, ◌++◌, map, Option, Some, None, refl, sym, ap, ◌∙◌, subst, arith}
-use Rattle.std.specs.Prelude.{pos, ◌+ℤ◌, ◌==◌, is_none, int_lt, length, nat_le, codes, slice_get, unwrap_or}
-use Rattle.std.specs.FinMap.{get, values}
-use Rattle.std.specs.List.{AllByRecursion}
+use Rattle.std.proofs.Common.{◌≡◌, ◌⊎◌, inl, inr, ℕ, ℤ, ◌+◌, ◌≤◌, Bool, true, false, cond, List, [], ◌∷◌, Option, Some, None, refl, sym, ap, ◌∙◌, subst, arith}
+use Rattle.std.specs.Prelude.{pos, negsuc, ◌==◌, length, nat_le, codes, slice_get, unwrap_or}
 use Rattle.std.proofs.lemmas.Bool.{eqb-true}
 use Rattle.std.proofs.lemmas.Bool.Decides.{nat_tests}
-use Rattle.std.proofs.lemmas.Int.{ints}
 use Rattle.std.proofs.lemmas.Option.{same_Some}
-use Rattle.fs_history.specs.History.{at, whole}
-use Rattle.fs_history.specs.Serial.{AreShown, IsShown}
 use Rattle.fs_history.specs.declared.read.Read.{Read}
-use Rattle.fs_history.specs.declared.read.Read.TheVariants as read
-use Rattle.fs_history.proofs.HistoryLaws.{at_whole}
-use Rattle.fs_path.specs.declared.name.DocName.{DocName}
 use Rattle.fs_rpc.specs.When.{transaction_of}
 use Rattle.fs_rpc.specs.declared.options.TransactionOptions.{TransactionOptions}
-use Rattle.fs_rpc.specs.declared.options.TransactionOptions.TheVariants.{ReadWrite, ReadOnly}
-use Rattle.fs_rpc.specs.declared.request.Envelope.{Envelope}
 use Rattle.fs_rpc.specs.declared.request.Request.{Request}
-use Rattle.fs_rpc.specs.declared.request.Request.TheVariants.{Commit, GetDocument, BatchGetDocuments, RunQuery, BeginTransaction, Rollback}
+use Rattle.fs_rpc.specs.declared.request.Request.TheVariants.{Commit, GetDocument, BatchGetDocuments, RunQuery, BeginTransaction, Rollback, AddTarget, RemoveTarget}
 use Rattle.fs_rpc.specs.declared.when.When.{When}
 use Rattle.fs_rpc.specs.declared.when.When.TheVariants.{Released, At, In}
-use Rattle.fs_status.specs.Refusal.{at_limit, refusal_of}
-use Rattle.fs_status.specs.declared.reason.Reason.TheVariants.{TooOld, TooNew}
+use Rattle.fs_status.specs.Refusal.{at_limit}
 use Rattle.fs_status.specs.declared.refusal.Refusal.{Refusal}
-use Rattle.fs_txn.specs.Transactions.{Transactions, all_noted, is_read_write, noted, txn_of, used_at, with_read}
-use Rattle.fs_txn.specs.declared.kind.Kind.{Kind}
-use Rattle.fs_txn.specs.declared.kind.Kind.TheVariants as kind
+use Rattle.fs_txn.specs.Transactions.{Transactions, all_noted, is_read_write, noted, txn_of, with_read}
 use Rattle.fs_txn.specs.declared.txn.Txn.{Txn}
-use Rattle.fs_write.specs.Batch.{Docs}
 use Rattle.fs_write.specs.declared.write.Write.{Write}
-use Rattle.fs_machine.specs.Behind.{behind}
 use Rattle.fs_machine.specs.Commit.{committed, committed_in, committed_unless, next_commit, past_prepared}
 use Rattle.fs_machine.specs.Conflict.{conflict}
-use Rattle.fs_machine.specs.Facts.{Facts, PastFacts}
 use Rattle.fs_machine.specs.IdsAreDrawn.{IdsAreDrawn, counted, own_count, times}
+use Rattle.fs_machine.specs.Listeners.{Listener}
 use Rattle.fs_machine.specs.Numbered.{draws, number_of, transaction_in}
 use Rattle.fs_machine.specs.Past.{Past}
-use Rattle.fs_machine.specs.Read.{docs_at, is_noted, read_in, read_time, reader_behind, shown_at, shown_of, time_refusal}
-use Rattle.fs_machine.specs.Request.{Decision, arrival_refusal, arrived, arrives, asked, asked_unless, begin_time_refusal, carried, carried_by, check_refusal, decision, drawn, held_by, unless_full, unless_held, unless_refused}
+use Rattle.fs_machine.specs.Read.{read_in, reader_behind, shown_at}
+use Rattle.fs_machine.specs.Request.{Decision, arrives, asked_unless, carried, carried_by, check_refusal, decision, drawn, held_by, unless_full, unless_held, unless_refused}
 use Rattle.fs_machine.specs.Retry.{retried_if, retry_decision, tried, unparked}
 use Rattle.fs_machine.specs.State.{Machine}
-use Rattle.fs_machine.specs.Transact.{kind_of, time_asked, time_in, with_begun, with_ended, with_reads}
+use Rattle.fs_machine.specs.Transact.{kind_of, time_asked, with_ended}
 use Rattle.fs_machine.specs.declared.parked_request.ParkedRequest.{ParkedRequest}
 use Rattle.fs_machine.specs.declared.unreleased.Unreleased.{Unreleased}
 use Rattle.fs_machine.proofs.IdsAreDrawn.{fewer_ended, ids_drawn, ids_fewer, in_more, more_by, open_changed, open_ended, open_more, parked_less, parked_more}
@@ -82,6 +67,9 @@ carried_follows m r (BatchGetDocuments database names mask when) = read_follows 
 carried_follows m r (RunQuery database query when) = read_follows m when (RunQuery database query when)
 carried_follows m r (BeginTransaction database options) = inl refl
 carried_follows m r (Rollback database transaction) = inl refl
+carried_follows m r (AddTarget database target t token) = inl refl
+carried_follows m r (RemoveTarget database (pos target)) = inl refl
+carried_follows m r (RemoveTarget database (negsuc target)) = inl refl
 
 arrives_follows : (m : Machine) (r : ParkedRequest) (d : Decision) → AtMostPrepares m.past (arrives m r d).past
 arrives_follows m r (Decision.refused refusal) = inl refl
@@ -166,6 +154,9 @@ carried_times m r (RunQuery database query when) id = let same = read_times m wh
 carried_times m r (BeginTransaction database options) id =
     let more = open_more id (begun_one m r.id options) m.txns.open in omega (arith, more)
 carried_times m r (Rollback database transaction) id = let less = fewer_ended m.past m.txns m.parked transaction id in omega (arith, less)
+carried_times m r (AddTarget database target t token) id = omega arith
+carried_times m r (RemoveTarget database (pos target)) id = omega arith
+carried_times m r (RemoveTarget database (negsuc target)) id = omega arith
 
 -- one that has to wait has drawn its number, if it is of no transaction
 held_read : (m : Machine) (r : ParkedRequest) (when : When) (q : Request) (id by : ℕ) → reader_behind m when q ≡ Some by → own_count id r (transaction_of when) ≡ 0
@@ -181,6 +172,8 @@ held_count m r (BatchGetDocuments database names mask when) id by is = held_read
 held_count m r (RunQuery database query when) id by is = held_read m r when (RunQuery database query when) id by is
 held_count m r (BeginTransaction database options) id by is = absurd (cc)
 held_count m r (Rollback database transaction) id by is = absurd (cc)
+held_count m r (AddTarget database target t token) id by is = absurd (cc)
+held_count m r (RemoveTarget database target) id by is = absurd (cc)
 
 full_times : (m n : Machine) (r : ParkedRequest) (id by : ℕ) (full : Bool) → times_of id n ≡ times_of id m → own_count id r (transaction_in r.envelope.request) ≡ drawn_count id r r.envelope.request
     → times_of id (arrives n r (cond full (Decision.refused (at_limit (codes "parked") m.limits.parked)) (Decision.held by))) ≤ times_of id m + drawn_count id r r.envelope.request
@@ -215,6 +208,8 @@ own_or_drawn id r (BatchGetDocuments database names mask when) = omega arith
 own_or_drawn id r (RunQuery database query when) = omega arith
 own_or_drawn id r (BeginTransaction database options) = omega arith
 own_or_drawn id r (Rollback database transaction) = omega arith
+own_or_drawn id r (AddTarget database target t token) = omega arith
+own_or_drawn id r (RemoveTarget database target) = omega arith
 
 tried_times : (m : Machine) (place : ℕ) (r : ParkedRequest) (id : ℕ) (d : Decision) → slice_get m.parked place ≡ Some r → times_of id (tried m place r d) ≤ times_of id m
 tried_times m place r id (Decision.refused refusal) is = let less = parked_less id m.parked place r is in omega (arith, less)
@@ -238,8 +233,14 @@ next_number ids (BatchGetDocuments database names mask when) is = absurd (cc)
 next_number ids (RunQuery database query when) is = absurd (cc)
 next_number ids (BeginTransaction database options) is = refl
 next_number ids (Rollback database transaction) is = absurd (cc)
+next_number ids (AddTarget database target t token) is = absurd (cc)
+next_number ids (RemoveTarget database target) is = absurd (cc)
 
 -- ---- the rest stays as it is
+
+-- with other listeners, and another number of the last target
+abbrev pub with_listeners : Machine → List Listener → ℕ → Machine
+with_listeners m ls given = record m { listeners = ls; numbers = record m.numbers { targets = given } }
 
 unless_rest : (m : Machine) (r : ParkedRequest) (writes : List Write) (t : Txn) (found : Option ℕ)
     → committed_unless m r writes t found ≡ record m { past = (committed_unless m r writes t found).past; txns = (committed_unless m r writes t found).txns }
@@ -253,37 +254,49 @@ if_rest : (m : Machine) (r : ParkedRequest) (writes : List Write) (t : Txn) (b :
 if_rest m r writes t true = unless_rest m r writes t (conflict m.config.mode m.past m.txns.open t writes)
 if_rest m r writes t false = refl
 
-in_rest : (m : Machine) (r : ParkedRequest) (writes : List Write) (found : Option Txn) → committed_in m r writes found ≡ record m { past = (committed_in m r writes found).past; txns = (committed_in m r writes found).txns }
+pub in_rest : (m : Machine) (r : ParkedRequest) (writes : List Write) (found : Option Txn) → committed_in m r writes found ≡ record m { past = (committed_in m r writes found).past; txns = (committed_in m r writes found).txns }
 in_rest m r writes None = refl
 in_rest m r writes (Some t) = if_rest m r writes t (is_read_write t.kind)
 
-read_rest : (m : Machine) (when : When) (q : Request) → read_in m when q ≡ record m { past = (read_in m when q).past; txns = (read_in m when q).txns }
+pub read_rest : (m : Machine) (when : When) (q : Request) → read_in m when q ≡ record m { past = (read_in m when q).past; txns = (read_in m when q).txns }
 read_rest m Released q = refl
 read_rest m (At time) q = refl
 read_rest m (In of) q = refl
 
-pub carried_rest : (m : Machine) (r : ParkedRequest) (q : Request) → carried_by m r q ≡ record m { past = (carried_by m r q).past; txns = (carried_by m r q).txns }
+with_both : (m n : Machine) (p : Past) (ts : Transactions) → n ≡ record m { past = p; txns = ts } → n ≡ record (with_listeners m n.listeners n.numbers.targets) { past = p; txns = ts }
+with_both m n p ts is =
+    is ∙ sym (λ i. record (with_listeners m (is i).listeners (is i).numbers.targets) { past = p; txns = ts })
+
+pub carried_rest : (m : Machine) (r : ParkedRequest) (q : Request)
+    → carried_by m r q ≡ record (with_listeners m (carried_by m r q).listeners (carried_by m r q).numbers.targets) { past = (carried_by m r q).past; txns = (carried_by m r q).txns }
 carried_rest m r (Commit database writes None) = refl
-carried_rest m r (Commit database writes (Some of)) = in_rest m r writes (txn_of of m.txns.open)
-carried_rest m r (GetDocument name mask when) = read_rest m when (GetDocument name mask when)
-carried_rest m r (BatchGetDocuments database names mask when) = read_rest m when (BatchGetDocuments database names mask when)
-carried_rest m r (RunQuery database query when) = read_rest m when (RunQuery database query when)
+carried_rest m r (Commit database writes (Some of)) = with_both m _ _ _ (in_rest m r writes (txn_of of m.txns.open))
+carried_rest m r (GetDocument name mask when) = with_both m _ _ _ (read_rest m when (GetDocument name mask when))
+carried_rest m r (BatchGetDocuments database names mask when) = with_both m _ _ _ (read_rest m when (BatchGetDocuments database names mask when))
+carried_rest m r (RunQuery database query when) = with_both m _ _ _ (read_rest m when (RunQuery database query when))
 carried_rest m r (BeginTransaction database options) = refl
 carried_rest m r (Rollback database transaction) = refl
+carried_rest m r (AddTarget database target t token) = refl
+carried_rest m r (RemoveTarget database (pos target)) = refl
+carried_rest m r (RemoveTarget database (negsuc target)) = refl
 
-arrives_rest : (m : Machine) (r : ParkedRequest) (d : Decision) → arrives m r d ≡ record m { past = (arrives m r d).past; txns = (arrives m r d).txns; parked = (arrives m r d).parked }
+-- with the rest of another
+abbrev pub with_rest : Machine → Machine → Machine
+with_rest m n = record (with_listeners m n.listeners n.numbers.targets) { past = n.past; txns = n.txns; parked = n.parked }
+
+arrives_rest : (m : Machine) (r : ParkedRequest) (d : Decision) → arrives m r d ≡ with_rest m (arrives m r d)
 arrives_rest m r (Decision.refused refusal) = refl
 arrives_rest m r (Decision.held by) = refl
 arrives_rest m r Decision.goes_on =
     carried_rest m r r.envelope.request
-    ∙ ap (λ rs. record m { past = (carried m r).past; txns = (carried m r).txns; parked = rs }) (sym (ap (λ (n : Machine). n.parked) (carried_rest m r r.envelope.request)))
+    ∙ ap (λ rs. record (with_rest m (carried m r)) { parked = rs }) (sym (ap (λ (n : Machine). n.parked) (carried_rest m r r.envelope.request)))
 
-pub tried_rest : (m : Machine) (place : ℕ) (r : ParkedRequest) (d : Decision) → tried m place r d ≡ record m { past = (tried m place r d).past; txns = (tried m place r d).txns; parked = (tried m place r d).parked }
+pub tried_rest : (m : Machine) (place : ℕ) (r : ParkedRequest) (d : Decision) → tried m place r d ≡ with_rest m (tried m place r d)
 tried_rest m place r (Decision.refused refusal) = refl
 tried_rest m place r (Decision.held by) = refl
 tried_rest m place r Decision.goes_on = let n = unparked m place in
     carried_rest n r r.envelope.request
-    ∙ ap (λ rs. record m { past = (carried n r).past; txns = (carried n r).txns; parked = rs }) (sym (ap (λ (k : Machine). k.parked) (carried_rest n r r.envelope.request)))
+    ∙ ap (λ rs. record (with_rest m (carried n r)) { parked = rs }) (sym (ap (λ (k : Machine). k.parked) (carried_rest n r r.envelope.request)))
 
 -- ---- numbers are drawn
 
@@ -327,8 +340,8 @@ pub record LeavesAlone (m n : Machine) : Type 0 where
   pub sessions : n.sessions ≡ m.sessions
   pub given : n.numbers.sessions ≡ m.numbers.sessions
 
-alone_of : (m n k : Machine) (p : Past) (ts : Transactions) (rs : List ParkedRequest) → k ≡ record n { past = p; txns = ts; parked = rs } → LeavesAlone m n → LeavesAlone m k
-alone_of m n k p ts rs is alone = record {
+alone_of : (m n k : Machine) → k ≡ with_rest n k → LeavesAlone m n → LeavesAlone m k
+alone_of m n k is alone = record {
   config = ap (λ (x : Machine). x.config) is ∙ alone.config;
   limits = ap (λ (x : Machine). x.limits) is ∙ alone.limits;
   sessions = ap (λ (x : Machine). x.sessions) is ∙ alone.sessions;
@@ -338,11 +351,8 @@ alone_of m n k p ts rs is alone = record {
 alone_drawn : (m : Machine) (r : ParkedRequest) (b : Bool) (d : Decision) → LeavesAlone m (arrives (cond b (record m { numbers = record m.numbers { ids = m.numbers.ids + 1 } }) m) r d)
 alone_drawn m r true d =
     let k = record m { numbers = record m.numbers { ids = m.numbers.ids + 1 } } in
-    let n = arrives k r d in
-    alone_of m k n n.past n.txns n.parked (arrives_rest k r d) (record { config = refl; limits = refl; sessions = refl; given = refl })
-alone_drawn m r false d =
-    let n = arrives m r d in
-    alone_of m m n n.past n.txns n.parked (arrives_rest m r d) (record { config = refl; limits = refl; sessions = refl; given = refl })
+    alone_of m k (arrives k r d) (arrives_rest k r d) (record { config = refl; limits = refl; sessions = refl; given = refl })
+alone_drawn m r false d = alone_of m m (arrives m r d) (arrives_rest m r d) (record { config = refl; limits = refl; sessions = refl; given = refl })
 
 pub asked_alone : (m : Machine) (r : ParkedRequest) (refusal : Option Refusal) → LeavesAlone m (asked_unless refusal m r)
 asked_alone m r (Some refusal) = record { config = refl; limits = refl; sessions = refl; given = refl }
@@ -351,8 +361,8 @@ asked_alone m r None = alone_drawn m r (draws r.envelope.request) (unless_full m
 pub retried_alone : (m : Machine) (place : ℕ) (found : Option ParkedRequest) → LeavesAlone m (retried_if m place found)
 retried_alone m place None = record { config = refl; limits = refl; sessions = refl; given = refl }
 retried_alone m place (Some r) =
-    let n = tried m place r (retry_decision m r.envelope.request) in
-    alone_of m m n n.past n.txns n.parked (tried_rest m place r (retry_decision m r.envelope.request)) (record { config = refl; limits = refl; sessions = refl; given = refl })
+    let d = retry_decision m r.envelope.request in
+    alone_of m m (tried m place r d) (tried_rest m place r d) (record { config = refl; limits = refl; sessions = refl; given = refl })
 
 -- ---- the last number that was drawn
 

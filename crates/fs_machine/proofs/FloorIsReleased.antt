@@ -3,10 +3,11 @@ use Rattle.std.proofs.Common.{ℤ, ◌≤ℤ◌, List, [], ◌∷◌, Option, So
 use Rattle.std.specs.Prelude.{⊤}
 use Rattle.std.specs.List.{AllByRecursion}
 use Rattle.std.proofs.lemmas.Int.{ints}
-use Rattle.fs_machine.specs.Past.{Past}
 use Rattle.fs_txn.specs.Reading.{earlier as earlier_of, oldest}
 use Rattle.fs_txn.specs.declared.txn.Txn.{Txn}
+use Rattle.fs_listen.specs.Cuts.{least, lesser_of}
 use Rattle.fs_machine.specs.Compact.{earlier, floor_after, past_compacted}
+use Rattle.fs_machine.specs.Past.{Past}
 use Rattle.fs_machine.specs.Release.{past_released}
 use Rattle.fs_machine.specs.Tick.{later}
 use Rattle.fs_machine.specs.TransactionsHold.{TransactionsHold}
@@ -35,7 +36,7 @@ floor_compacted p first to within =
 
 -- ---- it rises to no later than a transaction reads
 
-abbrev IsBelow : ℤ → Option ℤ → Type 0
+abbrev pub IsBelow : ℤ → Option ℤ → Type 0
 IsBelow t None = ⊤
 IsBelow t (Some other) = t ≤ℤ other
 
@@ -61,7 +62,32 @@ each_later : (mode : Mode) (p : Past) (t : ℤ) (ts : List Txn) → Transactions
 each_later mode p t [] holds all = tt
 each_later mode p t (x ∷ ts) holds all = (later_within p.floor t x.read_time holds.0.floor all.0, each_later mode p t ts holds.1 all.1)
 
-pub floor_before : (mode : Mode) (p : Past) (ts : List Txn) (to : ℤ) → TransactionsHold mode p ts → AllByRecursion (λ x. floor_after p (oldest ts) to ≤ℤ x.read_time) ts
-floor_before mode p ts to holds =
-    let t = earlier_of (oldest ts) (earlier to p.released) in
-    each_later mode p t ts holds (below_all t ts (earlier_below (oldest ts) (earlier to p.released)))
+-- below the least of several times it is below each
+least_below : (t : ℤ) (o : Option ℤ) (os : List (Option ℤ)) → IsBelow t (least (o ∷ os)) → IsBelow t o × IsBelow t (least os)
+least_below t None os within = (tt, within)
+least_below t (Some u) os within = lesser_below t u (least os) within where
+  lesser_below : (t u : ℤ) (rest : Option ℤ) → t ≤ℤ lesser_of u rest → (t ≤ℤ u) × IsBelow t rest
+  lesser_below t u None within = (within, tt)
+  lesser_below t u (Some v) within = grind (arith, ints)
+
+pub all_below : (t : ℤ) (os : List (Option ℤ)) → IsBelow t (least os) → AllByRecursion (IsBelow t) os
+all_below t [] within = tt
+all_below t (o ∷ os) within = let both = least_below t o os within in (both.0, all_below t os both.1)
+
+pub below_rest : (t : ℤ) (o : Option ℤ) (os : List (Option ℤ)) → IsBelow t (least (o ∷ os)) → IsBelow t (least os)
+below_rest t o os within = (least_below t o os within).1
+
+-- what the floor rises to is below each time that is asked for
+pub rises_below : (p : Past) (first : Option ℤ) (to : ℤ) → IsBelow (earlier_of first (earlier to p.released)) first
+rises_below p first to = earlier_below first (earlier to p.released)
+
+-- and so is the floor then, where it was
+pub floor_below : (p : Past) (first : Option ℤ) (to t : ℤ) → p.floor ≤ℤ t → earlier_of first (earlier to p.released) ≤ℤ t → floor_after p first to ≤ℤ t
+floor_below p first to t was within = later_within p.floor (earlier_of first (earlier to p.released)) t was within
+
+pub floor_before : (mode : Mode) (p : Past) (ts : List Txn) (others : List (Option ℤ)) (to : ℤ) → TransactionsHold mode p ts
+    → AllByRecursion (λ x. floor_after p (least (oldest ts ∷ others)) to ≤ℤ x.read_time) ts
+floor_before mode p ts others to holds =
+    let first = least (oldest ts ∷ others) in
+    let t = earlier_of first (earlier to p.released) in
+    each_later mode p t ts holds (below_all t ts (least_below t (oldest ts) others (rises_below p first to)).0)

@@ -1,8 +1,8 @@
 -- Whom a request waits for, and what a transaction is in conflict with: the least of their numbers is told. And one that only reads does
 -- neither.
-use Rattle.std.proofs.Common.{◌≡◌, ◌⊎◌, inl, inr, ℕ, Bool, true, false, cond, List, [], ◌∷◌, ◌++◌, Option, Some, None, map, refl, sym, ap, ◌∙◌, subst}
+use Rattle.std.proofs.Common.{◌≡◌, ◌⊎◌, inl, inr, ℕ, Bool, true, false, cond, List, [], ◌∷◌, ◌++◌, Option, Some, None, refl, sym, ap, ◌∙◌}
 use Rattle.std.specs.Prelude.{◌==◌, ◌&&◌, ◌||◌, IsTrue, int_lt}
-use Rattle.std.specs.List.{filter, list_any}
+use Rattle.std.specs.List.{list_any}
 use Rattle.std.specs.Option.{option_map_or}
 use Rattle.std.proofs.lemmas.Bool.{or_left, or_right}
 use Rattle.std.proofs.lemmas.List.Folds.{list_any-append}
@@ -10,7 +10,7 @@ use Rattle.fs_history.specs.Touches.{some_touched}
 use Rattle.fs_history.specs.declared.read.Read.{Read}
 use Rattle.fs_rpc.specs.declared.message.Message.TheVariants as message
 use Rattle.fs_rpc.specs.declared.request.Request.{Request}
-use Rattle.fs_rpc.specs.declared.request.Request.TheVariants.{Commit, GetDocument, BatchGetDocuments, RunQuery, BeginTransaction, Rollback}
+use Rattle.fs_rpc.specs.declared.request.Request.TheVariants.{Commit, GetDocument, BatchGetDocuments, RunQuery, BeginTransaction, Rollback, AddTarget, RemoveTarget}
 use Rattle.fs_rpc.specs.declared.when.When.{When}
 use Rattle.fs_rpc.specs.declared.when.When.TheVariants.{Released, At, In}
 use Rattle.fs_rpc.specs.When.{transaction_of}
@@ -20,8 +20,8 @@ use Rattle.fs_txn.specs.declared.txn.Txn.{Txn}
 use Rattle.fs_write.specs.declared.write.Write.{Write}
 use Rattle.fs_machine.specs.Behind.{least, write_same, writing_same}
 use Rattle.fs_machine.specs.Commit.{author_refusal, committed_answer, committed_answer_in, committed_answer_unless, only_reads, unless_closed, writing_refusal}
-use Rattle.fs_machine.specs.Conflict.{conflict, is_reader, others, plain_behind, read_behind, readers_of, touching, touching_since}
-use Rattle.fs_machine.specs.Laws.{IsConflict, IsHolder, IsHolderOfRead, IsLeastOf, IsPlainHolder, IsReadHolder, IsReader, IsToucher, IsWriter}
+use Rattle.fs_machine.specs.Conflict.{conflict, is_reader, others, plain_behind, read_behind, readers_of}
+use Rattle.fs_machine.specs.Laws.{IsConflict, IsHolder, IsHolderOfRead, IsLeastOf, IsPlainHolder, IsReadHolder, IsReader, IsWriter}
 use Rattle.fs_machine.specs.Numbered.{transaction_in}
 use Rattle.fs_machine.specs.Past.{Past, batches}
 use Rattle.fs_machine.specs.Read.{is_noted, reader_behind, shown_at}
@@ -85,6 +85,8 @@ held_by_the_least m (BatchGetDocuments database names mask when) = read_held m w
 held_by_the_least m (RunQuery database query when) = read_held m when (RunQuery database query when)
 held_by_the_least m (BeginTransaction database options) = λ id none. none
 held_by_the_least m (Rollback database transaction) = λ id none. none
+held_by_the_least m (AddTarget database target t token) = λ id none. none
+held_by_the_least m (RemoveTarget database target) = λ id none. none
 
 pub aborted_by_the_least : (mode : Mode) (p : Past) (ts : List Txn) (t : Txn) (ws : List Write) → IsLeastOf (IsConflict mode p ts t ws) (conflict mode p ts t ws)
 aborted_by_the_least Pessimistic p ts t ws = least_passing (λ v. v.id) (is_reader ws) (others t.id ts)
@@ -132,6 +134,8 @@ free_reader m (BatchGetDocuments database names mask when) is none = free_read m
 free_reader m (RunQuery database query when) is none = free_read m when (RunQuery database query when) is
 free_reader m (BeginTransaction database options) is none = refl
 free_reader m (Rollback database transaction) is none = refl
+free_reader m (AddTarget database target t token) is none = refl
+free_reader m (RemoveTarget database target) is none = refl
 
 pub read_only_goes_on : (m : Machine) (q : Request) → only_reads m (transaction_in q) ≡ true → check_refusal m q ≡ None → decision m q ≡ Decision.goes_on
 read_only_goes_on m q is none = (λ i. unless_refused (none i) (unless_held (free_reader m q is none i)))

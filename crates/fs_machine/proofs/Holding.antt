@@ -1,12 +1,10 @@
 -- What a request that is carried out keeps of what was committed, and of what open transactions have read.
 use Rattle.std.proofs.Common.{◌≡◌, ℕ, ℤ, ◌≤ℤ◌, ◌<ℤ◌, Bool, true, false, cond, List, [], ◌∷◌, ◌++◌, map, Option, Some, None, refl, sym, ap, ◌∙◌, subst, arith}
-use Rattle.std.specs.Prelude.{pos, ◌+◌, ◌+ℤ◌, ◌==◌, codes, int_lt, length, nat_le, not, remove, unwrap_or}
+use Rattle.std.specs.Prelude.{pos, negsuc, ◌+◌, ◌+ℤ◌, ◌==◌, codes, int_lt, length, nat_le, not, remove, unwrap_or}
 use Rattle.std.specs.FinMap.{get, values}
-use Rattle.std.specs.List.{filter}
 use Rattle.std.specs.Option.{option_map_or}
 use Rattle.std.proofs.lemmas.Int.{ints}
-use Rattle.std.proofs.lemmas.Option.{same_Some}
-use Rattle.fs_history.specs.History.{at, whole}
+use Rattle.fs_history.specs.History.{at}
 use Rattle.fs_history.specs.Serial.{AreShown}
 use Rattle.fs_history.specs.declared.batch.Batch.{Batch}
 use Rattle.fs_history.specs.declared.read.Read.{Read}
@@ -18,7 +16,7 @@ use Rattle.fs_query.proofs.AnswerLaws.{some_answer}
 use Rattle.fs_rpc.specs.declared.options.TransactionOptions.{TransactionOptions}
 use Rattle.fs_rpc.specs.declared.options.TransactionOptions.TheVariants.{ReadWrite, ReadOnly}
 use Rattle.fs_rpc.specs.declared.request.Request.{Request}
-use Rattle.fs_rpc.specs.declared.request.Request.TheVariants.{Commit, GetDocument, BatchGetDocuments, RunQuery, BeginTransaction, Rollback}
+use Rattle.fs_rpc.specs.declared.request.Request.TheVariants.{Commit, GetDocument, BatchGetDocuments, RunQuery, BeginTransaction, Rollback, AddTarget, RemoveTarget}
 use Rattle.fs_rpc.specs.declared.when.When.{When}
 use Rattle.fs_rpc.specs.declared.when.When.TheVariants.{Released, At, In}
 use Rattle.fs_status.specs.Refusal.{at_limit, refusal_of}
@@ -38,7 +36,7 @@ use Rattle.fs_machine.specs.Facts.{PastFacts}
 use Rattle.fs_machine.specs.HistoryRises.{HistoryRises}
 use Rattle.fs_machine.specs.Numbered.{draws}
 use Rattle.fs_machine.specs.Past.{Past}
-use Rattle.fs_machine.specs.Read.{docs_at, is_noted, read_in, read_time, reader_behind, shown_at, shown_of, time_refusal, when_refusal}
+use Rattle.fs_machine.specs.Read.{docs_at, is_noted, read_in, read_time, reader_behind, refusal_from, shown_at, shown_of, time_refusal, when_refusal}
 use Rattle.fs_machine.specs.ReadsHold.{MayRead}
 use Rattle.fs_machine.specs.Request.{Decision, arrives, asked_unless, begin_time_refusal, carried_by, check_refusal, decision, held_by, retry_refusal, unless_full, unless_held, unless_refused, writer_behind}
 use Rattle.fs_machine.specs.Retry.{retried_if, tried}
@@ -49,7 +47,6 @@ use Rattle.fs_machine.specs.declared.config.Mode.{Mode}
 use Rattle.fs_machine.specs.declared.config.Mode.TheVariants.{Pessimistic, Optimistic}
 use Rattle.fs_machine.specs.declared.numbers.Numbers.{Numbers}
 use Rattle.fs_machine.specs.declared.parked_request.ParkedRequest.{ParkedRequest}
-use Rattle.fs_machine.specs.declared.unreleased.Unreleased.{Unreleased}
 use Rattle.fs_machine.proofs.Behind.{free_behind_none}
 use Rattle.fs_machine.proofs.NamesApart.{names_prepared}
 use Rattle.fs_machine.proofs.ReadsHold.{nothing_read, reads_prepared}
@@ -133,6 +130,8 @@ are_shown h t (BatchGetDocuments database names mask when) = names_shown (at h t
 are_shown h t (RunQuery database query when) = (some_answer query (values (at h t)) (listed_by_name law_at_own_names h t).0, tt)
 are_shown h t (BeginTransaction database options) = tt
 are_shown h t (Rollback database transaction) = tt
+are_shown h t (AddTarget database id l token) = tt
+are_shown h t (RemoveTarget database id) = tt
 
 kind_read : (mode : Mode) (p : Past) (t : Txn) (k : Kind) → t.kind ≡ k → is_read_write k ≡ true → HistoryRises p → at p.history (time_of_kind mode p k t.read_time) ≡ docs_read mode p t
 kind_read Pessimistic p t kind.ReadWrite is rw rises = at_whole p.history p.released rises.rising rises.ends
@@ -167,17 +166,20 @@ read_holds m (In id) q free holds = record {
 
 -- ---- a begin
 
-between : (p : Past) (t : ℤ) (early late : Bool) → int_lt t p.floor ≡ early → int_lt p.released t ≡ late → time_refusal p t ≡ None → (p.floor ≤ℤ t) × (t ≤ℤ p.released)
-between p t true late is too none = let old : time_refusal p t ≡ Some (refusal_of (TooOld t p.floor)) = ap (λ b. cond b (Some (refusal_of (TooOld t p.floor))) (cond (int_lt p.released t) (Some (refusal_of (TooNew t p.released))) None)) is in absurd (cc)
-between p t false true is too none =
-    let new : time_refusal p t ≡ Some (refusal_of (TooNew t p.released)) =
-    ap (λ b. cond b (Some (refusal_of (TooOld t p.floor))) (cond (int_lt p.released t) (Some (refusal_of (TooNew t p.released))) None)) is
+between : (from : ℤ) (p : Past) (t : ℤ) (early late : Bool) → int_lt t from ≡ early → int_lt p.released t ≡ late → refusal_from from p t ≡ None → (from ≤ℤ t) × (t ≤ℤ p.released)
+between from p t true late is too none = let old : refusal_from from p t ≡ Some (refusal_of (TooOld t from)) = ap (λ b. cond b (Some (refusal_of (TooOld t from))) (cond (int_lt p.released t) (Some (refusal_of (TooNew t p.released))) None)) is in absurd (cc)
+between from p t false true is too none =
+    let new : refusal_from from p t ≡ Some (refusal_of (TooNew t p.released)) =
+    ap (λ b. cond b (Some (refusal_of (TooOld t from))) (cond (int_lt p.released t) (Some (refusal_of (TooNew t p.released))) None)) is
     ∙ ap (λ b. cond b (Some (refusal_of (TooNew t p.released))) None) too in
     absurd (cc)
-between p t false false is too none = grind (arith, ints)
+between from p t false false is too none = grind (arith, ints)
+
+pub within_from : (from : ℤ) (p : Past) (t : ℤ) → refusal_from from p t ≡ None → (from ≤ℤ t) × (t ≤ℤ p.released)
+within_from from p t none = between from p t (int_lt t from) (int_lt p.released t) refl refl none
 
 pub may_be_read_at : (p : Past) (t : ℤ) → time_refusal p t ≡ None → (p.floor ≤ℤ t) × (t ≤ℤ p.released)
-may_be_read_at p t none = between p t (int_lt t p.floor) (int_lt p.released t) refl refl none
+may_be_read_at p t none = within_from p.floor p t none
 
 begins_at : (m : Machine) (options : TransactionOptions) (t : ℤ) → t ≡ unwrap_or (time_asked options) m.past.released → begin_time_refusal m options ≡ None → PastFacts m.past → (m.past.floor ≤ℤ t) × (t ≤ℤ m.past.released)
 begins_at m ReadWrite t is none facts = let within = facts.floor in (omega (arith, ints, is), omega (arith, ints, is))
@@ -202,6 +204,9 @@ carried_holds m r (BatchGetDocuments database names mask when) none free holds =
 carried_holds m r (RunQuery database query when) none free holds = read_holds m when (RunQuery database query when) free holds
 carried_holds m r (BeginTransaction database options) none free holds = begun_holds m r.id options none holds
 carried_holds m r (Rollback database transaction) none free holds = ended_holds m transaction holds
+carried_holds m r (AddTarget database id t token) none free holds = record { past = holds.past; txns = holds.txns }
+carried_holds m r (RemoveTarget database (pos id)) none free holds = record { past = holds.past; txns = holds.txns }
+carried_holds m r (RemoveTarget database (negsuc id)) none free holds = holds
 
 -- ---- beside other numbers, and other requests that wait
 
@@ -229,6 +234,8 @@ check_alike m k ps (BatchGetDocuments database names mask when) = when_alike m k
 check_alike m k ps (RunQuery database query when) = when_alike m k ps when
 check_alike m k ps (BeginTransaction database options) = begin_alike m k ps options
 check_alike m k ps (Rollback database transaction) = refl
+check_alike m k ps (AddTarget database id t token) = refl
+check_alike m k ps (RemoveTarget database id) = refl
 
 reader_alike : (m : Machine) (k : Numbers) (ps : List ParkedRequest) (when : When) (q : Request) → reader_behind (beside m k ps) when q ≡ reader_behind m when q
 reader_alike m k ps Released q = refl
@@ -246,6 +253,8 @@ held_alike m k ps (BatchGetDocuments database names mask when) = reader_alike m 
 held_alike m k ps (RunQuery database query when) = reader_alike m k ps when (RunQuery database query when)
 held_alike m k ps (BeginTransaction database options) = refl
 held_alike m k ps (Rollback database transaction) = refl
+held_alike m k ps (AddTarget database id t token) = refl
+held_alike m k ps (RemoveTarget database id) = refl
 
 -- the same request has the same to wait for
 pub decision_alike : (m : Machine) (k : Numbers) (ps : List ParkedRequest) (q : Request) → decision (beside m k ps) q ≡ decision m q

@@ -1,12 +1,11 @@
 -- No two commits and transactions have one number, and each has one that was drawn, still, after each event.
-use Rattle.std.proofs.Common.{◌≡◌, ℕ, ℤ, ◌+◌, ◌<◌, ◌≤◌, Bool, true, false, cond, List, [], ◌∷◌, ◌++◌, map, Option, Some, None, Result, Ok, Err, zero, suc, refl, ap, arith}
+use Rattle.std.proofs.Common.{◌≡◌, ℕ, ℤ, ◌+◌, ◌<◌, ◌≤◌, Bool, true, false, cond, List, [], ◌∷◌, ◌++◌, map, Some, Result, Ok, Err, zero, suc, refl, ap, arith}
 use Rattle.std.specs.Prelude.{◌-◌, ◌==◌, not, drop, length, nat_lt, remove, slice_get}
 use Rattle.std.specs.List.{filter}
 use Rattle.std.proofs.lemmas.Bool.Decides.{nat_tests}
 use Rattle.std.proofs.lemmas.Option.{same_Some}
-use Rattle.fs_history.specs.declared.read.Read.{Read}
 use Rattle.fs_status.specs.declared.refusal.Refusal.{Refusal}
-use Rattle.fs_txn.specs.Expiry.{expired_at, gone, is_over, last_of, over, remembered}
+use Rattle.fs_txn.specs.Expiry.{expired_at, gone, is_over, over, remembered}
 use Rattle.fs_txn.specs.Transactions.{Transactions, changed_at, ended, put_in, txn_of}
 use Rattle.fs_txn.specs.declared.expired.Expired.{Expired}
 use Rattle.fs_txn.specs.declared.txn.Txn.{Txn}
@@ -15,7 +14,6 @@ use Rattle.fs_write.specs.declared.write_result.WriteResult.{WriteResult}
 use Rattle.fs_machine.specs.Past.{Past, batches}
 use Rattle.fs_machine.specs.declared.parked_request.ParkedRequest.{ParkedRequest}
 use Rattle.fs_machine.specs.declared.unreleased.Unreleased.{Unreleased}
-use Rattle.fs_machine.specs.Commit.{past_prepared}
 use Rattle.fs_machine.specs.Conflict.{others}
 use Rattle.fs_machine.specs.Leave.{of_others}
 use Rattle.fs_machine.specs.Numbered.{transaction_in}
@@ -26,7 +24,6 @@ use Rattle.fs_machine.specs.UnreleasedRise.{UnreleasedRise}
 use Rattle.fs_machine.specs.IdsAreDrawn.{counted, own_count, times_expired, times_in, times_open, times_parked, times, IdsAreDrawn}
 use Rattle.fs_machine.proofs.Moved.{moved}
 use Rattle.fs_machine.proofs.Pending.{same_batches}
-use Rattle.fs_machine.proofs.UnreleasedRise.{unreleased_advanced, unreleased_decided}
 
 -- ---- as many have each number, or fewer
 

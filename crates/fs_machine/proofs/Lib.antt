@@ -1,12 +1,17 @@
+pub mod Asking
 pub mod Batches
 pub mod Behind
 pub mod Carried
+mod Cuts
 pub mod Holders
 pub mod Holding
 pub mod FloorIsReleased
 pub mod Grows
+mod Heard
 pub mod HistoryRises
 pub mod IdsAreDrawn
+pub mod Listening
+pub mod ListenersHold
 pub mod Moved
 pub mod NamesApart
 pub mod OutcomesStay
@@ -22,6 +27,7 @@ pub mod Retried
 pub mod Runs
 pub mod SessionsNumbered
 pub mod SettledInAnyOrder
+mod Told
 pub mod TransactionsHold
 pub mod UnreleasedRise
 pub mod Verdicts

@@ -17,9 +17,11 @@ use Rattle.fs_machine.specs.Commit.{past_prepared}
 use Rattle.fs_machine.specs.Event.{Event, step}
 use Rattle.fs_machine.specs.Facts.{Facts, PastFacts}
 use Rattle.fs_machine.specs.IdsAreDrawn.{counted, times_in}
+use Rattle.fs_machine.specs.Load.{loaded}
 use Rattle.fs_machine.specs.NamesApart.{AreApart}
 use Rattle.fs_machine.specs.Open.{is_full, with_session}
 use Rattle.fs_machine.specs.Past.{Past, batches, is_pending}
+use Rattle.fs_machine.specs.Raise.{raised}
 use Rattle.fs_machine.specs.Release.{past_released}
 use Rattle.fs_machine.specs.Request.{arrival_refusal, arrived, asked}
 use Rattle.fs_machine.specs.Retry.{retried}
@@ -27,6 +29,7 @@ use Rattle.fs_machine.specs.Settle.{ComesTo, IsOutcomeOf, IsOutcomeOfPending, Is
 use Rattle.fs_machine.specs.State.{Machine}
 use Rattle.fs_machine.specs.UnreleasedRise.{UnreleasedRise}
 use Rattle.fs_machine.proofs.Carried.{AtMostPrepares, asked_follows, retried_follows}
+use Rattle.fs_machine.proofs.Listening.{loaded_rest, raised_rest}
 use Rattle.fs_machine.proofs.Moved.{moved}
 use Rattle.fs_machine.proofs.Pending.{passes_it}
 use Rattle.fs_machine.proofs.ResultsHold.{agree_behind, docs_agree, found_apart}
@@ -184,8 +187,11 @@ module _ (m : Machine) (id : ℕ) (u : Unreleased) (is : pending_of m.past id �
   opened_carries true some = same_list _ _ id u refl refl is
   opened_carries false some = same_list _ _ id u refl refl is
 
+  same_carries : (q : Past) → q ≡ m.past → Carries m.past q id u
+  same_carries q same = subst (λ (p : Past). Carries m.past p id u) (sym same) (same_list _ _ id u refl refl is)
+
   follows_carries : (q : Past) → AtMostPrepares m.past q → Carries m.past q id u
-  follows_carries q (inl same) = subst (λ (p : Past). Carries m.past p id u) (sym same) (same_list _ _ id u refl refl is)
+  follows_carries q (inl same) = same_carries q same
   follows_carries q (inr one) = subst (λ (p : Past). Carries m.past p id u) (sym one.1) (prepared_carries m.past one.0 id u is)
 
   with_carries : (c : Unreleased) (r : Result (Docs × List WriteResult) Refusal) → To (decided_with m c r)
@@ -205,6 +211,9 @@ module _ (m : Machine) (id : ℕ) (u : Unreleased) (is : pending_of m.past id �
   carries (Event.advancing now) some = same_list _ _ id u refl refl is
   carries Event.releasing some = released_carries m.past id u is facts.past
   carries (Event.compacting to) some = same_list _ _ id u refl refl is
+  carries (Event.loading session target at) some = same_carries (loaded m session target at).past (ap (λ (n : Machine). n.past) (loaded_rest m session target at))
+  carries (Event.matching shard to) some = same_list _ _ id u refl refl is
+  carries (Event.raising session) some = same_carries (raised m session).past (ap (λ (n : Machine). n.past) (raised_rest m session))
   carries (Event.taking session) some = same_list _ _ id u refl refl is
 
 pub outcomes_stay : (m : Machine) (e : Event) (id : ℕ) (o : Outcome) → Facts m → ComesTo m.past id o → IsSome (pending_of (step m e).past id) → ComesTo (step m e).past id o

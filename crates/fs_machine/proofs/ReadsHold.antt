@@ -1,9 +1,9 @@
 -- What transactions had read stands before their commits, still, after each event.
 use Rattle.std.proofs.Common.{◌≡◌, ℕ, Bool, true, false, cond, List, [], ◌∷◌, ◌++◌, Result, Ok, Err, refl, sym, subst}
-use Rattle.std.specs.List.{AllByRecursion, list_any}
+use Rattle.std.specs.List.{AllByRecursion}
 use Rattle.std.proofs.lemmas.Bool.{or_parts}
 use Rattle.fs_history.specs.History.{whole}
-use Rattle.fs_history.specs.Serial.{AreSerial, AreShown, IsShown}
+use Rattle.fs_history.specs.Serial.{AreShown}
 use Rattle.fs_history.specs.Touches.{some_touched, touched}
 use Rattle.fs_history.specs.declared.batch.Batch.{Batch}
 use Rattle.fs_history.specs.declared.read.Read.{Read}

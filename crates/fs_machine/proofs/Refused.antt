@@ -1,7 +1,6 @@
 -- The number of a commit that was dropped is nobody's any more, whatever events come.
 use Rattle.std.proofs.Common.{◌≡◌, ℕ, ◌+◌, ◌<◌, ◌≤◌, Bool, true, false, cond, List, [], ◌∷◌, Option, Some, None, Result, Ok, Err, refl, sym, ap, ◌∙◌, subst, arith}
 use Rattle.std.specs.Prelude.{slice_get}
-use Rattle.std.proofs.lemmas.Bool.Decides.{nat_tests}
 use Rattle.fs_rpc.specs.declared.request.Envelope.{Envelope}
 use Rattle.fs_txn.specs.Expiry.{expired_at}
 use Rattle.fs_txn.specs.Transactions.{Transactions}
@@ -24,6 +23,7 @@ use Rattle.fs_machine.specs.State.{Machine}
 use Rattle.fs_machine.specs.Tick.{past_advanced}
 use Rattle.fs_machine.proofs.Carried.{asked_ids, asked_times, drawn_later, retried_ids, retried_times}
 use Rattle.fs_machine.proofs.IdsAreDrawn.{AreFewer, fewer_decided, fewer_departed, fewer_expired, fewer_released}
+use Rattle.fs_machine.proofs.Listening.{loaded_rest, raised_rest}
 use Rattle.fs_machine.proofs.OutcomesStay.{it_is_one}
 use Rattle.fs_machine.proofs.Pending.{number_found}
 use Rattle.fs_machine.proofs.Runs.{keeps}
@@ -78,6 +78,9 @@ module _ (m : Machine) (id : ℕ) (gone : IsGone id m) where
   gone_stays (Event.advancing now) facts = (stays_gone (past_advanced m.past now) (expired_at now m.txns) m.parked (fewer_expired m.past m.txns m.parked now), gone.1)
   gone_stays Event.releasing facts = (stays_gone (past_released m.past) m.txns m.parked (fewer_released m.past m.txns m.parked facts.past.unreleased), gone.1)
   gone_stays (Event.compacting to) facts = gone
+  gone_stays (Event.loading session target at) facts = subst (IsGone id) (sym (loaded_rest m session target at)) gone
+  gone_stays (Event.matching shard to) facts = gone
+  gone_stays (Event.raising session) facts = subst (IsGone id) (sym (raised_rest m session)) gone
   gone_stays (Event.taking session) facts = gone
 
 never_seen : (m : Machine) (id : ℕ) (es : List Event) → Facts m → IsGone id m → times_in id (after m es).past.history ≡ 0

@@ -7,6 +7,7 @@ use Rattle.fs_machine.specs.Open.{is_full}
 use Rattle.fs_machine.specs.Release.{joined}
 use Rattle.fs_machine.specs.Settle.{pending_of}
 use Rattle.fs_machine.specs.State.{Machine}
+use Rattle.fs_machine.proofs.Listening.{loaded_rest, raised_rest}
 use Rattle.fs_machine.proofs.Moved.{joined_more}
 use Rattle.fs_machine.proofs.Runs.{asked_stays, decided_stays, opened_stays, retried_stays}
 
@@ -19,6 +20,9 @@ joined_by m (Event.deciding id) = (decided_stays m (pending_of m.past id)).0
 joined_by m (Event.advancing now) = refl
 joined_by m Event.releasing = refl
 joined_by m (Event.compacting to) = refl
+joined_by m (Event.loading session target at) = ap (λ (n : Machine). n.past.history) (loaded_rest m session target at)
+joined_by m (Event.matching shard to) = refl
+joined_by m (Event.raising session) = ap (λ (n : Machine). n.past.history) (raised_rest m session)
 joined_by m (Event.taking session) = refl
 
 pub replies_come_once : (m : Machine) (es : List Event) → (after m es).past.history ≡ joined m.past.history (let_out_in m es)

@@ -1,5 +1,5 @@
 -- A request that waited and goes on is carried out as one that comes.
-use Rattle.std.proofs.Common.{◌≡◌, ℕ, Option, Some, None, refl, sym, ap, ◌∙◌}
+use Rattle.std.proofs.Common.{◌≡◌, ℕ, Option, Some, None, sym, ap, ◌∙◌}
 use Rattle.std.specs.Prelude.{remove, slice_get}
 use Rattle.fs_status.specs.declared.refusal.Refusal.{Refusal}
 use Rattle.fs_machine.specs.declared.parked_request.ParkedRequest.{ParkedRequest}

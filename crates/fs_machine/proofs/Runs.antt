@@ -1,11 +1,13 @@
 -- What each event keeps, and so each run.
-use Rattle.std.proofs.Common.{◌≡◌, inl, inr, ℕ, ℤ, Bool, true, false, cond, List, [], ◌∷◌, Option, Some, None, Result, Ok, Err, refl, sym, ap, subst, arith}
-use Rattle.std.specs.Prelude.{◌++◌, ◌==◌, not, slice_get}
+use Rattle.std.proofs.Common.{◌≡◌, inl, inr, ℕ, ℤ, ◌≤ℤ◌, Bool, true, false, cond, List, [], ◌∷◌, map, Option, Some, None, Result, Ok, Err, refl, sym, ap, subst, arith}
+use Rattle.std.specs.Prelude.{◌++◌, not, slice_get}
+use Rattle.std.specs.Int.Signed.{≤ℤ_refl}
 use Rattle.std.proofs.lemmas.Int.{ints}
 use Rattle.fs_rpc.specs.declared.request.Envelope.{Envelope}
 use Rattle.fs_rpc.specs.MessageJson.{refused}
 use Rattle.fs_txn.specs.Expiry.{expired_at, is_over}
 use Rattle.fs_txn.specs.Reading.{oldest}
+use Rattle.fs_listen.specs.Cuts.{least_position}
 use Rattle.fs_status.specs.declared.refusal.Refusal.{Refusal}
 use Rattle.fs_write.specs.Batch.{Docs}
 use Rattle.fs_write.specs.declared.write_result.WriteResult.{WriteResult}
@@ -15,13 +17,16 @@ use Rattle.fs_machine.specs.declared.config.Config.{Config}
 use Rattle.fs_machine.specs.declared.limits.Limits.{Limits}
 use Rattle.fs_machine.specs.declared.parked_request.ParkedRequest.{ParkedRequest}
 use Rattle.fs_machine.specs.declared.unreleased.Unreleased.{Unreleased}
-use Rattle.fs_machine.specs.Compact.{floor_after, past_compacted}
+use Rattle.fs_machine.specs.Compact.{earlier, first_asked, floor_after, past_compacted}
 use Rattle.fs_machine.specs.Event.{Event, after, step}
 use Rattle.fs_machine.specs.Facts.{Facts, PastFacts}
 use Rattle.fs_machine.specs.Grows.{Grows}
 use Rattle.fs_machine.specs.Leave.{of_others}
+use Rattle.fs_machine.specs.Listeners.{Listener}
+use Rattle.fs_machine.specs.Load.{loaded}
 use Rattle.fs_machine.specs.Open.{is_full, with_session}
 use Rattle.fs_machine.specs.Past.{Past, past_from}
+use Rattle.fs_machine.specs.Raise.{raised}
 use Rattle.fs_machine.specs.Release.{past_released, replies_out}
 use Rattle.fs_machine.specs.Request.{arrival_refusal, arrived, asked}
 use Rattle.fs_machine.specs.Retry.{retried_if}
@@ -29,26 +34,29 @@ use Rattle.fs_machine.specs.SessionsNumbered.{SessionsNumbered}
 use Rattle.fs_machine.specs.Settle.{decided_if, decided_with, outcome_of, past_decided, pending_of}
 use Rattle.fs_machine.specs.State.{Machine, started}
 use Rattle.fs_machine.specs.Tick.{past_advanced}
+use Rattle.fs_machine.proofs.Asking.{asked_listens, asked_token, asked_waits, retried_listens, retried_waits, waiters_departed}
 use Rattle.fs_machine.proofs.Carried.{AtMostPrepares, LeavesAlone, asked_alone, asked_drawn, asked_follows, retried_alone, retried_drawn, retried_follows}
 use Rattle.fs_machine.proofs.FloorIsReleased.{floor_before, floor_compacted, floor_released}
 use Rattle.fs_machine.proofs.Grows.{grows_on, grows_released, grows_same}
 use Rattle.fs_machine.proofs.HistoryRises.{history_released}
 use Rattle.fs_machine.proofs.Holding.{Holds, asked_holds, retried_holds}
 use Rattle.fs_machine.proofs.IdsAreDrawn.{fewer_decided, fewer_departed, fewer_expired, fewer_released, ids_fewer}
+use Rattle.fs_machine.proofs.Listening.{beside_listening, loaded_listens, loaded_numbers, loaded_rest, raised_listens, raised_numbers, raised_rest}
+use Rattle.fs_machine.proofs.ListenersHold.{listeners_compacted, listeners_departed, listeners_later, listeners_matched, listeners_none, listeners_opened, listeners_released, listeners_told}
 use Rattle.fs_machine.proofs.NamesApart.{names_decided, names_released}
 use Rattle.fs_machine.proofs.ReadsHold.{reads_decided, reads_released}
 use Rattle.fs_machine.proofs.ResultsHold.{results_decided, results_released}
-use Rattle.fs_machine.proofs.SessionsNumbered.{sessions_changed, sessions_departed, sessions_opened, sessions_told}
+use Rattle.fs_machine.proofs.SessionsNumbered.{same_numbers, sessions_changed, sessions_departed, sessions_opened, sessions_same, sessions_told}
 use Rattle.fs_machine.proofs.TransactionsHold.{open_advanced, open_compacted, open_decided, open_left, open_released}
 use Rattle.fs_machine.proofs.UnreleasedRise.{unreleased_advanced, unreleased_decided, unreleased_released}
 
 -- ---- the start
 
-at_start : (start : ℤ) → PastFacts (past_from start)
-at_start start = record { history = record { rising = tt; ends = tt }; unreleased = omega (arith, ints); floor = omega (arith, ints); names = tt; results = tt; reads = record { serial = tt; shown = tt; spared = tt } }
+at_start : (shards : ℕ) (start : ℤ) → PastFacts (past_from shards start)
+at_start shards start = record { history = record { rising = tt; ends = tt }; unreleased = omega (arith, ints); floor = omega (arith, ints); names = tt; results = tt; reads = record { serial = tt; shown = tt; spared = tt } }
 
 pub begins : (config : Config) (limits : Limits) (start : ℤ) → Facts (started config limits start)
-begins config limits start = record { past = at_start start; ids = λ id. (omega arith, λ above. refl, λ is. refl); txns = tt; sessions = omega arith }
+begins config limits start = record { past = at_start config.shards start; ids = λ id. (omega arith, λ above. refl, λ is. refl); txns = tt; sessions = omega arith; listeners = listeners_none (past_from config.shards start) 0; waiters = tt }
 
 -- ---- what was committed
 
@@ -118,6 +126,8 @@ kept_asked m session e facts =
       ids = asked_drawn m r refusal refl facts.ids;
       txns = holds.txns;
       sessions = still_numbered m (asked m session e) (asked_alone m r refusal) facts.sessions;
+      listeners = asked_listens m r refusal (λ none. asked_token m session e.request none) facts.listeners;
+      waiters = asked_waits m r refusal facts.waiters;
     }
 
 kept_retried : (m : Machine) (place : ℕ) (found : Option ParkedRequest) → slice_get m.parked place ≡ found → Facts m → Facts (retried_if m place found)
@@ -128,6 +138,8 @@ kept_retried m place found is facts =
       ids = retried_drawn m place found is facts.ids;
       txns = holds.txns;
       sessions = still_numbered m (retried_if m place found) (retried_alone m place found) facts.sessions;
+      listeners = retried_listens m place found is facts.waiters facts.listeners;
+      waiters = retried_waits m place found is facts.waiters;
     }
 
 -- ---- other events
@@ -138,12 +150,18 @@ kept_decided m id u (Ok done) is comes facts = record {
   ids = ids_fewer m.past m.txns m.parked (past_decided m.past u (Ok done)) m.txns m.parked m.numbers.ids (fewer_decided m.past m.txns m.parked u (Ok done)) facts.ids;
   txns = open_decided m.config.mode m.past u (Ok done) m.txns.open facts.txns;
   sessions = facts.sessions;
+  listeners = listeners_later m.past (past_decided m.past u (Ok done)) m.sessions m.listeners m.numbers.targets (≤ℤ_refl m.past.floor) (≤ℤ_refl m.past.released) facts.listeners;
+  waiters = facts.waiters;
 }
 kept_decided m id u (Err refusal) is comes facts = record {
   past = past_kept_at_deciding m.past id u (Err refusal) is comes facts.past;
   ids = ids_fewer m.past m.txns m.parked (past_decided m.past u (Err refusal)) m.txns m.parked m.numbers.ids (fewer_decided m.past m.txns m.parked u (Err refusal)) facts.ids;
   txns = open_decided m.config.mode m.past u (Err refusal) m.txns.open facts.txns;
   sessions = sessions_changed m.sessions u.session m.numbers.sessions (λ ms. ms ++ refused u.request refusal ∷ []) facts.sessions;
+  listeners =
+      listeners_later m.past (past_decided m.past u (Err refusal)) _ m.listeners m.numbers.targets (≤ℤ_refl m.past.floor) (≤ℤ_refl m.past.released)
+      (listeners_told m.past m.sessions _ m.listeners m.numbers.targets (same_numbers m.sessions u.session (λ ms. ms ++ refused u.request refusal ∷ [])) facts.listeners);
+  waiters = facts.waiters;
 }
 
 kept_if : (m : Machine) (id : ℕ) (found : Option Unreleased) → pending_of m.past id ≡ found → Facts m → Facts (decided_if m found)
@@ -151,11 +169,44 @@ kept_if m id None is facts = facts
 kept_if m id (Some u) is facts = kept_decided m id u (outcome_of m.past u) is refl facts
 
 pub kept_with_session : (m : Machine) → Facts m → Facts (with_session m)
-kept_with_session m facts = record { past = facts.past; ids = facts.ids; txns = facts.txns; sessions = sessions_opened m.sessions m.numbers.sessions facts.sessions }
+kept_with_session m facts = record {
+  past = facts.past;
+  ids = facts.ids;
+  txns = facts.txns;
+  sessions = sessions_opened m.sessions m.numbers.sessions facts.sessions;
+  listeners = listeners_opened m.past m.sessions m.listeners m.numbers.targets m.numbers.sessions facts.listeners;
+  waiters = facts.waiters;
+}
 
 kept_opened : (m : Machine) (full : Bool) → Facts m → Facts (cond full m (with_session m))
 kept_opened m true facts = facts
 kept_opened m false facts = kept_with_session m facts
+
+kept_loaded : (m : Machine) (session target : ℕ) (at : Option ℤ) → Facts m → Facts (loaded m session target at)
+kept_loaded m session target at facts =
+    subst Facts (sym (loaded_rest m session target at)) (record {
+      past = facts.past;
+      ids = facts.ids;
+      txns = facts.txns;
+      sessions = sessions_same m.sessions (loaded m session target at).sessions m.numbers.sessions (loaded_numbers m session target at) facts.sessions;
+      listeners = loaded_listens m facts.past.floor facts.listeners session target at;
+      waiters = facts.waiters;
+    })
+
+kept_raised : (m : Machine) (session : ℕ) → Facts m → Facts (raised m session)
+kept_raised m session facts =
+    subst Facts (sym (raised_rest m session)) (record {
+      past = facts.past;
+      ids = facts.ids;
+      txns = facts.txns;
+      sessions = sessions_same m.sessions (raised m session).sessions m.numbers.sessions (raised_numbers m session) facts.sessions;
+      listeners = raised_listens m facts.listeners session;
+      waiters = facts.waiters;
+    })
+
+-- a time that isn't later than what is released
+pub earlier_released : (p : Past) (to : ℤ) → earlier to p.released ≤ℤ p.released
+earlier_released p to = grind (arith, ints)
 
 pub keeps : (m : Machine) (e : Event) → Facts m → Facts (step m e)
 keeps m Event.opening facts = kept_opened m (is_full m) facts
@@ -164,6 +215,8 @@ keeps m (Event.leaving session) facts = record {
   ids = ids_fewer m.past m.txns m.parked m.past m.txns (of_others session m.parked) m.numbers.ids (fewer_departed m.past m.txns m.parked session) facts.ids;
   txns = facts.txns;
   sessions = sessions_departed m.sessions session m.numbers.sessions facts.sessions;
+  listeners = listeners_departed m.past m.sessions m.listeners m.numbers.targets session facts.listeners;
+  waiters = waiters_departed m.parked session facts.waiters;
 }
 keeps m (Event.asking session e) facts = kept_asked m session e facts
 keeps m (Event.retrying place) facts = kept_retried m place (slice_get m.parked place) refl facts
@@ -173,20 +226,45 @@ keeps m (Event.advancing now) facts = record {
   ids = ids_fewer m.past m.txns m.parked (past_advanced m.past now) (expired_at now m.txns) m.parked m.numbers.ids (fewer_expired m.past m.txns m.parked now) facts.ids;
   txns = open_left m.config.mode (past_advanced m.past now) (λ t. not (is_over now t)) m.txns.open (open_advanced m.config.mode m.past now m.txns.open facts.txns);
   sessions = facts.sessions;
+  listeners = listeners_later m.past (past_advanced m.past now) m.sessions m.listeners m.numbers.targets (≤ℤ_refl m.past.floor) (≤ℤ_refl m.past.released) facts.listeners;
+  waiters = facts.waiters;
 }
 keeps m Event.releasing facts = record {
   past = past_kept_at_release m.past facts.past;
   ids = ids_fewer m.past m.txns m.parked (past_released m.past) m.txns m.parked m.numbers.ids (fewer_released m.past m.txns m.parked facts.past.unreleased) facts.ids;
   txns = open_released m.config.mode m.past m.txns.open facts.past.unreleased facts.txns;
   sessions = sessions_told (replies_out m.past) m.sessions m.numbers.sessions facts.sessions;
+  listeners = listeners_released m.past m.sessions m.listeners m.numbers.targets facts.past.unreleased facts.listeners;
+  waiters = facts.waiters;
 }
 keeps m (Event.compacting to) facts = record {
-  past = past_kept_compacted m.past (oldest m.txns.open) to facts.past;
+  past = past_kept_compacted m.past (first_asked m) to facts.past;
   ids = facts.ids;
-  txns = open_compacted m.config.mode m.past (floor_after m.past (oldest m.txns.open) to) m.txns.open (floor_before m.config.mode m.past m.txns.open to facts.txns) facts.txns;
+  txns =
+      open_compacted m.config.mode m.past (floor_after m.past (first_asked m) to) m.txns.open
+      (floor_before m.config.mode m.past m.txns.open (map (λ (l : Listener). least_position l.listening) m.listeners) to facts.txns) facts.txns;
   sessions = facts.sessions;
+  listeners = listeners_compacted m.past m.sessions m.listeners m.numbers.targets (oldest m.txns.open) to facts.listeners;
+  waiters = facts.waiters;
 }
-keeps m (Event.taking session) facts = record { past = facts.past; ids = facts.ids; txns = facts.txns; sessions = sessions_changed m.sessions session m.numbers.sessions (λ ms. []) facts.sessions }
+keeps m (Event.loading session target at) facts = kept_loaded m session target at facts
+keeps m (Event.matching shard to) facts = record {
+  past = facts.past;
+  ids = facts.ids;
+  txns = facts.txns;
+  sessions = facts.sessions;
+  listeners = listeners_matched m.past m.sessions m.listeners m.numbers.targets shard (earlier to m.past.released) (earlier_released m.past to) facts.listeners;
+  waiters = facts.waiters;
+}
+keeps m (Event.raising session) facts = kept_raised m session facts
+keeps m (Event.taking session) facts = record {
+  past = facts.past;
+  ids = facts.ids;
+  txns = facts.txns;
+  sessions = sessions_changed m.sessions session m.numbers.sessions (λ ms. []) facts.sessions;
+  listeners = listeners_told m.past m.sessions _ m.listeners m.numbers.targets (same_numbers m.sessions session (λ ms. [])) facts.listeners;
+  waiters = facts.waiters;
+}
 
 -- ---- the history grows, by releases alone
 
@@ -216,6 +294,9 @@ pub opened_stays : (m : Machine) (full : Bool) → Stays m.past (cond full m (wi
 opened_stays m true = (refl, refl)
 opened_stays m false = (refl, refl)
 
+listening_stays : (m n : Machine) → n ≡ beside_listening m n → Stays m.past n.past
+listening_stays m n is = (ap (λ (k : Machine). k.past.history) is, ap (λ (k : Machine). k.past.released) is)
+
 grows_still : (old new : Past) → Stays old new → Grows old new
 grows_still old new same = grows_same old new same.0 same.1
 
@@ -228,6 +309,9 @@ grows m (Event.deciding id) facts = grows_still _ _ (decided_stays m (pending_of
 grows m (Event.advancing now) facts = grows_same _ _ refl refl
 grows m Event.releasing facts = grows_released m.past facts.past.unreleased
 grows m (Event.compacting to) facts = grows_same _ _ refl refl
+grows m (Event.loading session target at) facts = grows_still _ _ (listening_stays m (loaded m session target at) (loaded_rest m session target at))
+grows m (Event.matching shard to) facts = grows_same _ _ refl refl
+grows m (Event.raising session) facts = grows_still _ _ (listening_stays m (raised m session) (raised_rest m session))
 grows m (Event.taking session) facts = grows_same _ _ refl refl
 
 -- ---- whole runs

@@ -1,5 +1,5 @@
 -- The numbers of sessions rise in the order of opening, still, after each event.
-use Rattle.std.proofs.Common.{◌≡◌, ℕ, ◌+◌, ◌≤◌, Bool, true, false, cond, List, [], ◌∷◌, ◌++◌, map, refl, sym, ap, subst, arith}
+use Rattle.std.proofs.Common.{◌≡◌, ℕ, ◌+◌, ◌≤◌, Bool, true, false, cond, List, [], ◌∷◌, ◌++◌, map, refl, sym, ap, ◌∙◌, subst, arith}
 use Rattle.std.specs.Prelude.{◌==◌}
 use Rattle.fs_rpc.specs.declared.message.Message.{Message}
 use Rattle.fs_machine.specs.Release.{all_delivered}
@@ -51,8 +51,16 @@ pub same_numbers : (ss : List Session) (number : ℕ) (change : List Message →
 same_numbers [] number change = refl
 same_numbers (s ∷ ss) number change = same_next s ss number change (s.number == number) (same_numbers ss number change)
 
+-- as many, with the same numbers
+pub sessions_same : (ss other : List Session) (given : ℕ) → numbers_of other ≡ numbers_of ss → SessionsNumbered ss given → SessionsNumbered other given
+sessions_same ss other given same rise = subst (NumbersRise 0 given) (sym same) rise
+
 pub sessions_changed : (ss : List Session) (number given : ℕ) (change : List Message → List Message) → SessionsNumbered ss given → SessionsNumbered (with_outbox number change ss) given
 sessions_changed ss number given change rise = subst (NumbersRise 0 given) (sym (same_numbers ss number change)) rise
+
+pub same_told : (rs : List Reply) (ss : List Session) → numbers_of (all_delivered rs ss) ≡ numbers_of ss
+same_told [] ss = refl
+same_told (r ∷ rs) ss = same_told rs (delivered r.session r.message ss) ∙ same_numbers ss r.session (λ ms. ms ++ r.message ∷ [])
 
 pub sessions_told : (rs : List Reply) (ss : List Session) (given : ℕ) → SessionsNumbered ss given → SessionsNumbered (all_delivered rs ss) given
 sessions_told [] ss given rise = rise

@@ -2,6 +2,7 @@
 -- doesn't hang on what was released in between.
 use Rattle.std.proofs.Common.{◌≡◌, ℕ, Bool, true, false, List, [], ◌∷◌, Option, Some, None, Result, Ok, Err, refl, sym, ap, ◌∙◌, subst, eqb-true}
 use Rattle.std.specs.Prelude.{◌==◌, IsOk}
+use Rattle.std.specs.Int.Signed.{≤ℤ_refl}
 use Rattle.std.specs.List.Sorted.{IsPermutation}
 use Rattle.std.proofs.lemmas.List.Elements.{All-from_recursion, recursion_from_All}
 use Rattle.std.proofs.lemmas.List.Sorted.{All-permutation}
@@ -22,6 +23,7 @@ use Rattle.fs_machine.specs.Settle.{decided_if, decided_with, docs_for, outcome_
 use Rattle.fs_machine.specs.State.{Machine}
 use Rattle.fs_machine.proofs.IdsAreDrawn.{fewer_decided, fewer_released, ids_fewer}
 use Rattle.fs_machine.proofs.TransactionsHold.{open_decided, open_released}
+use Rattle.fs_machine.proofs.ListenersHold.{listeners_later, listeners_released}
 use Rattle.fs_machine.proofs.OutcomesStay.{Carries, once, pending_released, released_carries}
 use Rattle.fs_machine.proofs.Pending.{number_found}
 use Rattle.fs_machine.proofs.ReleasedOnce.{marked_in, released_once}
@@ -78,6 +80,10 @@ module _ (m : Machine) (facts : Facts m) (a : ℕ) where
     ids = ids_fewer first m.txns m.parked (past_released first) m.txns m.parked m.numbers.ids (fewer_released first m.txns m.parked first_stands.unreleased) first_drawn;
     txns = open_released m.config.mode first m.txns.open first_stands.unreleased first_open;
     sessions = sessions_told (replies_out first) m.sessions m.numbers.sessions facts.sessions;
+    listeners =
+        listeners_released first m.sessions m.listeners m.numbers.targets first_stands.unreleased
+        (listeners_later m.past first m.sessions m.listeners m.numbers.targets (≤ℤ_refl m.past.floor) (≤ℤ_refl m.past.released) facts.listeners);
+    waiters = facts.waiters;
   }
 
   -- what is pending then was so before, and comes to the same

@@ -1,13 +1,13 @@
 -- What open transactions have read still holds, after each event, and what their commits had read stands before them.
 use Rattle.std.specs.Prelude.{⊤}
-use Rattle.std.proofs.Common.{◌≡◌, ℕ, ℤ, ◌≤ℤ◌, ◌<ℤ◌, Bool, true, false, cond, List, [], ◌∷◌, ◌++◌, map, Option, Some, None, Result, Ok, Err, refl, sym, ap, ◌∙◌, subst, arith}
+use Rattle.std.proofs.Common.{◌≡◌, ℕ, ℤ, ◌≤ℤ◌, ◌<ℤ◌, Bool, true, false, cond, List, [], ◌∷◌, ◌++◌, map, Some, None, Result, Ok, Err, refl, sym, ap, ◌∙◌, subst, arith}
 use Rattle.std.specs.Prelude.{◌&&◌, ◌||◌, ◌==◌, int_le, int_lt, nat_lt, not}
 use Rattle.std.specs.List.{AllByRecursion, filter}
 use Rattle.std.proofs.lemmas.Int.{ints}
 use Rattle.std.proofs.lemmas.Bool.{or_parts}
 use Rattle.std.proofs.lemmas.List.Folds.{list_any-append}
 use Rattle.std.proofs.lemmas.Option.{same_Some}
-use Rattle.fs_history.specs.History.{EndsBy, IsRising, at, whole}
+use Rattle.fs_history.specs.History.{IsRising, at, whole}
 use Rattle.fs_history.specs.Serial.{AreShown, IsShown}
 use Rattle.fs_history.specs.Touches.{some_touched, touched}
 use Rattle.fs_history.specs.declared.batch.Batch.{Batch}
@@ -22,7 +22,7 @@ use Rattle.fs_write.specs.declared.write.Write.{Write}
 use Rattle.fs_write.specs.declared.write_result.WriteResult.{WriteResult}
 use Rattle.fs_machine.specs.Behind.{least, writing_same}
 use Rattle.fs_machine.specs.Commit.{past_prepared}
-use Rattle.fs_machine.specs.Conflict.{conflict, is_reader, others, plain_behind, read_behind, readers_of, touching, touching_since}
+use Rattle.fs_machine.specs.Conflict.{conflict, is_reader, others, plain_behind, read_behind, readers_of}
 use Rattle.fs_machine.specs.HistoryRises.{HistoryRises}
 use Rattle.fs_machine.specs.Past.{Past, batches}
 use Rattle.fs_machine.specs.ReadsHold.{Spares}

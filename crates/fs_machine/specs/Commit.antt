@@ -3,7 +3,7 @@
 -- it is aborted, and told the least of those that it is in conflict with. A read-only transaction ends without a commit: it is answered
 -- with the time at which it read.
 -- (v1 reference, "Commit"; Cloud Firestore documentation, "Transaction serializability and isolation".)
-use Rattle.std.specs.Prelude.{ℕ, ℤ, Bool, true, false, List, [], ◌∷◌, ◌++◌, Option, Some, None, length, nat_lt, codes, if◌then◌else◌}
+use Rattle.std.specs.Prelude.{ℕ, Bool, true, false, List, [], ◌∷◌, ◌++◌, Option, Some, None, length, nat_lt, codes, if◌then◌else◌}
 use Rattle.std.specs.Option.{option_map_or}
 use Rattle.fs_history.specs.declared.batch.Batch.{Batch}
 use Rattle.fs_history.specs.declared.read.Read.{Read}

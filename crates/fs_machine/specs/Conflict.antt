@@ -5,7 +5,7 @@
 --     1 and 2 are open, 1 has read c/a       a plain commit of c/a waits for 1; 2, which writes c/a, is in conflict with 1
 --     in optimistic mode, once 3 wrote c/a   1 is in conflict with 3; 2 isn't in conflict
 -- (Cloud Firestore documentation, "Transaction serializability and isolation".)
-use Rattle.std.specs.Prelude.{ℕ, ℤ, int_lt, Bool, ◌&&◌, ◌==◌, not, List, [], ◌++◌, Option, None, map}
+use Rattle.std.specs.Prelude.{ℕ, ℤ, int_lt, Bool, ◌&&◌, ◌==◌, not, List, ◌++◌, Option, None, map}
 use Rattle.std.specs.List.{filter}
 use Rattle.fs_history.specs.Touches.{some_touched}
 use Rattle.fs_history.specs.declared.read.Read.{Read}

@@ -1,10 +1,13 @@
 -- The events of a server, and where they lead.
-use Rattle.std.specs.Prelude.{ℕ, ℤ, List, [], ◌∷◌}
+use Rattle.std.specs.Prelude.{ℕ, ℤ, List, [], ◌∷◌, Option}
 use Rattle.fs_rpc.specs.declared.request.Envelope.{Envelope}
 use Rattle.fs_machine.specs.Compact.{compacted}
 use Rattle.fs_machine.specs.Leave.{departed}
+use Rattle.fs_machine.specs.Load.{loaded}
+use Rattle.fs_machine.specs.Match.{matched}
 use Rattle.fs_machine.specs.Open.{opened}
 use Rattle.fs_machine.specs.Outbox.{taken}
+use Rattle.fs_machine.specs.Raise.{raised}
 use Rattle.fs_machine.specs.Release.{released}
 use Rattle.fs_machine.specs.Request.{asked}
 use Rattle.fs_machine.specs.Retry.{retried}
@@ -23,6 +26,10 @@ pub data Event : Type 0 where
   advancing : (now : ℤ) → Event
   releasing : Event
   compacting : (to : ℤ) → Event
+  -- a session's target is loaded, at a time or at what is released
+  loading : (session target : ℕ) → (at : Option ℤ) → Event
+  matching : (shard : ℕ) → (to : ℤ) → Event
+  raising : (session : ℕ) → Event
   -- a session's messages are taken, which is no event of the database
   taking : (session : ℕ) → Event
 
@@ -35,6 +42,9 @@ step m (deciding id) = decided m id
 step m (advancing now) = advanced m now
 step m releasing = released m
 step m (compacting to) = compacted m to
+step m (loading session target at) = loaded m session target at
+step m (matching shard to) = matched m shard to
+step m (raising session) = raised m session
 step m (taking session) = taken m session
 
 -- the first of them first

@@ -2,6 +2,7 @@
 use Rattle.fs_machine.specs.FloorIsReleased.{FloorIsReleased}
 use Rattle.fs_machine.specs.HistoryRises.{HistoryRises}
 use Rattle.fs_machine.specs.IdsAreDrawn.{IdsAreDrawn}
+use Rattle.fs_machine.specs.ListenersHold.{ListenersHold}
 use Rattle.fs_machine.specs.NamesApart.{NamesApart}
 use Rattle.fs_machine.specs.Past.{Past}
 use Rattle.fs_machine.specs.ReadsHold.{ReadsHold}
@@ -10,6 +11,7 @@ use Rattle.fs_machine.specs.SessionsNumbered.{SessionsNumbered}
 use Rattle.fs_machine.specs.State.{Machine}
 use Rattle.fs_machine.specs.TransactionsHold.{TransactionsHold}
 use Rattle.fs_machine.specs.UnreleasedRise.{UnreleasedRise}
+use Rattle.fs_machine.specs.WaitersAsk.{WaitersAsk}
 
 -- of what was committed
 pub record PastFacts (p : Past) : Type 0 where
@@ -26,3 +28,5 @@ pub record Facts (m : Machine) : Type 0 where
   pub ids : IdsAreDrawn m.past m.txns m.parked m.numbers.ids
   pub txns : TransactionsHold m.config.mode m.past m.txns.open
   pub sessions : SessionsNumbered m.sessions m.numbers.sessions
+  pub listeners : ListenersHold m.past m.sessions m.listeners m.numbers.targets
+  pub waiters : WaitersAsk m.parked

@@ -7,7 +7,7 @@ use Rattle.fs_history.specs.Touches.{some_touched}
 use Rattle.fs_history.specs.declared.read.Read.{Read}
 use Rattle.fs_rpc.specs.declared.message.Message.TheVariants as message
 use Rattle.fs_rpc.specs.declared.request.Request.{Request}
-use Rattle.fs_rpc.specs.declared.request.Request.TheVariants.{Commit, GetDocument, BatchGetDocuments, RunQuery, BeginTransaction, Rollback}
+use Rattle.fs_rpc.specs.declared.request.Request.TheVariants.{Commit, GetDocument, BatchGetDocuments, RunQuery, BeginTransaction, Rollback, AddTarget, RemoveTarget}
 use Rattle.fs_rpc.specs.declared.when.When.{When}
 use Rattle.fs_txn.specs.Transactions.{is_read_write, txn_of}
 use Rattle.fs_txn.specs.declared.txn.Txn.{Txn}
@@ -122,6 +122,8 @@ IsHolder m (BatchGetDocuments database names mask when) id = IsHolderOfRead m wh
 IsHolder m (RunQuery database query when) id = IsHolderOfRead m when (RunQuery database query when) id
 IsHolder m (BeginTransaction database options) id = ⊥
 IsHolder m (Rollback database transaction) id = ⊥
+IsHolder m (AddTarget database target t token) id = ⊥
+IsHolder m (RemoveTarget database target) id = ⊥
 
 -- what waits, waits for the one of the least number of those that hold it; and what goes on has none
 abbrev pub HeldByTheLeast : Type 0

@@ -8,6 +8,7 @@ greatest = record {
   writes = 500;
   outbox = 1000;
   sessions = 64;
+  targets = 100;
   transactions = 1000;
   parked = 1000;
   batches = 1000000;
@@ -26,6 +27,7 @@ pub record AreAllowed (limits : Limits) : Type 0 where
   pub writes : limits.writes ≤ greatest.writes
   pub outbox : limits.outbox ≤ greatest.outbox
   pub sessions : limits.sessions ≤ greatest.sessions
+  pub targets : limits.targets ≤ greatest.targets
   pub transactions : limits.transactions ≤ greatest.transactions
   pub parked : limits.parked ≤ greatest.parked
   pub batches : limits.batches ≤ greatest.batches

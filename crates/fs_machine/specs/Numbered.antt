@@ -1,10 +1,10 @@
 -- The number of a request: that of its transaction, or the one that it draws. Commits that are of no transaction draw one, and begins do.
 --
 --     3 was drawn last      a plain commit and a begin draw 4; a commit of transaction 2 has 2, and so has a read in it
-use Rattle.std.specs.Prelude.{ℕ, ◌+◌, Bool, true, false, is_none, Option, Some, None, unwrap_or, if◌then◌else◌}
+use Rattle.std.specs.Prelude.{ℕ, ◌+◌, Bool, true, false, is_none, Option, Some, None, unwrap_or}
 use Rattle.fs_rpc.specs.When.{transaction_of}
 use Rattle.fs_rpc.specs.declared.request.Request.{Request}
-use Rattle.fs_rpc.specs.declared.request.Request.TheVariants.{Commit, GetDocument, BatchGetDocuments, RunQuery, BeginTransaction, Rollback}
+use Rattle.fs_rpc.specs.declared.request.Request.TheVariants.{Commit, GetDocument, BatchGetDocuments, RunQuery, BeginTransaction, Rollback, AddTarget, RemoveTarget}
 
 -- the transaction that a request names
 abbrev pub transaction_in : Request → Option ℕ
@@ -14,6 +14,8 @@ transaction_in (BatchGetDocuments database names mask when) = transaction_of whe
 transaction_in (RunQuery database query when) = transaction_of when
 transaction_in (BeginTransaction database options) = None
 transaction_in (Rollback database transaction) = Some transaction
+transaction_in (AddTarget database id t token) = None
+transaction_in (RemoveTarget database id) = None
 
 -- whether it draws a number
 abbrev pub draws : Request → Bool
@@ -23,6 +25,8 @@ draws (BatchGetDocuments database names mask when) = false
 draws (RunQuery database query when) = false
 draws (BeginTransaction database options) = true
 draws (Rollback database transaction) = false
+draws (AddTarget database id t token) = false
+draws (RemoveTarget database id) = false
 
 -- its number, where so many were drawn
 abbrev pub number_of : ℕ → Request → ℕ

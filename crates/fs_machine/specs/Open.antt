@@ -3,6 +3,7 @@ use Rattle.std.specs.Prelude.{◌+◌, ℕ, Bool, ◌||◌, [], ◌∷◌, ◌++
 use Rattle.fs_status.specs.Refusal.{at_limit}
 use Rattle.fs_status.specs.declared.refusal.Refusal.{Refusal}
 use Rattle.fs_machine.specs.Limits.{session_numbers}
+use Rattle.fs_machine.specs.Listeners.{unlistening}
 use Rattle.fs_machine.specs.State.{Machine}
 
 -- as many are open as may be, or there is no number left
@@ -13,6 +14,7 @@ is_full m = nat_le m.limits.sessions (length m.sessions) || nat_le session_numbe
 abbrev pub with_session : Machine → Machine
 with_session m = record m {
   sessions = m.sessions ++ record { number = m.numbers.sessions; outbox = [] } ∷ [];
+  listeners = m.listeners ++ unlistening m.numbers.sessions ∷ [];
   numbers = record m.numbers { sessions = m.numbers.sessions + 1 };
 }
 

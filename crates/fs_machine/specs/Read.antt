@@ -1,6 +1,6 @@
 -- What reads answer: the documents of a time that can be read, or why it can't. One in a transaction reads at the transaction's time.
 -- (v1 reference, "GetDocument", "BatchGetDocuments", "RunQuery": `readTime`, `transaction`.)
-use Rattle.std.specs.Prelude.{ℕ, ℤ, int_lt, Bool, true, false, List, [], ◌∷◌, Option, Some, None, map, if◌then◌else◌}
+use Rattle.std.specs.Prelude.{ℕ, ℤ, int_lt, Bool, false, List, [], ◌∷◌, Option, Some, None, map, if◌then◌else◌}
 use Rattle.std.specs.FinMap.{get, values}
 use Rattle.std.specs.Option.{option_map_or}
 use Rattle.fs_path.specs.declared.field.FieldPath.{FieldPath}
@@ -12,23 +12,21 @@ use Rattle.fs_rpc.specs.declared.message.BatchAnswer.{BatchAnswer}
 use Rattle.fs_rpc.specs.declared.message.BatchAnswer.TheVariants.{Found, Missing}
 use Rattle.fs_rpc.specs.declared.message.Message.TheVariants as message
 use Rattle.fs_rpc.specs.declared.request.Request.{Request}
-use Rattle.fs_rpc.specs.declared.request.Request.TheVariants.{Commit, GetDocument, BatchGetDocuments, RunQuery, BeginTransaction, Rollback}
+use Rattle.fs_rpc.specs.declared.request.Request.TheVariants.{Commit, GetDocument, BatchGetDocuments, RunQuery, BeginTransaction, Rollback, AddTarget, RemoveTarget}
 use Rattle.fs_rpc.specs.declared.when.When.{When}
 use Rattle.fs_rpc.specs.declared.when.When.TheVariants.{Released, At, In}
 use Rattle.fs_status.specs.Refusal.{refusal_of}
 use Rattle.fs_status.specs.declared.reason.Reason.TheVariants.{NoDocument, TooOld, TooNew}
 use Rattle.fs_status.specs.declared.refusal.Refusal.{Refusal}
 use Rattle.fs_txn.specs.Transactions.{is_read_write, txn_of}
-use Rattle.fs_txn.specs.declared.txn.Txn.{Txn}
 use Rattle.fs_value.specs.declared.document.Document.{Document}
 use Rattle.fs_write.specs.Batch.{Docs}
 use Rattle.fs_history.specs.History.{at}
 use Rattle.fs_history.specs.declared.read.Read.{Read}
 use Rattle.fs_history.specs.declared.read.Read.TheVariants as read
 use Rattle.fs_machine.specs.Conflict.{read_behind}
-use Rattle.fs_machine.specs.Outbox.{outbox_of}
 use Rattle.fs_machine.specs.Past.{Past}
-use Rattle.fs_machine.specs.Refusing.{outbox_refusal, reads_refusal}
+use Rattle.fs_machine.specs.Refusing.{reads_refusal}
 use Rattle.fs_machine.specs.State.{Machine}
 use Rattle.fs_machine.specs.Transact.{closed_refusal, time_in, with_reads}
 use Rattle.fs_machine.specs.declared.answer.Answer.{Answer}
@@ -42,9 +40,13 @@ read_time m Released = m.past.released
 read_time m (At time) = time
 read_time m (In id) = option_map_or (time_in m.config.mode m.past) (txn_of id m.txns.open) m.past.released
 
+-- why a time isn't one from another on, up to what is released
+abbrev pub refusal_from : ℤ → Past → ℤ → Option Refusal
+refusal_from from p t = if int_lt t from then Some (refusal_of (TooOld t from)) else if int_lt p.released t then Some (refusal_of (TooNew t p.released)) else None
+
 -- why a time can't be read
 abbrev pub time_refusal : Past → ℤ → Option Refusal
-time_refusal p t = if int_lt t p.floor then Some (refusal_of (TooOld t p.floor)) else if int_lt p.released t then Some (refusal_of (TooNew t p.released)) else None
+time_refusal p t = refusal_from p.floor p t
 
 -- why one isn't made: the time that is asked for can't be read, or its transaction isn't open
 abbrev pub when_refusal : Machine → When → Option Refusal
@@ -62,6 +64,8 @@ shown_of docs (BatchGetDocuments database names mask when) = map (λ name. read.
 shown_of docs (RunQuery database query when) = read.Query query (answer_to query (values docs)) ∷ []
 shown_of docs (BeginTransaction database options) = []
 shown_of docs (Rollback database transaction) = []
+shown_of docs (AddTarget database id t token) = []
+shown_of docs (RemoveTarget database id) = []
 
 -- the documents that are read
 abbrev pub docs_at : Machine → When → Docs

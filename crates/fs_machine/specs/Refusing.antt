@@ -1,6 +1,5 @@
 -- The limits that a request would pass, the first of several in their order. (This project's own.)
-use Rattle.std.specs.Prelude.{ℕ, ℤ, pos, ◌+ℤ◌, ◌+◌, Bool, false, List, Option, Some, None, length, nat_lt, nat_le, int_lt, sum_by, codes, if◌then◌else◌}
-use Rattle.std.specs.Option.{option_map_or}
+use Rattle.std.specs.Prelude.{ℕ, ℤ, pos, ◌+ℤ◌, ◌+◌, Bool, List, Option, Some, None, length, nat_lt, nat_le, int_lt, sum_by, codes, if◌then◌else◌}
 use Rattle.fs_history.specs.Bytes.{batch_size, commit_size, history_size, shown_size}
 use Rattle.fs_history.specs.declared.read.Read.{Read}
 use Rattle.fs_status.specs.Refusal.{at_limit}

@@ -1,13 +1,14 @@
 -- A request comes on a session: what it is answered at once, and the state afterwards. The rules of queries are tested first, then
--- limits. Then it draws its number, if it draws one. Next its transaction is tested, or the time that is to be read, then whether it has
--- to wait, which as many do as may. What is left is carried out: then a commit may be aborted, or it may be that no document is there.
+-- limits; of a target, its id and its token too. Then it draws its number, if it draws one. Next its transaction is tested, or the time
+-- that is to be read, then whether it has to wait, which as many do as may. What is left is carried out: then a commit may be aborted, or
+-- it may be that no document is there.
 use Rattle.std.specs.Prelude.{ℕ, ◌+◌, List, [], ◌∷◌, ◌++◌, Option, Some, None, option_map, length, nat_le, codes, if◌then◌else◌}
 use Rattle.fs_rpc.specs.declared.message.Message.TheVariants as message
 use Rattle.fs_rpc.specs.declared.options.TransactionOptions.{TransactionOptions}
 use Rattle.fs_rpc.specs.declared.options.TransactionOptions.TheVariants.{ReadWrite, ReadOnly}
 use Rattle.fs_rpc.specs.declared.request.Envelope.{Envelope}
 use Rattle.fs_rpc.specs.declared.request.Request.{Request}
-use Rattle.fs_rpc.specs.declared.request.Request.TheVariants.{Commit, GetDocument, BatchGetDocuments, RunQuery, BeginTransaction, Rollback}
+use Rattle.fs_rpc.specs.declared.request.Request.TheVariants.{Commit, GetDocument, BatchGetDocuments, RunQuery, BeginTransaction, Rollback, AddTarget, RemoveTarget}
 use Rattle.fs_path.specs.Place.{member_place}
 use Rattle.fs_path.specs.declared.place.Rule.TheVariants.{Q}
 use Rattle.fs_query.specs.Asked.{Asked}
@@ -19,6 +20,7 @@ use Rattle.fs_write.specs.declared.write.Write.{Write}
 use Rattle.fs_machine.specs.Behind.{behind}
 use Rattle.fs_machine.specs.Commit.{author_refusal, commit_refusal, commit_retry_refusal, committed, committed_answer, unless_closed}
 use Rattle.fs_machine.specs.Conflict.{plain_behind}
+use Rattle.fs_machine.specs.Listen.{added_answer, adding_refusal, removed_answer, removing_refusal, token_time, unadded_answer, with_target, without_target}
 use Rattle.fs_machine.specs.Numbered.{draws, number_of}
 use Rattle.fs_machine.specs.Read.{batch_get_answer, get_answer, read_in, read_limit_refusal, read_time, reader_behind, run_answer, time_refusal, when_refusal}
 use Rattle.fs_machine.specs.Refusing.{ids_refusal, outbox_refusal, passed}
@@ -47,6 +49,8 @@ arrival_refusal m session (RunQuery database query when) =
     unless_closed (query_refusal query) (outbox_refusal m session (read_limit_refusal m when (RunQuery database query when)))
 arrival_refusal m session (BeginTransaction database options) = begin_refusal m session
 arrival_refusal m session (Rollback database transaction) = outbox_refusal m session None
+arrival_refusal m session (AddTarget database id t token) = adding_refusal m session id t token
+arrival_refusal m session (RemoveTarget database id) = removing_refusal m session id
 
 -- as it is tried again
 abbrev pub retry_refusal : Machine → Request → Option Refusal
@@ -56,6 +60,8 @@ retry_refusal m (BatchGetDocuments database names mask when) = read_limit_refusa
 retry_refusal m (RunQuery database query when) = read_limit_refusal m when (RunQuery database query when)
 retry_refusal m (BeginTransaction database options) = None
 retry_refusal m (Rollback database transaction) = None
+retry_refusal m (AddTarget database id t token) = None
+retry_refusal m (RemoveTarget database id) = None
 
 -- ---- its transaction, and the time that it reads
 
@@ -71,6 +77,8 @@ check_refusal m (BatchGetDocuments database names mask when) = when_refusal m wh
 check_refusal m (RunQuery database query when) = when_refusal m when
 check_refusal m (BeginTransaction database options) = begin_time_refusal m options
 check_refusal m (Rollback database transaction) = closed_refusal m.txns transaction
+check_refusal m (AddTarget database id t token) = None
+check_refusal m (RemoveTarget database id) = None
 
 -- ---- whom it waits for
 
@@ -85,6 +93,8 @@ held_by m (BatchGetDocuments database names mask when) = reader_behind m when (B
 held_by m (RunQuery database query when) = reader_behind m when (RunQuery database query when)
 held_by m (BeginTransaction database options) = None
 held_by m (Rollback database transaction) = None
+held_by m (AddTarget database id t token) = None
+held_by m (RemoveTarget database id) = None
 
 -- ---- carried out
 
@@ -95,6 +105,8 @@ carried_by m r (BatchGetDocuments database names mask when) = read_in m when (Ba
 carried_by m r (RunQuery database query when) = read_in m when (RunQuery database query when)
 carried_by m r (BeginTransaction database options) = with_begun m r.id options
 carried_by m r (Rollback database transaction) = with_ended m transaction
+carried_by m r (AddTarget database id t token) = with_target m r.session id t (token_time token)
+carried_by m r (RemoveTarget database id) = without_target m r.session id
 
 abbrev pub carried : Machine → ParkedRequest → Machine
 carried m r = carried_by m r r.envelope.request
@@ -106,6 +118,8 @@ answer_by m r (BatchGetDocuments database names mask when) = batch_get_answer m.
 answer_by m r (RunQuery database query when) = run_answer m.past r.envelope.id query (read_time m when)
 answer_by m r (BeginTransaction database options) = Reply (message.BeginTransaction r.envelope.id r.id)
 answer_by m r (Rollback database transaction) = Reply (message.Rollback r.envelope.id)
+answer_by m r (AddTarget database id t token) = added_answer id
+answer_by m r (RemoveTarget database id) = removed_answer id
 
 abbrev pub carried_answer : Machine → ParkedRequest → Answer
 carried_answer m r = answer_by m r r.envelope.request
@@ -162,8 +176,19 @@ abbrev pub asked_unless : Option Refusal → Machine → ParkedRequest → Machi
 asked_unless (Some refusal) m r = m
 asked_unless None m r = arrives (drawn m r.envelope.request) r (unless_full m (decision m r.envelope.request))
 
+-- why it isn't carried out; a target that isn't added is told to be removed
+abbrev pub refused_by : Machine → ℕ → Request → Refusal → Answer
+refused_by m session (AddTarget database id t token) refusal = unadded_answer m session id refusal
+refused_by m session (Commit database writes transaction) refusal = Refused refusal
+refused_by m session (GetDocument name mask when) refusal = Refused refusal
+refused_by m session (BatchGetDocuments database names mask when) refusal = Refused refusal
+refused_by m session (RunQuery database query when) refusal = Refused refusal
+refused_by m session (BeginTransaction database options) refusal = Refused refusal
+refused_by m session (Rollback database transaction) refusal = Refused refusal
+refused_by m session (RemoveTarget database id) refusal = Refused refusal
+
 abbrev pub answered_unless : Option Refusal → Machine → ParkedRequest → Answer
-answered_unless (Some refusal) m r = Refused refusal
+answered_unless (Some refusal) m r = refused_by m r.session r.envelope.request refusal
 answered_unless None m r = decided_answer (drawn m r.envelope.request) r (unless_full m (decision m r.envelope.request))
 
 abbrev pub asked : Machine → ℕ → Envelope → Machine

@@ -13,6 +13,7 @@ use Rattle.fs_machine.specs.declared.limits.Limits.{Limits}
 use Rattle.fs_machine.specs.declared.numbers.Numbers.{Numbers}
 use Rattle.fs_machine.specs.declared.parked_request.ParkedRequest.{ParkedRequest}
 use Rattle.fs_machine.specs.declared.session.Session.{Session}
+use Rattle.fs_machine.specs.Listeners.{Listener, listener_code}
 use Rattle.fs_machine.specs.Past.{Past, past_code, past_from}
 
 pub record Machine : Type 0 where
@@ -24,6 +25,8 @@ pub record Machine : Type 0 where
   pub txns : Transactions
   -- those that are open, in the order of opening
   pub sessions : List Session
+  -- what they listen to, in the same order
+  pub listeners : List Listener
   -- the requests that wait, in the order of their arrival
   pub parked : List ParkedRequest
   pub numbers : Numbers
@@ -31,10 +34,10 @@ pub record Machine : Type 0 where
 -- it is stored as the tuple of its parts
 abbrev pub machine_code : Coded Machine
 machine_code =
-    code_by (Config × (Limits × (Past × (Transactions × (List Session × (List ParkedRequest × Numbers))))))
-    (coded× config.the_row.coded (coded× limits.the_row.coded (coded× past_code (coded× transactions_code (coded× (coded_list session.the_row.coded) (coded× (coded_list parked_request.the_row.coded) numbers.the_row.coded))))))
-    (λ m. (m.config, (m.limits, (m.past, (m.txns, (m.sessions, (m.parked, m.numbers)))))))
-    (λ t. record { config = t.0; limits = t.1.0; past = t.1.1.0; txns = t.1.1.1.0; sessions = t.1.1.1.1.0; parked = t.1.1.1.1.1.0; numbers = t.1.1.1.1.1.1 })
+    code_by (Config × (Limits × (Past × (Transactions × (List Session × (List Listener × (List ParkedRequest × Numbers)))))))
+    (coded× config.the_row.coded (coded× limits.the_row.coded (coded× past_code (coded× transactions_code (coded× (coded_list session.the_row.coded) (coded× (coded_list listener_code) (coded× (coded_list parked_request.the_row.coded) numbers.the_row.coded)))))))
+    (λ m. (m.config, (m.limits, (m.past, (m.txns, (m.sessions, (m.listeners, (m.parked, m.numbers))))))))
+    (λ t. record { config = t.0; limits = t.1.0; past = t.1.1.0; txns = t.1.1.1.0; sessions = t.1.1.1.1.0; listeners = t.1.1.1.1.1.0; parked = t.1.1.1.1.1.1.0; numbers = t.1.1.1.1.1.1.1 })
     (λ _. refl)
 
 -- where it begins, at a moment
@@ -42,9 +45,10 @@ abbrev pub started : Config → Limits → ℤ → Machine
 started config limits start = record {
   config = config;
   limits = limits;
-  past = past_from start;
+  past = past_from config.shards start;
   txns = record { «open» = []; expired = [] };
   sessions = [];
+  listeners = [];
   parked = [];
-  numbers = record { ids = 0; sessions = 0 };
+  numbers = record { ids = 0; sessions = 0; targets = 0 };
 }

@@ -4,7 +4,7 @@
 --     2 reads c/a                2 has read c/a
 --     rollback of 2              2 isn't open: what names it is refused
 -- (v1 reference, "BeginTransaction", "Rollback", `TransactionOptions`.)
-use Rattle.std.specs.Prelude.{ℕ, ℤ, Bool, true, false, ◌+◌, List, [], ◌∷◌, Option, Some, None, unwrap_or}
+use Rattle.std.specs.Prelude.{ℕ, ℤ, List, [], Option, Some, None, unwrap_or}
 use Rattle.fs_history.specs.declared.read.Read.{Read}
 use Rattle.fs_rpc.specs.declared.options.TransactionOptions.{TransactionOptions}
 use Rattle.fs_rpc.specs.declared.options.TransactionOptions.TheVariants as options

@@ -10,8 +10,7 @@ pub enum Mode {
     Optimistic,
 }
 
-/// The configuration of a server, beside its limits. Nothing changes it later. Until there are listeners, nothing
-/// goes by the shards.
+/// The configuration of a server, beside its limits. Nothing changes it later.
 #[derive(Drop, Debug)]
 pub struct Config {
     /// The project and the database whose documents it has.

@@ -1,5 +1,8 @@
 //! The laws of servers.
+ghost use Rattle.fs_machine.specs.ListenLaws.{CutsAreConsistent, RaisesNeverFall};
 ghost use Rattle.fs_machine.specs.Laws.{AbortedByTheLeast, AlwaysGrows, AlwaysKept, AlwaysSerial, DocumentsStay, HeldByTheLeast, OutcomesStay, ReadOnlyCommits, ReadOnlyGoesOn, RefusedIsNeverSeen, RepliesComeOnce, RetriedAsIfItCame, SameRepliesInAnyOrder, SettledInAnyOrder};
+
+use fs_listen::listening_is_lawful;
 
 /// What holds of every run of a server, whatever events come. The times of its history rise, those of the commits behind it
 /// too; no two of these write one name, and those that are accepted have the results that they have on what the history leaves;
@@ -22,6 +25,10 @@ ghost use Rattle.fs_machine.specs.Laws.{AbortedByTheLeast, AlwaysGrows, AlwaysKe
 /// The commits that are let out and
 /// answered are the batches that the history has more, in its order: each is answered once, as it comes to be seen
 /// (`replies`). One whose writes are refused is never seen (`refused`).
+///
+/// A session that listens is told of its targets so that whoever gathers all that it was told has, at each NO_CHANGE, just the views of
+/// all its targets at that one time (`cuts`), which never falls (`times`): whenever targets were added, resumed, loaded or removed,
+/// and however far each shard was matched.
 pub fn machines_are_lawful()
     ensures kept { AlwaysKept }
     ensures grows { AlwaysGrows }
@@ -37,4 +44,8 @@ pub fn machines_are_lawful()
     ensures retried { RetriedAsIfItCame }
     ensures replies { RepliesComeOnce }
     ensures refused { RefusedIsNeverSeen }
-{}
+    ensures cuts { CutsAreConsistent }
+    ensures times { RaisesNeverFall }
+{
+    listening_is_lawful();
+}

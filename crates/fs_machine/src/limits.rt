@@ -11,6 +11,8 @@ pub struct Limits {
     pub outbox: u64,
     /// Sessions that are open at a time.
     pub sessions: u64,
+    /// Targets of a session.
+    pub targets: u64,
     /// Transactions that are open at a time.
     pub transactions: u64,
     /// Requests that wait.
@@ -21,7 +23,7 @@ pub struct Limits {
     pub journal: u64,
     /// What open read-write transactions were shown, in bytes.
     pub reads: u64,
-    /// The last number that a commit or a transaction may get.
+    /// The last number that a commit or a transaction may get, and the last of a target.
     pub ids: u64,
     /// The last commit time, in microseconds since 1970.
     pub time: u64,
@@ -39,6 +41,7 @@ impl Limits {
             writes: 500,
             outbox: 1_000,
             sessions: 64,
+            targets: 100,
             transactions: 1_000,
             parked: 1_000,
             batches: 1_000_000,
@@ -57,6 +60,7 @@ impl Limits {
         self.writes <= greatest.writes
             && self.outbox <= greatest.outbox
             && self.sessions <= greatest.sessions
+            && self.targets <= greatest.targets
             && self.transactions <= greatest.transactions
             && self.parked <= greatest.parked
             && self.batches <= greatest.batches

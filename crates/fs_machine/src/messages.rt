@@ -67,6 +67,15 @@ impl Messages {
         Ok(self.items.push(message)?)
     }
 
+    /// Adds messages at the end, all of them or none.
+    pub fn append(&mut self, messages: Vec<Message>) -> Result<(), AllocError>
+        ensures ok { OnOk result (self.new ≡ self.old ++ messages.items) }
+        ensures err { OnErr result (self.new ≡ self.old) }
+    {
+        let mut messages = messages;
+        self.items.append(&mut messages)
+    }
+
     /// Takes the last message away, if there is one. It takes no memory.
     pub fn take_back(&mut self)
         ensures { self.new ≡ take (length self.old - 1) self.old }

@@ -7,4 +7,6 @@ pub struct Numbers {
     pub ids: u64,
     /// How many sessions were opened: the number of the next.
     pub sessions: u64,
+    /// How many targets were added: the number of the last.
+    pub targets: u64,
 }

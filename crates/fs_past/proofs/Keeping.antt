@@ -1,5 +1,5 @@
 -- What is kept of a past after each of its calls.
-use Rattle.std.proofs.Common.{◌≡◌, ℕ, ◌+◌, ◌≤◌, ℤ, ◌<ℤ◌, true, List, [], ◌∷◌, ◌++◌, length, Option, Some, None, Ok, refl, sym, ap, ◌∙◌, subst, arith}
+use Rattle.std.proofs.Common.{◌≡◌, ℕ, ◌+◌, ◌≤◌, ℤ, ◌<ℤ◌, ◌≤ℤ◌, true, List, [], ◌∷◌, ◌++◌, length, Option, Some, None, Ok, refl, sym, ap, ◌∙◌, subst, arith}
 use Rattle.std.specs.Prelude.{pos, ◌+ℤ◌, IsSome, IsNone, IsTrue}
 use Rattle.std.specs.Borrow.{Bor}
 use Rattle.std.specs.List.{AllByRecursion, list_any}
@@ -47,6 +47,7 @@ use Rattle.fs_machine.proofs.Runs.{past_kept_advanced, past_kept_at_deciding, pa
 use Rattle.fs_machine.proofs.UnreleasedRise.{rise_dropped, unreleased_prepared}
 use Rattle.fs_past.specs.declared.accepted.Accepted.{Accepted}
 use Rattle.fs_past.specs.declared.holds.Holds.{Holds}
+use Rattle.fs_past.specs.Bringing.{BringsMore}
 use Rattle.fs_past.specs.Kept.{AreHeld, AreNumbered, BringsEffects, GoOn, HoldLess, IsKept, Stands, all_history, all_unreleased, bytes_of, changes_of, kept_on_board, let_out_of, past_of, unreleased_of, writes_name}
 use Rattle.fs_store.specs.Next.{next_release}
 use Rattle.fs_past.proofs.Fitting.{go_in, stand_left, times_rise}
@@ -66,6 +67,13 @@ some_of (Some y) x is = refl
 lent_some : {A : Type 0} (o : Option (Bor A)) → IsSome (option_copied o) → IsSome o
 lent_some None some = absurd (cc)
 lent_some (Some x) some = refl
+
+-- commits whose times rise from a time on are later than that, and so is what is released with them
+later_all : (cs : List TimedChange) (from bound to : ℤ) → bound ≤ℤ from → TimesRise from to cs → AllByRecursion (λ (c : TimedChange). bound <ℤ c.time) cs × (bound ≤ℤ to)
+later_all [] from bound to low rise = (tt, omega (arith, ints))
+later_all (c ∷ cs) from bound to low rise =
+    let more = later_all cs c.time bound to (omega (arith, ints)) rise.1 in
+    ((omega (arith, ints), more.0), more.1)
 
 module _ (j : Recorded) (b : Posted Unreleased Accepted) (l : Holds) (s : Stored) (moment : ℤ) (bytes : ℕ) (kept : IsKept j b l s moment bytes) where
   abbrev held : Past
@@ -274,6 +282,7 @@ module _ (j : Recorded) (b : Posted Unreleased Accepted) (l : Holds) (s : Stored
         last = (board i).last;
         released = (ap (λ (x : Stored). x.absorbed) brought ∙ to_is) i;
         floor = (ap (λ (x : Stored). x.chains.floor) brought ∙ floor_all s.chains cs) i;
+        shards = ap (λ (x : Stored). x.shards) brought i;
       }
 
       released_is : there ≡ past_released held
@@ -283,6 +292,17 @@ module _ (j : Recorded) (b : Posted Unreleased Accepted) (l : Holds) (s : Stored
 
       pub after_release : past_of k.history c t moment ≡ past_released held
       after_release = there_is ∙ released_is
+
+      pub brings_more : BringsMore held (past_of k.history c t moment)
+      brings_more =
+          let later = later_all (changes_of b.commits) s.absorbed s.absorbed (free_to b.last (all_unreleased b.commits)) (omega (arith, ints))
+          (times_rise (whole j.history) b.commits s.absorbed b.last kept.stand kept.facts.unreleased) in
+          record {
+            commits = changes_of b.commits;
+            brought = subst (Brings j.history (changes_of b.commits)) (sym history) goes.1;
+            later = later.0;
+            released = subst (λ x. s.absorbed ≤ℤ x) (sym (ap (λ (x : Stored). x.absorbed) brought ∙ to_is)) later.1;
+          }
 
       pub kept_released : ((f g : List Batch) → Shows f s → Brings f cs g → Shows g t) → length c.commits ≤ k.room → (m : Holds) → AreHeld m c.commits → left_bytes ≡ bytes_of c.commits → IsKept k c m t moment left_bytes
       kept_released shows room m locks waiting = record {

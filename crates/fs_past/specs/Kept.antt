@@ -41,6 +41,7 @@ past_of history board store moment = record {
   released = store.absorbed;
   moment = moment;
   floor = store.chains.floor;
+  shards = store.shards;
 }
 
 -- ---- what stands on the board

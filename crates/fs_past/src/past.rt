@@ -16,7 +16,7 @@ use fs_history::{Journal, Reads, histories_are_lawful};
 use fs_locks::lesser;
 use fs_machine::{Outcome, Reply, Unreleased};
 use fs_path::DocName;
-use fs_query::Query;
+use fs_query::{Query, Target};
 use fs_status::Id;
 use fs_store::{Store, Version};
 use fs_time::Micros;
@@ -80,15 +80,21 @@ fn earlier(other: Option<Micros>, time: Micros) -> Micros
 }
 
 impl Past {
-    ghost use Rattle.std.specs.Prelude.{◌≡◌, ◌↔◌, ℤ, ◌≤◌, ◌≤ℤ◌, ◌+◌, ◌-◌, ◌^◌, min, List, [], None, IsTrue, IsNone, IsSome, IfOk, IfSome, OnOk, OnErr, is_some, map};
-    ghost use Rattle.std.specs.FinMap.{get, values};
+    ghost use Rattle.std.specs.Prelude.{◌≡◌, ◌↔◌, ℤ, ◌<◌, ◌≤◌, ◌≤ℤ◌, ◌+◌, ◌-◌, ◌^◌, min, List, [], None, IsTrue, IsNone, IsSome, IfOk, IfSome, OnOk, OnErr, is_some, map};
+    ghost use Rattle.std.specs.FinMap.{get, is_sorted, values};
     ghost use Rattle.std.specs.Option.{option_copied};
+    ghost use Rattle.fs_history.specs.Brings.{AreChangesIn};
     ghost use Rattle.fs_history.specs.Bytes.{batch_size as bytes_of_batch};
     ghost use Rattle.fs_history.specs.History.{at};
     ghost use Rattle.fs_history.specs.Versions.{chain as chain_from};
-    ghost use Rattle.fs_path.specs.Scope.{AreShards};
+    ghost use Rattle.fs_listen.specs.View.{is_listened, view};
+    ghost use Rattle.fs_match.specs.Followed.{docs_fitting};
+    ghost use Rattle.fs_path.specs.NameOrder.{name_cmp};
+    ghost use Rattle.fs_path.specs.Scope.{AreShards, in_shard};
     ghost use Rattle.fs_query.specs.AnswerTo.{answer_to};
     ghost use Rattle.fs_time.specs.Moment.{IsMoment};
+    ghost use Rattle.fs_value.specs.Named.{by_name};
+    ghost use Rattle.fs_write.specs.Batch.{docs_of};
     ghost use Rattle.fs_machine.specs.Behind.{behind, least};
     ghost use Rattle.fs_machine.specs.Commit.{past_prepared};
     ghost use Rattle.fs_machine.specs.Compact.{floor_after, past_compacted};
@@ -104,11 +110,12 @@ impl Past {
     ghost use Rattle.fs_machine.specs.Settle.{ComesTo, accepted_in, dropped_from, pending_of};
     ghost use Rattle.fs_machine.specs.Tick.{past_advanced};
     ghost use Rattle.fs_machine.specs.declared.answer.Outcome.TheVariants.{Effects};
+    ghost use Rattle.fs_past.specs.Bringing.{BringsMore, IsBrought};
 
     /// No commits, at a moment, which can be read, of a number of shards from 1 to 16. The allocator serves those that come.
     pub fn new(alloc: Global, start: Micros, shards: u32) -> Past
         requires { AreShards shards }
-        ensures { result ≡ past_from start }
+        ensures { result ≡ past_from shards start }
     {
         Past {
             journal: Journal::new(alloc),
@@ -124,6 +131,7 @@ impl Past {
     pub fn last(&self) -> Micros
         ensures value { result ≡ self.now.last }
         ensures facts { PastFacts self.now }
+        ensures brought { IsBrought self.now.history }
     {
         self.board.last()
     }
@@ -318,6 +326,9 @@ impl Past {
     pub fn release(&mut self, alloc: Global) -> Result<(), AllocError>
         ensures ok { OnOk result (self.new ≡ past_released self.old) }
         ensures err { OnErr result (self.new ≡ self.old) }
+
+        // The commits that it lets out bring the batches that the history has more.
+        ensures brings { OnOk result (BringsMore self.old self.new) }
     {
         histories_are_lawful();
         let to = self.board.released();
@@ -379,6 +390,51 @@ impl Past {
         ensures { IfOk result (λ ds. ds ≡ answer_to query.now (values (at self.now.history time))) }
     {
         answer_at(alloc, &self.store, query, time)
+    }
+
+    /// All documents that a target listens to at a time that can be read, by rising names. They share their fields with those here.
+    pub fn listened(
+        &self,
+        alloc: Global,
+        target: &Target,
+        time: Micros,
+    ) -> Result<Documents, AllocError>
+        requires from { self.now.floor ≤ℤ time }
+        requires to { time ≤ℤ self.now.released }
+        ensures sorted { IfOk result (λ ds. IsTrue (is_sorted name_cmp (by_name ds))) }
+        ensures value { IfOk result (λ ds. docs_of ds ≡ docs_fitting (is_listened target.now) (at self.now.history time)) }
+    {
+        self.store.listened(alloc, target, time)
+    }
+
+    /// The view of a target at a time that can be read, by rising names.
+    pub fn view(
+        &self,
+        alloc: Global,
+        target: &Target,
+        time: Micros,
+    ) -> Result<Documents, AllocError>
+        requires from { self.now.floor ≤ℤ time }
+        requires to { time ≤ℤ self.now.released }
+        ensures sorted { IfOk result (λ ds. IsTrue (is_sorted name_cmp (by_name ds))) }
+        ensures value { IfOk result (λ ds. docs_of ds ≡ view target.now (at self.now.history time)) }
+    {
+        self.store.view(alloc, target, time)
+    }
+
+    /// What commits changed in a shard behind a time that can be read, up to what is released. It costs what it gives.
+    pub fn changes(
+        &self,
+        alloc: Global,
+        shard: u32,
+        from: Micros,
+    ) -> Result<TimedChanges, AllocError>
+        requires shard { shard < self.now.shards }
+        requires from { self.now.floor ≤ℤ from }
+        requires to { from ≤ℤ self.now.released }
+        ensures { IfOk result (λ cs. AreChangesIn self.now.history (in_shard self.now.shards shard) from self.now.released cs) }
+    {
+        self.store.changes(alloc, shard, from, self.released())
     }
 
     /// The versions of a name from the floor on, and `None` where there are none.

@@ -1,3 +1,4 @@
+use Rattle.fs_machine.proofs.Cuts.{cuts_are_consistent, raises_never_fall}
 use Rattle.fs_machine.proofs.Holders.{aborted_by_the_least, held_by_the_least, read_only_commits, read_only_goes_on}
 use Rattle.fs_machine.proofs.Grows.{documents_stay}
 use Rattle.fs_machine.proofs.OutcomesStay.{outcomes_stay}
@@ -49,3 +50,9 @@ returns-clause-replies c = λ m events. replies_come_once m events
 
 pub returns-clause-refused : goal.returns-clause-refused
 returns-clause-refused c = λ m id u refusal events facts is comes. refused_is_never_seen m id u refusal events facts is comes
+
+pub returns-clause-cuts : goal.returns-clause-cuts
+returns-clause-cuts c = cuts_are_consistent c.listening_is_lawful.ensures.cuts
+
+pub returns-clause-times : goal.returns-clause-times
+returns-clause-times c = raises_never_fall c.listening_is_lawful.ensures.times

@@ -5,9 +5,10 @@ use Rattle.fs_store.specs.Room.{HasRoomFor}
 use Rattle.fs_store.specs.Shows.{Shows}
 use Rattle.fs_store.specs.Stored.{Stored, absorbed}
 use Rattle.fs_history.specs.History.{whole}
-use Rattle.fs_past.specs.Kept.{changes_of}
+use Rattle.fs_past.specs.Bringing.{BringsMore}
+use Rattle.fs_past.specs.Kept.{changes_of, past_of}
 use Rattle.fs_store.specs.Next.{next_release}
-use Rattle.fs_past.proofs.Keeping.{after_release, fits_board, go_on_board, kept_released, numbered_board}
+use Rattle.fs_past.proofs.Keeping.{after_release, brings_more, fits_board, go_on_board, kept_released, numbered_board}
 use Rattle.fs_past.proofs.Rooms.{room_for_ready}
 use Rattle.fs_past.proofs.past.Past.release.Goals as goal
 
@@ -88,3 +89,25 @@ returns-clause-ok c =
     after_release s.journal s.board s.holds s.store.stored s.moment s.waiting c.self.invariant c.histories_are_lawful.ensures.last_changes to c.of.result c.released-to.ensures.value all
     c.let_in-2.new.journal c.let_in-2.new.board c.bring.new.store.stored c.let_in-2.new.waiting c.let_in-2.ensures.history c.let_in-2.ensures.board brought
     ∙ ap past_released c.self.view_is
+
+-- ---- what they bring
+
+pub returns-in-Some-clause-brings : goal.returns-in-Some-clause-brings
+returns-in-Some-clause-brings c =
+    let s = c.self.inside in
+    let to = c.released-to.result in
+    let cs = c.in-Some.commit.now ∷ [] in
+    subst (λ p. BringsMore p (past_of c.let_in.new.journal.history c.let_in.new.board c.absorb_one.new.self.stored s.moment)) c.self.view_is
+    (brings_more s.journal s.board s.holds s.store.stored s.moment s.waiting c.self.invariant c.histories_are_lawful.ensures.last_changes to cs c.released-to.ensures.value (sym c.in-Some.ensures.alone)
+    c.let_in.new.journal c.let_in.new.board c.absorb_one.new.self.stored c.let_in.new.waiting c.let_in.ensures.history c.let_in.ensures.board c.in_ok-absorb_one.ensures.value)
+
+pub returns-clause-brings : goal.returns-clause-brings
+returns-clause-brings c =
+    let s = c.self.inside in
+    let to = c.released-to.result in
+    let cs = changes_of s.board.commits in
+    let all = c.of.ensures ∙ c.let_in-2.ensures.changes ∙ ap (λ ds. ds ++ cs) c.in_ok-changes-2.ensures.none in
+    let brought = c.bring.ensures.value ∙ ap (λ (t : Stored). absorbed t (next_release t to c.of.result)) c.in_ok-changes-2.ensures.same in
+    subst (λ p. BringsMore p (past_of c.let_in-2.new.journal.history c.let_in-2.new.board c.bring.new.store.stored s.moment)) c.self.view_is
+    (brings_more s.journal s.board s.holds s.store.stored s.moment s.waiting c.self.invariant c.histories_are_lawful.ensures.last_changes to c.of.result c.released-to.ensures.value all
+    c.let_in-2.new.journal c.let_in-2.new.board c.bring.new.store.stored c.let_in-2.new.waiting c.let_in-2.ensures.history c.let_in-2.ensures.board brought)
