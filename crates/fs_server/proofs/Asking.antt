@@ -1,14 +1,16 @@
 -- A request comes, and passes no limit: where that leads, by what becomes of it.
-use Rattle.std.proofs.Common.{◌≡◌, ℕ, Bool, true, false, cond, List, [], ◌∷◌, ◌++◌, Option, Some, None, length, refl, sym, ap, ◌∙◌, subst}
+use Rattle.std.proofs.Common.{◌≡◌, ℕ, Bool, false, cond, List, [], ◌∷◌, ◌++◌, Option, Some, None, length, refl, sym, ap, ◌∙◌, subst}
 use Rattle.std.specs.Prelude.{nat_le, codes}
 use Rattle.fs_rpc.specs.declared.request.Envelope.{Envelope}
 use Rattle.fs_rpc.specs.declared.request.Request.{Request}
 use Rattle.fs_status.specs.Refusal.{at_limit}
 use Rattle.fs_status.specs.declared.refusal.Refusal.{Refusal}
 use Rattle.fs_txn.specs.Transactions.{Transactions}
+use Rattle.fs_machine.specs.Config.{IsAllowed}
 use Rattle.fs_machine.specs.Event.{Event}
 use Rattle.fs_machine.specs.Facts.{Facts}
 use Rattle.fs_machine.specs.Limits.{AreAllowed}
+use Rattle.fs_machine.specs.ListenersHold.{ListenersHold}
 use Rattle.fs_machine.specs.Past.{Past}
 use Rattle.fs_machine.specs.Request.{Decision, answer_by, answered, answered_unless, arrival_refusal, arrived, arrives, asked, asked_unless, carried_by, check_refusal, decided_answer, decision, held_by, unless_full, unless_held, unless_refused}
 use Rattle.fs_machine.specs.State.{Machine}
@@ -17,15 +19,63 @@ use Rattle.fs_machine.specs.declared.answer.Answer.TheVariants.{Held, Refused}
 use Rattle.fs_machine.specs.declared.parked_request.ParkedRequest.{ParkedRequest}
 use Rattle.fs_machine.proofs.Holding.{beside}
 use Rattle.fs_machine.proofs.Runs.{keeps}
+use Rattle.fs_machine.specs.declared.config.Config.{Config}
+use Rattle.fs_machine.specs.declared.limits.Limits.{Limits}
 use Rattle.fs_server.specs.Changes.{Does, asking, changed, past_changed, txns_changed}
+use Rattle.fs_server.specs.Heard.{AreHeard, Heard, listeners_of}
 use Rattle.fs_server.specs.Kept.{IsKept}
-use Rattle.fs_server.specs.Noted.{ids_after, own_number}
+use Rattle.fs_server.specs.Noted.{ids_after, listens, own_number}
 use Rattle.fs_server.specs.declared.changes.Change.{Change}
+use Rattle.fs_server.specs.declared.changes.Change.TheVariants.{Nothing, Prepares, Commits, Ends, Begins, Notes}
+use Rattle.fs_server.proofs.Heard.{heard_same}
 use Rattle.fs_server.proofs.Beside.{carried_beside, drawn_is, own_carried, own_held, own_told, then_drawn, told_beside}
 
--- what stands at every moment is what is kept
-pub kept_of : (m : Machine) → AreAllowed m.limits → Facts m → IsKept m.config m.limits m.past m.txns m.sessions m.parked m.numbers
-kept_of m allowed facts = record { allowed = allowed; drawn = facts.ids; held = facts.txns; numbered = facts.sessions }
+-- what stands at every moment is what is kept, with what is kept of what sessions listen to
+pub kept_of : (m : Machine) (hs : List Heard) → m.listeners ≡ listeners_of hs → IsAllowed m.config → AreAllowed m.limits → m.past.shards ≡ m.config.shards → AreHeard m.config m.limits m.past hs → Facts m
+    → IsKept m.config m.limits m.past m.txns m.sessions hs m.parked m.numbers
+kept_of m hs listened configured allowed shards heard facts = record {
+  configured = configured;
+  allowed = allowed;
+  drawn = facts.ids;
+  held = facts.txns;
+  numbered = facts.sessions;
+  listened = subst (λ ls. ListenersHold m.past m.sessions ls m.numbers.targets) listened facts.listeners;
+  waiting = facts.waiters;
+  shards = shards;
+  heard = heard;
+}
+
+-- a change leaves the history, what is released of it and the shards as they were
+changed_history : (p : Past) (c : Change) → (past_changed p c).history ≡ p.history
+changed_history p Nothing = refl
+changed_history p (Prepares u) = refl
+changed_history p (Commits u) = refl
+changed_history p (Ends id) = refl
+changed_history p (Begins id kind time) = refl
+changed_history p (Notes id reads) = refl
+
+changed_released : (p : Past) (c : Change) → (past_changed p c).released ≡ p.released
+changed_released p Nothing = refl
+changed_released p (Prepares u) = refl
+changed_released p (Commits u) = refl
+changed_released p (Ends id) = refl
+changed_released p (Begins id kind time) = refl
+changed_released p (Notes id reads) = refl
+
+changed_shards : (p : Past) (c : Change) → (past_changed p c).shards ≡ p.shards
+changed_shards p Nothing = refl
+changed_shards p (Prepares u) = refl
+changed_shards p (Commits u) = refl
+changed_shards p (Ends id) = refl
+changed_shards p (Begins id kind time) = refl
+changed_shards p (Notes id reads) = refl
+
+pub heard_changed : (config : Config) (limits : Limits) (p q : Past) (c : Change) (hs : List Heard) → q ≡ past_changed p c → AreHeard config limits p hs → AreHeard config limits q hs
+heard_changed config limits p q c hs is all =
+    heard_same config limits p q hs (ap (λ (x : Past). x.history) is ∙ changed_history p c) (ap (λ (x : Past). x.released) is ∙ changed_released p c) all
+
+pub shards_changed : (p q : Past) (c : Change) (n : ℕ) → q ≡ past_changed p c → p.shards ≡ n → q.shards ≡ n
+shards_changed p q c n is was = ap (λ (x : Past). x.shards) is ∙ changed_shards p c ∙ was
 
 module _ (m : Machine) (session : ℕ) (e : Envelope) (passes : arrival_refusal m session e.request ≡ None) where
   abbrev r : ParkedRequest
@@ -67,7 +117,7 @@ module _ (m : Machine) (session : ℕ) (e : Envelope) (passes : arrival_refusal 
       pub told_held : nat_le m.limits.parked (length m.parked) ≡ false → Held id ≡ answered m session e
       told_held room = sym (tells ∙ ap (decided_answer then r) (waits id false room held))
 
-    module _ (free : held_by m e.request ≡ None) (d : Answer × Change)
+    module _ (plain : listens e.request ≡ false) (free : held_by m e.request ≡ None) (d : Answer × Change)
         (does : Does m (answer_by m (asking session (own_number m.numbers.ids e.request) e) e.request) (carried_by m (asking session (own_number m.numbers.ids e.request) e) e.request) d) where
       goes : unless_full m (decision m e.request) ≡ Decision.goes_on
       goes = ap (unless_full m) (decided None None check free)
@@ -75,7 +125,7 @@ module _ (m : Machine) (session : ℕ) (e : Envelope) (passes : arrival_refusal 
       pub state_goes : beside (changed m d.1) (record m.numbers { ids = ids_after m.numbers.ids e.request }) m.parked ≡ asked m session e
       state_goes =
           ap (λ n. beside n (record m.numbers { ids = ids_after m.numbers.ids e.request }) m.parked) (does.state ∙ own_carried m session m.numbers.ids e e.request)
-          ∙ sym (leads ∙ ap (arrives then r) goes ∙ carried_beside m (record m.numbers { ids = ids_after m.numbers.ids e.request }) m.parked r e.request)
+          ∙ sym (leads ∙ ap (arrives then r) goes ∙ carried_beside m (record m.numbers { ids = ids_after m.numbers.ids e.request }) m.parked r e.request plain)
 
       pub told_goes : d.0 ≡ answered m session e
       told_goes =
@@ -90,7 +140,7 @@ module _ (m0 m : Machine) (view : m0 ≡ m) (session : ℕ) (e : Envelope) (pass
   number_is = number ∙ ap (λ (k : Machine). own_number k.numbers.ids e.request) view
 
   -- it is carried out
-  module _ (free : held_by m e.request ≡ None) (d : Answer × Change) (does : Does m (answer_by m (asking session id e) e.request) (carried_by m (asking session id e) e.request) d)
+  module _ (plain : listens e.request ≡ false) (free : held_by m e.request ≡ None) (d : Answer × Change) (does : Does m (answer_by m (asking session id e) e.request) (carried_by m (asking session id e) e.request) d)
       (p : Past) (ts : Transactions) (past : p ≡ past_changed m0.past d.1) (txns : ts ≡ txns_changed m0.txns m0.past.moment d.1) where
     own_does : Does m (answer_by m (asking session (own_number m.numbers.ids e.request) e) e.request) (carried_by m (asking session (own_number m.numbers.ids e.request) e) e.request) d
     own_does = subst (λ n. Does m (answer_by m (asking session n e) e.request) (carried_by m (asking session n e) e.request) d) number_is does
@@ -99,11 +149,13 @@ module _ (m0 m : Machine) (view : m0 ≡ m) (session : ℕ) (e : Envelope) (pass
     went =
         (λ i. record m0 { past = past i; txns = txns i; numbers = record m0.numbers { ids = last i } })
         ∙ ap (λ (k : Machine). beside (changed k d.1) (record k.numbers { ids = ids_after k.numbers.ids e.request }) k.parked) view
-        ∙ state_goes m session e passes check free d own_does
+        ∙ state_goes m session e passes check plain free d own_does
 
-    pub went_kept : AreAllowed m0.limits → Facts m → IsKept m0.config m0.limits p ts m0.sessions m0.parked (record m0.numbers { ids = ids })
-    went_kept allowed facts =
-        kept_of (record m0 { past = p; txns = ts; numbers = record m0.numbers { ids = ids } }) allowed (subst Facts (sym went) (keeps m (Event.asking session e) facts))
+    pub went_kept : (hs : List Heard) → m0.listeners ≡ listeners_of hs → IsAllowed m0.config → AreAllowed m0.limits → m0.past.shards ≡ m0.config.shards → AreHeard m0.config m0.limits m0.past hs → Facts m
+        → IsKept m0.config m0.limits p ts m0.sessions hs m0.parked (record m0.numbers { ids = ids })
+    went_kept hs listened configured allowed shards heard facts =
+        kept_of (record m0 { past = p; txns = ts; numbers = record m0.numbers { ids = ids } }) hs listened configured allowed (shards_changed m0.past p d.1 m0.config.shards past shards)
+        (heard_changed m0.config m0.limits m0.past p d.1 hs past heard) (subst Facts (sym went) (keeps m (Event.asking session e) facts))
 
   -- it waits
   module _ (by : ℕ) (held : held_by m e.request ≡ Some by) (room : nat_le m.limits.parked (length m.parked) ≡ false) (ps : List ParkedRequest) (more : ps ≡ m0.parked ++ asking session id e ∷ []) where
@@ -114,6 +166,7 @@ module _ (m0 m : Machine) (view : m0 ≡ m) (session : ℕ) (e : Envelope) (pass
         ∙ ap (λ (k : Machine). record (then_drawn k e.request) { parked = k.parked ++ asking session (own_number k.numbers.ids e.request) e ∷ [] }) view
         ∙ state_held m session e passes check by held room
 
-    pub waits_kept : AreAllowed m0.limits → Facts m → IsKept m0.config m0.limits m0.past m0.txns m0.sessions ps (record m0.numbers { ids = ids })
-    waits_kept allowed facts =
-        kept_of (record m0 { parked = ps; numbers = record m0.numbers { ids = ids } }) allowed (subst Facts (sym waits_on) (keeps m (Event.asking session e) facts))
+    pub waits_kept : (hs : List Heard) → m0.listeners ≡ listeners_of hs → IsAllowed m0.config → AreAllowed m0.limits → m0.past.shards ≡ m0.config.shards → AreHeard m0.config m0.limits m0.past hs → Facts m
+        → IsKept m0.config m0.limits m0.past m0.txns m0.sessions hs ps (record m0.numbers { ids = ids })
+    waits_kept hs listened configured allowed shards heard facts =
+        kept_of (record m0 { parked = ps; numbers = record m0.numbers { ids = ids } }) hs listened configured allowed shards heard (subst Facts (sym waits_on) (keeps m (Event.asking session e) facts))

@@ -1,11 +1,11 @@
--- What is carried out, and what is answered, doesn't hang on the numbers that were drawn, nor on the requests that wait.
-use Rattle.std.proofs.Common.{◌≡◌, ℕ, ◌+◌, Bool, true, false, cond, List, [], Option, Some, None, refl, ap, ◌∙◌}
-use Rattle.std.specs.Prelude.{is_none, unwrap_or}
+-- What is carried out of no target, and what is answered, doesn't hang on the numbers that were drawn, nor on the requests that wait.
+use Rattle.std.proofs.Common.{◌≡◌, ℕ, ◌+◌, Bool, true, false, cond, List, [], Option, Some, None, refl, ap}
+use Rattle.std.specs.Prelude.{unwrap_or}
 use Rattle.fs_rpc.specs.When.{transaction_of}
 use Rattle.fs_rpc.specs.declared.message.Message.TheVariants as message
 use Rattle.fs_rpc.specs.declared.request.Envelope.{Envelope}
 use Rattle.fs_rpc.specs.declared.request.Request.{Request}
-use Rattle.fs_rpc.specs.declared.request.Request.TheVariants.{Commit, GetDocument, BatchGetDocuments, RunQuery, BeginTransaction, Rollback}
+use Rattle.fs_rpc.specs.declared.request.Request.TheVariants.{Commit, GetDocument, BatchGetDocuments, RunQuery, BeginTransaction, Rollback, AddTarget, RemoveTarget}
 use Rattle.fs_rpc.specs.declared.when.When.{When}
 use Rattle.fs_rpc.specs.declared.when.When.TheVariants.{Released, At, In}
 use Rattle.fs_txn.specs.Transactions.{is_read_write, txn_of}
@@ -13,7 +13,7 @@ use Rattle.fs_txn.specs.declared.txn.Txn.{Txn}
 use Rattle.fs_write.specs.declared.write.Write.{Write}
 use Rattle.fs_machine.specs.Commit.{committed, committed_answer, committed_answer_in, committed_answer_unless, committed_in, committed_unless}
 use Rattle.fs_machine.specs.Conflict.{conflict}
-use Rattle.fs_machine.specs.Numbered.{draws, number_of, transaction_in}
+use Rattle.fs_machine.specs.Numbered.{draws, number_of}
 use Rattle.fs_machine.specs.Read.{get_answer, batch_get_answer, run_answer, read_in, read_time, reader_behind}
 use Rattle.fs_machine.specs.Request.{answer_by, carried_by, drawn, held_by}
 use Rattle.fs_machine.specs.State.{Machine}
@@ -24,7 +24,7 @@ use Rattle.fs_machine.specs.declared.numbers.Numbers.{Numbers}
 use Rattle.fs_machine.specs.declared.parked_request.ParkedRequest.{ParkedRequest}
 use Rattle.fs_machine.proofs.Holding.{beside}
 use Rattle.fs_server.specs.Changes.{asking}
-use Rattle.fs_server.specs.Noted.{ids_after, own_number}
+use Rattle.fs_server.specs.Noted.{ids_after, listens, own_number}
 
 module _ (m : Machine) (k : Numbers) (ps : List ParkedRequest) where
   -- ---- what is carried out
@@ -52,13 +52,15 @@ module _ (m : Machine) (k : Numbers) (ps : List ParkedRequest) where
   read_beside (At time) q = refl
   read_beside (In id) q = refl
 
-  pub carried_beside : (r : ParkedRequest) (q : Request) → carried_by (beside m k ps) r q ≡ beside (carried_by m r q) k ps
-  carried_beside r (Commit database writes transaction) = commit_beside r writes transaction
-  carried_beside r (GetDocument name mask when) = read_beside when (GetDocument name mask when)
-  carried_beside r (BatchGetDocuments database names mask when) = read_beside when (BatchGetDocuments database names mask when)
-  carried_beside r (RunQuery database query when) = read_beside when (RunQuery database query when)
-  carried_beside r (BeginTransaction database options) = refl
-  carried_beside r (Rollback database transaction) = refl
+  pub carried_beside : (r : ParkedRequest) (q : Request) → listens q ≡ false → carried_by (beside m k ps) r q ≡ beside (carried_by m r q) k ps
+  carried_beside r (Commit database writes transaction) plain = commit_beside r writes transaction
+  carried_beside r (GetDocument name mask when) plain = read_beside when (GetDocument name mask when)
+  carried_beside r (BatchGetDocuments database names mask when) plain = read_beside when (BatchGetDocuments database names mask when)
+  carried_beside r (RunQuery database query when) plain = read_beside when (RunQuery database query when)
+  carried_beside r (BeginTransaction database options) plain = refl
+  carried_beside r (Rollback database transaction) plain = refl
+  carried_beside r (AddTarget database id t token) plain = absurd (cc)
+  carried_beside r (RemoveTarget database id) plain = absurd (cc)
 
   -- ---- what is answered
 
@@ -92,6 +94,8 @@ module _ (m : Machine) (k : Numbers) (ps : List ParkedRequest) where
   told_beside r (RunQuery database query when) = ap (run_answer m.past r.envelope.id query) (time_beside when)
   told_beside r (BeginTransaction database options) = refl
   told_beside r (Rollback database transaction) = refl
+  told_beside r (AddTarget database id t token) = refl
+  told_beside r (RemoveTarget database id) = refl
 
 -- ---- the number that a request has
 
@@ -121,6 +125,8 @@ module _ (m : Machine) (session ids : ℕ) (e : Envelope) where
   own_carried (RunQuery database query when) = refl
   own_carried (BeginTransaction database options) = refl
   own_carried (Rollback database transaction) = refl
+  own_carried (AddTarget database id t token) = refl
+  own_carried (RemoveTarget database id) = refl
 
   pub own_told : (q : Request) → answer_by m (own q) q ≡ answer_by m (its q) q
   own_told (Commit database writes None) = refl
@@ -130,6 +136,8 @@ module _ (m : Machine) (session ids : ℕ) (e : Envelope) where
   own_told (RunQuery database query when) = refl
   own_told (BeginTransaction database options) = refl
   own_told (Rollback database transaction) = refl
+  own_told (AddTarget database id t token) = refl
+  own_told (RemoveTarget database id) = refl
 
 -- one that has to wait has a number
 own_read : (m : Machine) (when : When) (q : Request) (ids by : ℕ) → reader_behind m when q ≡ Some by → unwrap_or (transaction_of when) 0 ≡ unwrap_or (transaction_of when) (ids + 1)
@@ -145,3 +153,5 @@ own_held m (BatchGetDocuments database names mask when) ids by is = own_read m w
 own_held m (RunQuery database query when) ids by is = own_read m when (RunQuery database query when) ids by is
 own_held m (BeginTransaction database options) ids by is = absurd (cc)
 own_held m (Rollback database transaction) ids by is = absurd (cc)
+own_held m (AddTarget database id t token) ids by is = absurd (cc)
+own_held m (RemoveTarget database id) ids by is = absurd (cc)

@@ -1,16 +1,15 @@
 -- The numbers of those that come, and of those that wait, are nobody's.
-use Rattle.std.proofs.Common.{◌≡◌, ℕ, ◌+◌, ◌<◌, ◌≤◌, Bool, true, false, cond, List, [], ◌∷◌, Option, Some, None, refl, sym, ap, ◌∙◌, subst, arith}
+use Rattle.std.proofs.Common.{◌≡◌, ℕ, ◌+◌, ◌≤◌, Bool, true, false, cond, List, [], ◌∷◌, Some, None, refl, ap, arith}
 use Rattle.std.specs.Prelude.{◌==◌, not, slice_get, remove}
-use Rattle.std.specs.List.{filter}
 use Rattle.std.proofs.lemmas.Bool.Decides.{nat_tests}
 use Rattle.fs_rpc.specs.declared.request.Request.{Request}
-use Rattle.fs_rpc.specs.declared.request.Request.TheVariants.{Commit, GetDocument, BatchGetDocuments, RunQuery, BeginTransaction, Rollback}
+use Rattle.fs_rpc.specs.declared.request.Request.TheVariants.{Commit, GetDocument, BatchGetDocuments, RunQuery, BeginTransaction, Rollback, AddTarget, RemoveTarget}
 use Rattle.fs_txn.specs.Transactions.{IsNew, Transactions, expired_of, txn_of}
 use Rattle.fs_txn.specs.declared.expired.Expired.{Expired}
 use Rattle.fs_txn.specs.declared.txn.Txn.{Txn}
 use Rattle.fs_machine.specs.Conflict.{others}
 use Rattle.fs_machine.specs.IdsAreDrawn.{IdsAreDrawn, counted, own_count, times, times_expired, times_in, times_open, times_parked}
-use Rattle.fs_machine.specs.Numbered.{draws, transaction_in}
+use Rattle.fs_machine.specs.Numbered.{transaction_in}
 use Rattle.fs_machine.specs.Past.{Past, batches}
 use Rattle.fs_machine.specs.State.{Machine}
 use Rattle.fs_machine.specs.declared.parked_request.ParkedRequest.{ParkedRequest}
@@ -75,6 +74,8 @@ fresh_asked m (BatchGetDocuments database names mask when) drawn = tt
 fresh_asked m (RunQuery database query when) drawn = tt
 fresh_asked m (BeginTransaction database options) drawn = new_by m.past m.txns m.parked (m.numbers.ids + 1) ((drawn (m.numbers.ids + 1)).1 (omega arith))
 fresh_asked m (Rollback database transaction) drawn = tt
+fresh_asked m (AddTarget database id t token) drawn = tt
+fresh_asked m (RemoveTarget database id) drawn = tt
 
 itself : (n : ℕ) → counted n n ≡ 1
 itself n = grind (arith, nat_tests)
@@ -91,6 +92,8 @@ fresh_by m r rest (BeginTransaction database options) drawn counts =
     let one = itself r.id in
     record { «open» = none_open r.id m.txns.open (omega (arith, few, one, counts)); expired = none_expired r.id m.txns.expired (omega (arith, few, one, counts)) }
 fresh_by m r rest (Rollback database transaction) drawn counts = tt
+fresh_by m r rest (AddTarget database id t token) drawn counts = tt
+fresh_by m r rest (RemoveTarget database id) drawn counts = tt
 
 pub fresh_parked : (m : Machine) (place : ℕ) (r : ParkedRequest) → slice_get m.parked place ≡ Some r → IdsAreDrawn m.past m.txns m.parked m.numbers.ids → IsFresh m r.id r.envelope.request
 fresh_parked m place r is drawn = fresh_by m r (times_parked r.id (remove m.parked place)) r.envelope.request drawn (parked_less r.id m.parked place r is)

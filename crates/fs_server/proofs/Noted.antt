@@ -1,17 +1,12 @@
 -- What is noted of a request is what it shows, where it is noted at all.
-use Rattle.std.proofs.Common.{◌≡◌, ℕ, ◌+◌, ◌<◌, ◌≤◌, ◌^◌, ℤ, ◌≤ℤ◌, Bool, true, false, cond, List, [], Option, Some, None, sum_by, refl, sym, ap, ◌∙◌, subst, arith}
-use Rattle.std.specs.Prelude.{IsSome, is_some, nat_lt, codes}
+use Rattle.std.proofs.Common.{◌≡◌, ℕ, ◌≤◌, ℤ, ◌≤ℤ◌, Bool, true, false, cond, List, [], Option, Some, None, refl, sym, ap, ◌∙◌, subst, arith}
+use Rattle.std.specs.Prelude.{is_some}
 use Rattle.std.specs.Option.{option_map_or}
-use Rattle.std.proofs.lemmas.Bool.Decides.{nat_tests}
 use Rattle.std.proofs.lemmas.Int.{ints}
-use Rattle.fs_history.specs.Bytes.{shown_size}
 use Rattle.fs_history.specs.declared.read.Read.{Read}
 use Rattle.fs_rpc.specs.declared.request.Request.{Request}
 use Rattle.fs_rpc.specs.declared.when.When.{When}
 use Rattle.fs_rpc.specs.declared.when.When.TheVariants.{Released, At, In}
-use Rattle.fs_status.specs.Refusal.{at_limit}
-use Rattle.fs_status.specs.declared.refusal.Refusal.{Refusal}
-use Rattle.fs_txn.specs.Reading.{shown_bytes}
 use Rattle.fs_txn.specs.Transactions.{Transactions, expired_of, is_read_write, txn_of}
 use Rattle.fs_txn.specs.declared.expired.Expired.{Expired}
 use Rattle.fs_txn.specs.declared.kind.Kind.{Kind}
@@ -21,8 +16,8 @@ use Rattle.fs_txn.proofs.Several.{noted_none}
 use Rattle.fs_machine.specs.Conflict.{read_behind}
 use Rattle.fs_machine.specs.Facts.{Facts}
 use Rattle.fs_machine.specs.Past.{Past}
-use Rattle.fs_machine.specs.Read.{is_noted, read_in, read_limit_refusal, read_time, reader_behind, shown_at, time_refusal, when_refusal}
-use Rattle.fs_machine.specs.Refusing.{passed, reads_refusal}
+use Rattle.fs_machine.specs.Read.{is_noted, read_in, read_limit_refusal, read_time, shown_at, when_refusal}
+use Rattle.fs_machine.specs.Refusing.{reads_refusal}
 use Rattle.fs_machine.specs.State.{Machine}
 use Rattle.fs_machine.specs.Transact.{closed_refusal, refusal_unless, time_in, time_of_kind, with_reads}
 use Rattle.fs_machine.specs.TransactionsHold.{IsOpen}
@@ -33,7 +28,7 @@ use Rattle.fs_machine.proofs.TransactionsHold.{all_open}
 use Rattle.fs_machine.specs.declared.answer.Answer.{Answer}
 use Rattle.fs_server.specs.Changes.{Does}
 use Rattle.fs_server.specs.declared.changes.Change.{Change}
-use Rattle.fs_server.specs.Noted.{noted_behind, noted_by, noted_in, noted_refusal}
+use Rattle.fs_server.specs.Noted.{noted_by, noted_in, noted_refusal}
 
 -- ---- an open transaction
 

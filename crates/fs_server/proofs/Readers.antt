@@ -1,11 +1,10 @@
 -- The open read-write transactions that have read what writes write.
-use Rattle.std.proofs.Common.{◌≡◌, ℕ, Bool, true, false, cond, List, [], ◌∷◌, Option, map, refl, sym, ap, ◌∙◌, subst}
+use Rattle.std.proofs.Common.{◌≡◌, ℕ, Bool, true, false, cond, List, [], ◌∷◌, Option, map, refl, sym, ap, ◌∙◌}
 use Rattle.std.specs.Prelude.{◌≢◌, ◌==◌, ◌&&◌, ◌||◌, IsTrue, not}
 use Rattle.std.specs.List.{filter, list_any}
 use Rattle.std.proofs.Math.Bool.{and-false}
 use Rattle.std.proofs.lemmas.Bool.{eqb-false, eqb-true}
-use Rattle.fs_history.specs.Touches.{some_touched, touches}
-use Rattle.fs_history.specs.declared.read.Read.{Read}
+use Rattle.fs_history.specs.Touches.{touches}
 use Rattle.fs_locks.specs.Holds.{IsLeastOther}
 use Rattle.fs_path.specs.declared.name.DocName.{DocName}
 use Rattle.fs_txn.specs.Reading.{has_read, is_reader as reads_it, reads_name}

@@ -1,7 +1,7 @@
 -- No definition of an answer is the refusal for want of memory.
-use Rattle.std.proofs.Common.{◌≡◌, ℕ, ℤ, Bool, true, false, cond, List, [], ◌∷◌, Option, Some, None, option_map, Ok, Err, ap, length, pos}
-use Rattle.std.specs.Prelude.{codes, nat_le, nat_lt, int_lt, slice_get, sum_by, ◌+◌}
-use Rattle.std.specs.FinMap.{get}
+use Rattle.std.proofs.Common.{◌≡◌, ℕ, ℤ, Bool, true, false, cond, List, [], ◌∷◌, Option, Some, None, option_map, Result, Ok, Err, ap, length, pos}
+use Rattle.std.specs.Prelude.{codes, negsuc, nat_le, nat_lt, int_lt, slice_get, sum_by, ◌+◌}
+use Rattle.std.specs.FinMap.{get, len}
 use Rattle.fs_history.specs.Bytes.{commit_size, shown_size}
 use Rattle.fs_history.specs.History.{at}
 use Rattle.fs_history.specs.declared.read.Read.{Read}
@@ -9,9 +9,11 @@ use Rattle.fs_path.specs.Place.{member_place}
 use Rattle.fs_path.specs.declared.field.FieldPath.{FieldPath}
 use Rattle.fs_path.specs.declared.place.Rule.{Rule}
 use Rattle.fs_path.specs.declared.place.Rule.TheVariants.{Q}
-use Rattle.fs_query.specs.Asked.{Asked}
 use Rattle.fs_query.specs.Rules.{rule_of_query}
+use Rattle.fs_query.specs.declared.listen.ListenMessage.TheVariants as listen
 use Rattle.fs_query.specs.declared.rule.QueryRule.{QueryRule}
+use Rattle.fs_query.specs.declared.target.Target.{Target}
+use Rattle.fs_query.specs.declared.target.Target.TheVariants as target
 use Rattle.fs_rpc.specs.declared.message.Message.{Message}
 use Rattle.fs_rpc.specs.declared.message.Message.TheVariants as message
 use Rattle.fs_rpc.specs.declared.options.TransactionOptions.{TransactionOptions}
@@ -21,30 +23,37 @@ use Rattle.fs_rpc.specs.declared.request.Request.{Request}
 use Rattle.fs_rpc.specs.declared.request.Request.TheVariants as request
 use Rattle.fs_rpc.specs.declared.when.When.{When}
 use Rattle.fs_rpc.specs.declared.when.When.TheVariants as when
-use Rattle.fs_status.specs.Refusal.{at_limit, conflict_with, refusal_of}
+use Rattle.fs_status.specs.Refusal.{at_limit, refusal_of}
 use Rattle.fs_status.specs.declared.reason.Reason.{Reason}
-use Rattle.fs_status.specs.declared.reason.Reason.TheVariants.{AtLimit, Conflict, Expired, Memory, NoDocument, NotOpen, ReadOnly, TooOld, TooNew}
+use Rattle.fs_status.specs.declared.reason.Reason.TheVariants.{AtLimit, Conflict, Expired, Memory, NoDocument, NotOpen, ReadOnly, TargetInUse, TargetUnknown, TokenAhead, TooOld, TooNew}
 use Rattle.fs_status.specs.declared.reason.Reason.TheVariants as reasons
 use Rattle.fs_status.specs.declared.refusal.Refusal.{Refusal}
+use Rattle.fs_token.specs.Token.{time_in}
+use Rattle.fs_token.specs.declared.error.TokenError.{TokenError}
+use Rattle.fs_token.specs.declared.error.TokenError.TheVariants.{BadLength, BadMark, BadTime}
 use Rattle.fs_txn.specs.Reading.{shown_bytes}
 use Rattle.fs_txn.specs.Transactions.{Transactions, expired_of, is_read_write, txn_of}
 use Rattle.fs_txn.specs.declared.expired.Expired.{Expired as Gone}
 use Rattle.fs_txn.specs.declared.txn.Txn.{Txn}
 use Rattle.fs_value.specs.declared.document.Document.{Document}
 use Rattle.fs_write.specs.declared.write.Write.{Write}
-use Rattle.fs_machine.specs.Commit.{author_refusal, commit_refusal, commit_retry_refusal, committed_answer, committed_answer_in, committed_answer_unless, growth_refusal, number_refusal, only_reads, unless_closed, writing_refusal}
+use Rattle.fs_machine.specs.Commit.{author_refusal, commit_refusal, committed_answer, committed_answer_in, committed_answer_unless, growth_refusal, number_refusal, only_reads, unless_closed, writing_refusal}
 use Rattle.fs_machine.specs.Conflict.{conflict}
-use Rattle.fs_machine.specs.Open.{is_full, open_answer}
+use Rattle.fs_machine.specs.Listen.{adding_refusal, cause_of, has_target, is_rule, is_target, listening_of, removed_answer, removing_refusal, shown_refusal, target_query_place, target_refusal, targets_refusal, token_reason, token_refusal, unless_used}
+use Rattle.fs_machine.specs.Load.{load_floor, load_refusal, refusal_at, time_refusal as load_time_refusal}
 use Rattle.fs_machine.specs.Past.{Past}
-use Rattle.fs_machine.specs.Read.{batch_answers, document_answer, is_noted, query_answer, read_limit_refusal, read_time, shown_at, time_refusal, when_refusal}
+use Rattle.fs_machine.specs.Read.{batch_answers, document_answer, is_noted, query_answer, read_limit_refusal, read_time, refusal_from, shown_at, time_refusal, when_refusal}
 use Rattle.fs_machine.specs.Refusing.{ids_refusal, journal_count, journal_size, next_time, outbox_is_full, outbox_refusal, passed, reads_refusal, room_refusal, time_limit_refusal}
-use Rattle.fs_machine.specs.Request.{Decision, answer_by, answered, answered_unless, arrival_refusal, arrived, begin_refusal, begin_time_refusal, check_refusal, decided_answer, decision, drawn, held_by, query_refusal, retry_refusal, unless_full, unless_held, unless_refused}
+use Rattle.fs_machine.specs.Request.{Decision, answer_by, answered, answered_unless, arrival_refusal, arrived, begin_refusal, begin_time_refusal, check_refusal, decided_answer, decision, drawn, held_by, query_refusal, refused_by, retry_refusal, unless_full, unless_held, unless_refused}
 use Rattle.fs_machine.specs.Retry.{retry_answer, retry_decision, tried_answer}
 use Rattle.fs_machine.specs.State.{Machine}
-use Rattle.fs_machine.specs.Transact.{closed_refusal, gone_refusal, reads_had, refusal_unless}
+use Rattle.fs_machine.specs.Transact.{closed_refusal, reads_had, refusal_unless}
 use Rattle.fs_machine.specs.declared.answer.Answer.{Answer}
-use Rattle.fs_machine.specs.declared.answer.Answer.TheVariants.{Reply, Prepared, Refused}
+use Rattle.fs_machine.specs.declared.answer.Answer.TheVariants.{Reply, Refused}
 use Rattle.fs_machine.specs.declared.parked_request.ParkedRequest.{ParkedRequest}
+use Rattle.fs_listen.specs.Cuts.{is_loaded}
+use Rattle.fs_listen.specs.Listening.{Listened}
+use Rattle.fs_server.specs.Loading.{answer_of}
 
 abbrev IsOther : Reason → Type 0
 IsOther r = r ≡ Memory → ⊥
@@ -118,14 +127,68 @@ read_limit_other m w q =
 rule_not_memory : (rule : Rule) (place : List ℕ) → IsOther (reasons.Rule rule place)
 rule_not_memory rule place e = cc
 
-rule_other : (o : Option QueryRule) → AreOther (option_map (λ rule. refusal_of (reasons.Rule (Q rule.number rule.count) (member_place (codes "runQuery") (codes "structuredQuery")))) o)
-rule_other None = tt
-rule_other (Some rule) = rule_not_memory (Q rule.number rule.count) (member_place (codes "runQuery") (codes "structuredQuery"))
+rule_other : (place : List ℕ) (o : Option QueryRule) → AreOther (option_map (λ rule. refusal_of (reasons.Rule (Q rule.number rule.count) place)) o)
+rule_other place None = tt
+rule_other place (Some rule) = rule_not_memory (Q rule.number rule.count) place
 
 begin_other : (m : Machine) (session : ℕ) → AreOther (begin_refusal m session)
 begin_other m session =
     let many = passed (nat_le m.limits.transactions (length m.txns.open)) (codes "transactions") m.limits.transactions (ids_refusal m None) in
     outbox_other m session many (passed_other (nat_le m.limits.transactions (length m.txns.open)) (codes "transactions") m.limits.transactions (ids_refusal m None) (ids_other m None tt))
+
+-- ---- targets
+
+target_other : (t : Target) → AreOther (target_refusal t)
+target_other (target.Query q) = rule_other target_query_place (rule_of_query q)
+target_other (target.Documents names) = tt
+
+token_not_memory : (e : TokenError) → IsOther (token_reason e)
+token_not_memory (BadLength n) is = cc
+token_not_memory BadMark is = cc
+token_not_memory BadTime is = cc
+
+ahead_not_memory : (released time : ℤ) → IsOther (TokenAhead time released)
+ahead_not_memory released time is = cc
+
+ahead_other : (released time : ℤ) (later : Bool) → AreOther (cond later (Some (refusal_of (TokenAhead time released))) None)
+ahead_other released time true = ahead_not_memory released time
+ahead_other released time false = tt
+
+shown_other : (released : ℤ) (r : Result ℤ TokenError) → AreOther (shown_refusal released r)
+shown_other released (Ok time) = ahead_other released time (int_lt released time)
+shown_other released (Err e) = token_not_memory e
+
+token_other : (m : Machine) (token : Option (List ℕ)) → AreOther (token_refusal m token)
+token_other m None = tt
+token_other m (Some bytes) = shown_other m.past.released (time_in bytes)
+
+used_not_memory : (id : ℕ) → IsOther (TargetInUse id)
+used_not_memory id is = cc
+
+used_other : (used : Bool) (id : ℕ) (others : Option Refusal) → AreOther others → AreOther (unless_used used id others)
+used_other true id others rest = used_not_memory id
+used_other false id others rest = rest
+
+adding_other : (m : Machine) (session id : ℕ) (t : Target) (token : Option (List ℕ)) → AreOther (adding_refusal m session id t token)
+adding_other m session id t token =
+    let used = unless_used (has_target m session id) id (token_refusal m token) in
+    let numbers = passed (nat_le m.limits.ids m.numbers.targets) (codes "ids") m.limits.ids used in
+    closed_other (target_refusal t) (outbox_refusal m session (targets_refusal m session used)) (target_other t)
+    (outbox_other m session (targets_refusal m session used)
+    (passed_other (nat_le m.limits.targets (len (listening_of m session).targets)) (codes "targets") m.limits.targets numbers
+    (passed_other (nat_le m.limits.ids m.numbers.targets) (codes "ids") m.limits.ids used (used_other (has_target m session id) id (token_refusal m token) (token_other m token)))))
+
+unknown_not_memory : (id : ℤ) → IsOther (TargetUnknown id)
+unknown_not_memory id e = cc
+
+unknown_other : (there : Bool) (id : ℤ) → AreOther (cond there None (Some (refusal_of (TargetUnknown id))))
+unknown_other true id = tt
+unknown_other false id = unknown_not_memory id
+
+removing_other : (m : Machine) (session : ℕ) (id : ℤ) → AreOther (removing_refusal m session id)
+removing_other m session id = outbox_other m session _ (unknown_other (is_target m session id) id)
+
+-- ---- as they come, and as they are tried again
 
 arrival_other : (m : Machine) (session : ℕ) (q : Request) → AreOther (arrival_refusal m session q)
 arrival_other m session (request.Commit database writes transaction) = commit_other m session writes transaction
@@ -134,9 +197,11 @@ arrival_other m session (request.BatchGetDocuments database names mask w) =
     outbox_other m session (read_limit_refusal m w (request.BatchGetDocuments database names mask w)) (read_limit_other m w (request.BatchGetDocuments database names mask w))
 arrival_other m session (request.RunQuery database query w) =
     let limit = read_limit_refusal m w (request.RunQuery database query w) in
-    closed_other (query_refusal query) (outbox_refusal m session limit) (rule_other (rule_of_query query)) (outbox_other m session limit (read_limit_other m w (request.RunQuery database query w)))
+    closed_other (query_refusal query) (outbox_refusal m session limit) (rule_other (member_place (codes "runQuery") (codes "structuredQuery")) (rule_of_query query)) (outbox_other m session limit (read_limit_other m w (request.RunQuery database query w)))
 arrival_other m session (request.BeginTransaction database o) = begin_other m session
 arrival_other m session (request.Rollback database transaction) = outbox_other m session None tt
+arrival_other m session (request.AddTarget database id t token) = adding_other m session id t token
+arrival_other m session (request.RemoveTarget database id) = removing_other m session id
 
 retry_other : (m : Machine) (q : Request) → AreOther (retry_refusal m q)
 retry_other m (request.Commit database writes transaction) = growth_other m writes transaction (time_limit_refusal m) (time_limit_other m)
@@ -145,6 +210,8 @@ retry_other m (request.BatchGetDocuments database names mask w) = read_limit_oth
 retry_other m (request.RunQuery database query w) = read_limit_other m w (request.RunQuery database query w)
 retry_other m (request.BeginTransaction database o) = tt
 retry_other m (request.Rollback database transaction) = tt
+retry_other m (request.AddTarget database id t token) = tt
+retry_other m (request.RemoveTarget database id) = tt
 
 -- ---- transactions and times
 
@@ -186,8 +253,11 @@ too_old t floor e = cc
 too_new : (t released : ℤ) → IsOther (TooNew t released)
 too_new t released e = cc
 
+from_other : (from : ℤ) (p : Past) (t : ℤ) → AreOther (refusal_from from p t)
+from_other from p t = either_other (int_lt t from) (int_lt p.released t) (TooOld t from) (TooNew t p.released) (too_old t from) (too_new t p.released)
+
 time_other : (p : Past) (t : ℤ) → AreOther (time_refusal p t)
-time_other p t = either_other (int_lt t p.floor) (int_lt p.released t) (TooOld t p.floor) (TooNew t p.released) (too_old t p.floor) (too_new t p.released)
+time_other p t = from_other p.floor p t
 
 when_other : (m : Machine) (w : When) → AreOther (when_refusal m w)
 when_other m when.Released = tt
@@ -206,6 +276,8 @@ check_other m (request.BatchGetDocuments database names mask w) = when_other m w
 check_other m (request.RunQuery database query w) = when_other m w
 check_other m (request.BeginTransaction database o) = begin_time_other m o
 check_other m (request.Rollback database transaction) = open_one_other m.txns transaction
+check_other m (request.AddTarget database id t token) = tt
+check_other m (request.RemoveTarget database id) = tt
 
 -- ---- answers
 
@@ -245,6 +317,13 @@ document_not : (id : Option (List ℕ)) (t : ℤ) (mask : Option (List FieldPath
 document_not id t mask None e = no_document t (refused_reason e)
 document_not id t mask (Some d) e = cc
 
+unknown_not : (id : ℤ) → IsNot (Refused (refusal_of (TargetUnknown id)))
+unknown_not id e = unknown_not_memory id (refused_reason e)
+
+removed_not : (id : ℤ) → IsNot (removed_answer id)
+removed_not (pos id) = reply_not (message.Listen (listen.Remove (id ∷ []) None))
+removed_not (negsuc id) = unknown_not (negsuc id)
+
 carried_not : (m : Machine) (r : ParkedRequest) (q : Request) → IsNot (answer_by m r q)
 carried_not m r (request.Commit database writes transaction) = committed_not m r writes transaction
 carried_not m r (request.GetDocument name mask w) = let t = read_time m w in document_not r.envelope.id t mask (get (at m.past.history t) name)
@@ -252,6 +331,8 @@ carried_not m r (request.BatchGetDocuments database names mask w) = let t = read
 carried_not m r (request.RunQuery database query w) = let t = read_time m w in reply_not (message.RunQuery r.envelope.id (query_answer (at m.past.history t) query) t)
 carried_not m r (request.BeginTransaction database o) = reply_not (message.BeginTransaction r.envelope.id r.id)
 carried_not m r (request.Rollback database transaction) = reply_not (message.Rollback r.envelope.id)
+carried_not m r (request.AddTarget database id t token) = reply_not (message.Listen (listen.Add (id ∷ [])))
+carried_not m r (request.RemoveTarget database id) = removed_not id
 
 -- ---- what becomes of a request
 
@@ -285,10 +366,32 @@ decided_not m r (Decision.refused refusal) other e = other (refused_reason e)
 decided_not m r (Decision.held id) other e = cc
 decided_not m r Decision.goes_on other e = carried_not m r r.envelope.request e
 
+refusal_not : (refusal : Refusal) → IsOther refusal.reason → IsNot (Refused refusal)
+refusal_not refusal other e = other (refused_reason e)
+
+told_not : (there : Bool) (id : ℕ) (refusal : Refusal) → IsOther refusal.reason → IsNot (cond there (Refused refusal) (Reply (message.Listen (listen.Remove (id ∷ []) (Some (cause_of refusal))))))
+told_not true id refusal other = refusal_not refusal other
+told_not false id refusal other = reply_not (message.Listen (listen.Remove (id ∷ []) (Some (cause_of refusal))))
+
+unadded_not : (rule there : Bool) (id : ℕ) (refusal : Refusal) → IsOther refusal.reason
+    → IsNot (cond rule (Refused refusal) (cond there (Refused refusal) (Reply (message.Listen (listen.Remove (id ∷ []) (Some (cause_of refusal)))))))
+unadded_not true there id refusal other = refusal_not refusal other
+unadded_not false there id refusal other = told_not there id refusal other
+
+refused_by_not : (m : Machine) (session : ℕ) (q : Request) (refusal : Refusal) → IsOther refusal.reason → IsNot (refused_by m session q refusal)
+refused_by_not m session (request.AddTarget database id t token) refusal other = unadded_not (is_rule refusal.reason) (has_target m session id) id refusal other
+refused_by_not m session (request.Commit database writes transaction) refusal other = refusal_not refusal other
+refused_by_not m session (request.GetDocument name mask w) refusal other = refusal_not refusal other
+refused_by_not m session (request.BatchGetDocuments database names mask w) refusal other = refusal_not refusal other
+refused_by_not m session (request.RunQuery database query w) refusal other = refusal_not refusal other
+refused_by_not m session (request.BeginTransaction database o) refusal other = refusal_not refusal other
+refused_by_not m session (request.Rollback database transaction) refusal other = refusal_not refusal other
+refused_by_not m session (request.RemoveTarget database id) refusal other = refusal_not refusal other
+
 answered_not : (m : Machine) (r : ParkedRequest) (o : Option Refusal) → AreOther o → IsNot (answered_unless o m r)
-answered_not m r (Some refusal) other e = other (refused_reason e)
-answered_not m r None other e =
-    decided_not (drawn m r.envelope.request) r (unless_full m (decision m r.envelope.request)) (full_not m (decision m r.envelope.request) (decision_not m r.envelope.request)) e
+answered_not m r (Some refusal) other = refused_by_not m r.session r.envelope.request refusal other
+answered_not m r None other =
+    decided_not (drawn m r.envelope.request) r (unless_full m (decision m r.envelope.request)) (full_not m (decision m r.envelope.request) (decision_not m r.envelope.request))
 
 pub request_not : (m : Machine) (session : ℕ) (e : Envelope) → IsNot (answered m session e)
 request_not m session e = answered_not m (arrived m session e) (arrival_refusal m session e.request) (arrival_other m session e.request)
@@ -304,3 +407,21 @@ found_not m (Some r) e = let same : tried_answer m r ≡ Refused (refusal_of Mem
 
 pub retry_not : (m : Machine) (place : ℕ) → Some (Refused (refusal_of Memory)) ≡ retry_answer m place → ⊥
 retry_not m place e = found_not m (slice_get m.parked place) e
+
+-- ---- a load
+
+load_time_other : (p : Past) (l : Listened) (at_time : Option ℤ) → AreOther (load_time_refusal p l at_time)
+load_time_other p l None = tt
+load_time_other p l (Some t) = from_other (load_floor p.floor l.token) p t
+
+refusal_at_other : (p : Past) (target : ℕ) (at_time : Option ℤ) (o : Option Listened) → AreOther (refusal_at p target at_time o)
+refusal_at_other p target at_time None = unknown_not_memory (pos target)
+refusal_at_other p target at_time (Some l) = unless_other (is_loaded l.loaded) (load_time_refusal p l at_time) (load_time_other p l at_time)
+
+load_answer_not : (o : Option Refusal) → AreOther o → answer_of o ≡ Err (refusal_of Memory) → ⊥
+load_answer_not None other e = cc
+load_answer_not (Some refusal) other e = let same : refusal ≡ refusal_of Memory = cc in other (reason_of same)
+
+pub load_not : (m : Machine) (session target : ℕ) (at_time : Option ℤ) → answer_of (load_refusal m session target at_time) ≡ Err (refusal_of Memory) → ⊥
+load_not m session target at_time e =
+    load_answer_not (load_refusal m session target at_time) (refusal_at_other m.past target at_time (get (listening_of m session).targets target)) e

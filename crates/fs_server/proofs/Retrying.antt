@@ -1,15 +1,16 @@
 -- A request that waits at a place, and is tried again: where that leads, by what becomes of it.
-use Rattle.std.proofs.Common.{◌≡◌, ◌⊎◌, inl, inr, arith, ℕ, ◌<◌, List, Option, Some, None, refl, sym, ap, ◌∙◌, subst}
+use Rattle.std.proofs.Common.{◌≡◌, inl, inr, arith, ℕ, ◌<◌, false, List, Option, Some, None, sym, ap, ◌∙◌, subst}
 use Rattle.std.specs.Prelude.{length, option_map, remove, slice_get}
 use Rattle.std.proofs.lemmas.Option.{slice_get_cases}
 use Rattle.fs_status.specs.declared.refusal.Refusal.{Refusal}
 use Rattle.fs_txn.specs.Transactions.{Transactions}
 use Rattle.fs_machine.specs.Commit.{unless_closed}
+use Rattle.fs_machine.specs.Config.{IsAllowed}
 use Rattle.fs_machine.specs.Event.{Event}
 use Rattle.fs_machine.specs.Facts.{Facts}
 use Rattle.fs_machine.specs.Limits.{AreAllowed}
 use Rattle.fs_machine.specs.Past.{Past}
-use Rattle.fs_machine.specs.Request.{Decision, answer_by, carried_by, check_refusal, decided_answer, decision, held_by, retry_refusal, unless_held, unless_refused}
+use Rattle.fs_machine.specs.Request.{Decision, answer_by, carried_by, check_refusal, decided_answer, held_by, retry_refusal, unless_held, unless_refused}
 use Rattle.fs_machine.specs.Retry.{retried, retried_if, retry_answer, retry_decision, tried, tried_answer, unparked}
 use Rattle.fs_machine.specs.State.{Machine}
 use Rattle.fs_machine.specs.declared.answer.Answer.{Answer}
@@ -19,8 +20,10 @@ use Rattle.fs_machine.proofs.Holding.{beside}
 use Rattle.fs_machine.proofs.Runs.{keeps}
 use Rattle.fs_server.specs.Changes.{Does, asking, changed, past_changed, txns_changed}
 use Rattle.fs_server.specs.declared.changes.Change.{Change}
+use Rattle.fs_server.specs.Heard.{AreHeard, Heard, listeners_of}
 use Rattle.fs_server.specs.Kept.{IsKept}
-use Rattle.fs_server.proofs.Asking.{kept_of}
+use Rattle.fs_server.specs.Noted.{listens}
+use Rattle.fs_server.proofs.Asking.{heard_changed, kept_of, shards_changed}
 use Rattle.fs_server.proofs.Beside.{carried_beside}
 
 -- it stands there
@@ -62,12 +65,12 @@ module _ (m : Machine) (place : ℕ) (r : ParkedRequest) (here : slice_get m.par
       pub told_held : Some (Held id) ≡ retry_answer m place
       told_held = sym (tells ∙ ap (λ d. Some (decided_answer m r d)) (decided (Some id) held))
 
-    module _ (free : held_by m r.envelope.request ≡ None) (d : Answer × Change)
+    module _ (plain : listens r.envelope.request ≡ false) (free : held_by m r.envelope.request ≡ None) (d : Answer × Change)
         (does : Does m (answer_by m (asking r.session r.id r.envelope) r.envelope.request) (carried_by m (asking r.session r.id r.envelope) r.envelope.request) d) where
       pub state_goes : beside (changed m d.1) m.numbers (remove m.parked place) ≡ retried m place
       state_goes =
           ap (λ n. beside n m.numbers (remove m.parked place)) does.state
-          ∙ sym (leads ∙ ap (tried m place r) (decided None free) ∙ carried_beside m m.numbers (remove m.parked place) r r.envelope.request)
+          ∙ sym (leads ∙ ap (tried m place r) (decided None free) ∙ carried_beside m m.numbers (remove m.parked place) r r.envelope.request plain)
 
       pub told_goes : Some d.0 ≡ retry_answer m place
       told_goes = ap Some does.told ∙ sym (tells ∙ ap (λ x. Some (decided_answer m r x)) (decided None free))
@@ -75,14 +78,17 @@ module _ (m : Machine) (place : ℕ) (r : ParkedRequest) (here : slice_get m.par
 -- ---- as the code has it: the server as it was made of, and what its parts are then
 
 module _ (m0 m : Machine) (view : m0 ≡ m) (place : ℕ) (r : ParkedRequest) (here : slice_get m.parked place ≡ Some r) (limits : retry_refusal m r.envelope.request ≡ None) (check : check_refusal m r.envelope.request ≡ None)
-    (free : held_by m r.envelope.request ≡ None) (d : Answer × Change)
+    (plain : listens r.envelope.request ≡ false) (free : held_by m r.envelope.request ≡ None) (d : Answer × Change)
     (does : Does m (answer_by m (asking r.session r.id r.envelope) r.envelope.request) (carried_by m (asking r.session r.id r.envelope) r.envelope.request) d)
     (p : Past) (ts : Transactions) (ps : List ParkedRequest) (past : p ≡ past_changed m0.past d.1) (txns : ts ≡ txns_changed m0.txns m0.past.moment d.1) (less : ps ≡ remove m0.parked place) where
   pub went_on : record m0 { past = p; txns = ts; parked = ps } ≡ retried m place
   went_on =
       (λ i. record m0 { past = past i; txns = txns i; parked = less i })
       ∙ ap (λ (k : Machine). beside (changed k d.1) k.numbers (remove k.parked place)) view
-      ∙ state_goes m place r here limits check free d does
+      ∙ state_goes m place r here limits check plain free d does
 
-  pub went_on_kept : AreAllowed m0.limits → Facts m → IsKept m0.config m0.limits p ts m0.sessions ps m0.numbers
-  went_on_kept allowed facts = kept_of (record m0 { past = p; txns = ts; parked = ps }) allowed (subst Facts (sym went_on) (keeps m (Event.retrying place) facts))
+  pub went_on_kept : (hs : List Heard) → m0.listeners ≡ listeners_of hs → IsAllowed m0.config → AreAllowed m0.limits → m0.past.shards ≡ m0.config.shards → AreHeard m0.config m0.limits m0.past hs → Facts m
+      → IsKept m0.config m0.limits p ts m0.sessions hs ps m0.numbers
+  went_on_kept hs listened configured allowed shards heard facts =
+      kept_of (record m0 { past = p; txns = ts; parked = ps }) hs listened configured allowed (shards_changed m0.past p d.1 m0.config.shards past shards)
+      (heard_changed m0.config m0.limits m0.past p d.1 hs past heard) (subst Facts (sym went_on) (keeps m (Event.retrying place) facts))

@@ -1,12 +1,9 @@
 -- What settling a commit does: it is accepted or dropped, and then what can be is released.
-use Rattle.std.proofs.Common.{◌≡◌, ℕ, ℤ, Bool, true, false, List, [], ◌∷◌, ◌++◌, Option, Some, None, Result, Ok, Err, refl, sym, ap, ◌∙◌, subst, cond, arith, suc, take, get_or, length, ◌-◌, ◌<◌}
+use Rattle.std.proofs.Common.{◌≡◌, ℕ, ℤ, Bool, true, false, List, [], ◌∷◌, ◌++◌, Option, Some, None, Ok, refl, sym, ap, ◌∙◌, subst, cond, arith, suc, take, get_or, length, ◌-◌, ◌<◌}
 use Rattle.std.specs.Prelude.{IsSome, int_lt, map}
 use Rattle.std.proofs.Math.Seq.{take-length, take-suc}
 use Rattle.std.proofs.lemmas.Option.{same_Some}
 use Rattle.fs_rpc.specs.MessageJson.{refused}
-use Rattle.fs_status.specs.declared.refusal.Refusal.{Refusal}
-use Rattle.fs_write.specs.Batch.{Docs}
-use Rattle.fs_write.specs.declared.write_result.WriteResult.{WriteResult}
 use Rattle.fs_machine.specs.declared.answer.Outcome.{Outcome}
 use Rattle.fs_machine.specs.declared.answer.Outcome.TheVariants as outcome
 use Rattle.fs_machine.specs.declared.answer.Settled.{Settled}

@@ -1,24 +1,21 @@
 -- What follows where no limit would be passed.
-use Rattle.std.proofs.Common.{◌≡◌, ℕ, ◌+◌, ◌<◌, ◌≤◌, Bool, true, false, cond, List, [], Option, Some, None, length, pos, refl, sym, ap, ◌∙◌, subst, arith}
+use Rattle.std.proofs.Common.{◌≡◌, ℕ, ◌+◌, ◌<◌, ◌≤◌, Bool, true, false, cond, List, [], Option, Some, None, length, refl, ap, ◌∙◌, subst, arith}
 use Rattle.std.specs.Prelude.{nat_le, nat_lt, codes, unwrap_or}
 use Rattle.std.specs.Option.{option_and_then, option_map_or}
 use Rattle.std.proofs.lemmas.Bool.Decides.{nat_tests}
 use Rattle.fs_history.specs.Bytes.{commit_size}
 use Rattle.fs_history.specs.declared.read.Read.{Read}
-use Rattle.fs_query.specs.Asked.{Asked}
 use Rattle.fs_rpc.specs.declared.request.Request.{Request}
-use Rattle.fs_rpc.specs.declared.request.Request.TheVariants.{Commit, GetDocument, BatchGetDocuments, RunQuery, BeginTransaction, Rollback}
-use Rattle.fs_rpc.specs.declared.when.When.{When}
+use Rattle.fs_rpc.specs.declared.request.Request.TheVariants.{Commit, GetDocument, BatchGetDocuments, RunQuery, BeginTransaction, Rollback, AddTarget, RemoveTarget}
 use Rattle.fs_status.specs.declared.refusal.Refusal.{Refusal}
-use Rattle.fs_txn.specs.Reading.{reads_in, reads_of}
+use Rattle.fs_txn.specs.Reading.{reads_of}
 use Rattle.fs_txn.specs.Transactions.{is_read_write, txn_of}
 use Rattle.fs_txn.specs.declared.txn.Txn.{Txn}
 use Rattle.fs_write.specs.declared.write.Write.{Write}
 use Rattle.fs_machine.specs.Commit.{commit_refusal, commit_retry_refusal, growth_refusal, number_refusal, only_reads, unless_closed}
-use Rattle.fs_machine.specs.Numbered.{draws}
 use Rattle.fs_machine.specs.Read.{read_limit_refusal}
-use Rattle.fs_machine.specs.Refusing.{ids_refusal, journal_count, journal_size, outbox_is_full, outbox_refusal, passed, room_refusal, time_limit_refusal}
-use Rattle.fs_machine.specs.Request.{arrival_refusal, begin_refusal, query_refusal, retry_refusal}
+use Rattle.fs_machine.specs.Refusing.{journal_count, journal_size, outbox_is_full, outbox_refusal, passed, room_refusal, time_limit_refusal}
+use Rattle.fs_machine.specs.Request.{arrival_refusal, query_refusal, retry_refusal}
 use Rattle.fs_machine.specs.State.{Machine}
 use Rattle.fs_machine.specs.Transact.{reads_had}
 
@@ -75,7 +72,7 @@ commit_retried m session ws transaction none =
     (behind_passed (outbox_is_full m session) (codes "outbox") m.limits.outbox growth
     (behind_passed (nat_lt m.limits.writes (length ws)) (codes "writes") m.limits.writes (outbox_refusal m session growth) none))
 
-behind_closed : (first others : Option Refusal) → unless_closed first others ≡ None → others ≡ None
+pub behind_closed : (first others : Option Refusal) → unless_closed first others ≡ None → others ≡ None
 behind_closed (Some refusal) others none = absurd (cc)
 behind_closed None others none = none
 
@@ -91,6 +88,8 @@ retried_within m session (RunQuery database query when) none =
     read_retried m session limit (behind_closed (query_refusal query) (outbox_refusal m session limit) none)
 retried_within m session (BeginTransaction database options) none = refl
 retried_within m session (Rollback database transaction) none = refl
+retried_within m session (AddTarget database id t token) none = refl
+retried_within m session (RemoveTarget database id) none = refl
 
 -- ---- a number is left for one that draws one
 

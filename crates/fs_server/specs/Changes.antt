@@ -1,5 +1,5 @@
 -- Only private clauses cite this: what a request changes that is carried out.
-use Rattle.std.specs.Prelude.{◌≡◌, ℕ, ◌+◌, ◌<◌, ◌≤◌, ◌^◌, ℤ, ⊤, IsNone, IsSome, List, Option, None, Some, sum_by, unwrap_or}
+use Rattle.std.specs.Prelude.{◌≡◌, ℕ, ◌+◌, ◌<◌, ◌≤◌, ◌^◌, ℤ, ⊤, IsNone, IsSome, List, None, Some, sum_by}
 use Rattle.fs_history.specs.Bytes.{batch_size, shown_size}
 use Rattle.fs_history.specs.declared.read.Read.{Read}
 use Rattle.fs_rpc.specs.declared.request.Envelope.{Envelope}
@@ -14,7 +14,7 @@ use Rattle.fs_machine.specs.Limits.{greatest}
 use Rattle.fs_machine.specs.Past.{Past, batches}
 use Rattle.fs_machine.specs.ReadsHold.{MayRead}
 use Rattle.fs_machine.specs.Refusing.{journal_size, next_time}
-use Rattle.fs_machine.specs.Request.{check_refusal, held_by, retry_refusal}
+use Rattle.fs_machine.specs.Request.{check_refusal, retry_refusal}
 use Rattle.fs_machine.specs.State.{Machine}
 use Rattle.fs_machine.specs.declared.answer.Answer.{Answer}
 use Rattle.fs_machine.specs.declared.parked_request.ParkedRequest.{ParkedRequest}
@@ -90,3 +90,5 @@ IsFresh m id (request.BatchGetDocuments database names mask when) = ⊤
 IsFresh m id (request.RunQuery database query when) = ⊤
 IsFresh m id (request.BeginTransaction database options) = IsNew id m.txns
 IsFresh m id (request.Rollback database transaction) = ⊤
+IsFresh m id (request.AddTarget database target t token) = ⊤
+IsFresh m id (request.RemoveTarget database target) = ⊤

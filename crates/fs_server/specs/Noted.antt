@@ -1,8 +1,8 @@
 -- Only private clauses cite this: the reads that are noted, those that a request makes in an open read-write transaction; and its number.
-use Rattle.std.specs.Prelude.{ℕ, ◌+◌, List, [], Option, None, unwrap_or, if◌then◌else◌}
+use Rattle.std.specs.Prelude.{ℕ, ◌+◌, Bool, true, false, List, [], Option, None, unwrap_or, if◌then◌else◌}
 use Rattle.fs_history.specs.declared.read.Read.{Read}
 use Rattle.fs_rpc.specs.declared.request.Request.{Request}
-use Rattle.fs_rpc.specs.declared.request.Request.TheVariants.{Commit, GetDocument, BatchGetDocuments, RunQuery, BeginTransaction, Rollback}
+use Rattle.fs_rpc.specs.declared.request.Request.TheVariants.{Commit, GetDocument, BatchGetDocuments, RunQuery, BeginTransaction, Rollback, AddTarget, RemoveTarget}
 use Rattle.fs_rpc.specs.declared.when.When.{When}
 use Rattle.fs_rpc.specs.declared.when.When.TheVariants.{Released, At, In}
 use Rattle.fs_status.specs.declared.refusal.Refusal.{Refusal}
@@ -13,6 +13,17 @@ use Rattle.fs_machine.specs.Refusing.{reads_refusal}
 use Rattle.fs_machine.specs.State.{Machine}
 use Rattle.fs_machine.specs.Transact.{with_reads}
 
+-- whether one is of a target
+abbrev pub listens : Request → Bool
+listens (AddTarget database id t token) = true
+listens (RemoveTarget database id) = true
+listens (Commit database writes transaction) = false
+listens (GetDocument name mask when) = false
+listens (BatchGetDocuments database names mask when) = false
+listens (RunQuery database query when) = false
+listens (BeginTransaction database options) = false
+listens (Rollback database transaction) = false
+
 -- when a request reads; one that reads nothing may do so at any time
 abbrev pub when_of : Request → When
 when_of (Commit database writes transaction) = Released
@@ -21,6 +32,8 @@ when_of (BatchGetDocuments database names mask when) = when
 when_of (RunQuery database query when) = when
 when_of (BeginTransaction database options) = Released
 when_of (Rollback database transaction) = Released
+when_of (AddTarget database id t token) = Released
+when_of (RemoveTarget database id) = Released
 
 abbrev pub noted_by : Machine → When → Request → List Read
 noted_by m when q = if is_noted m when then shown_at m when q else []

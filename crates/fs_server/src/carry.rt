@@ -34,7 +34,7 @@ impl Server {
     ghost use Rattle.fs_machine.specs.Transact.{time_asked, with_begun, with_ended};
     ghost use Rattle.fs_machine.specs.declared.answer.Answer.TheVariants.{Reply};
     ghost use Rattle.fs_server.specs.Changes.{Does, IsClear, IsFresh, MayChange, asking, changed};
-    ghost use Rattle.fs_server.specs.Noted.{noted_in, noted_refusal};
+    ghost use Rattle.fs_server.specs.Noted.{listens, noted_in, noted_refusal};
 
     /// What a request is answered that nothing holds, and what it changes.
     pub(crate) fn carry_out(
@@ -45,6 +45,7 @@ impl Server {
         envelope: &Envelope,
         reads: Reads,
     ) -> Result<(Answer, Change), AllocError>
+        requires plain { listens envelope.now.request ≡ false }
         requires clear { IsClear self.now envelope.now.request reads }
         requires free { held_by self.now envelope.now.request ≡ None }
         requires fresh { IsFresh self.now id envelope.now.request }
@@ -71,6 +72,8 @@ impl Server {
             }
             Request::BeginTransaction { options, .. } => self.begin(alloc, id, envelope, options),
             Request::Rollback { transaction, .. } => self.roll_back(alloc, envelope, *transaction),
+            Request::AddTarget { .. } => unreachable!(),
+            Request::RemoveTarget { .. } => unreachable!(),
         }
     }
 

@@ -30,6 +30,8 @@ impl Server {
             Request::RunQuery { when, .. } => self.when_refusal(when),
             Request::BeginTransaction { options, .. } => self.begin_time_refusal(options),
             Request::Rollback { transaction, .. } => self.closed_refusal(*transaction),
+            Request::AddTarget { .. } => None,
+            Request::RemoveTarget { .. } => None,
         }
     }
 

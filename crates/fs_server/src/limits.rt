@@ -11,7 +11,12 @@ use fs_status::{Id, Refusal};
 use fs_write::Writes;
 use std::alloc::{AllocError, Global};
 
-fn at_limit(alloc: Global, name: &str, number: u64) -> Result<Option<Refusal>, AllocError>
+/// The limit of a name would be passed.
+pub(crate) fn at_limit(
+    alloc: Global,
+    name: &str,
+    number: u64,
+) -> Result<Option<Refusal>, AllocError>
     ensures { IfOk result (λ r. r ≡ Some (at_limit name.now number)) }
 {
     Ok(Some(Refusal::at_limit(alloc, name, number)?))
@@ -27,7 +32,7 @@ impl Server {
     ghost use Rattle.fs_machine.specs.Refusing.{ids_refusal, journal_count, journal_size, next_time, outbox_is_full, outbox_refusal, reads_refusal, room_refusal, time_limit_refusal};
     ghost use Rattle.fs_machine.specs.Request.{arrival_refusal, begin_refusal, query_refusal, retry_refusal};
     ghost use Rattle.fs_machine.specs.Transact.{reads_had};
-    ghost use Rattle.fs_server.specs.Noted.{noted_reads, noted_refusal};
+    ghost use Rattle.fs_server.specs.Noted.{listens, noted_reads, noted_refusal};
 
     /// The rule of queries that a request breaks as it comes, or the limit that it would pass, the first of several.
     pub(crate) fn arrival_refusal(
@@ -37,7 +42,8 @@ impl Server {
         request: &Request,
         reads: &Reads,
     ) -> Result<Option<Refusal>, AllocError>
-        requires { reads.now ≡ noted_reads self.now request.now }
+        requires plain { listens request.now ≡ false }
+        requires reads { reads.now ≡ noted_reads self.now request.now }
         ensures { IfOk result (λ r. r ≡ arrival_refusal self.now session request.now) }
     {
         match request {
@@ -55,6 +61,8 @@ impl Server {
             }
             Request::BeginTransaction { .. } => self.begin_refusal(alloc, session),
             Request::Rollback { .. } => self.outbox_refusal(alloc, session),
+            Request::AddTarget { .. } => unreachable!(),
+            Request::RemoveTarget { .. } => unreachable!(),
         }
     }
 
@@ -83,8 +91,8 @@ impl Server {
 
     // ---- sessions
 
-    // Whether so many messages wait for a session that it may ask nothing.
-    fn outbox_is_full(&self, session: u32) -> bool
+    /// Whether so many messages wait for a session that it may ask nothing.
+    pub(crate) fn outbox_is_full(&self, session: u32) -> bool
         ensures { result ≡ outbox_is_full self.now session }
     {
         self.limits.outbox <= self.sessions.outbox_len(session) as u64

@@ -39,6 +39,8 @@ fn transaction_in(request: &Request) -> Option<Id>
         Request::RunQuery { when, .. } => transaction_at(*when),
         Request::BeginTransaction { .. } => None,
         Request::Rollback { transaction, .. } => Some(*transaction),
+        Request::AddTarget { .. } => None,
+        Request::RemoveTarget { .. } => None,
     }
 }
 

@@ -1,6 +1,7 @@
 //! Opening sessions.
 use crate::server::Server;
 use fs_status::{Reason, Refusal};
+use fs_target::targets_are_lawful;
 use std::alloc::{AllocError, Global};
 
 // No session has a number so high.
@@ -36,8 +37,15 @@ impl Server {
         if self.is_full() {
             return Ok(Err(Refusal::at_limit(alloc, "sessions", self.limits.sessions)?));
         }
+        self.stand();
+        targets_are_lawful();
         let number = self.numbers.sessions as u32;
-        self.sessions.add(alloc, number)?;
+        self.listeners
+            .add(alloc, number, self.config.shards, self.limits.targets)?;
+        if let Err(error) = self.sessions.add(alloc, number) {
+            self.listeners.take_back();
+            return Err(error);
+        }
         self.numbers.sessions += 1;
         Ok(Ok(number))
     }

@@ -7,7 +7,7 @@ ghost use Rattle.fs_status.specs.declared.reason.Reason.TheVariants as reasons;
 ghost use Rattle.fs_machine.specs.Request.{query_refusal};
 ghost use Rattle.std.specs.FinMap.{get, values};
 ghost use Rattle.fs_history.specs.History.{at};
-ghost use Rattle.fs_machine.specs.Read.{batch_answers, batch_get_answer, get_answer, masked, query_answer, run_answer, time_refusal, told_of};
+ghost use Rattle.fs_machine.specs.Read.{batch_answers, batch_get_answer, get_answer, masked, query_answer, refusal_from, run_answer, time_refusal, told_of};
 ghost use Rattle.fs_query.specs.AnswerTo.{answer_to};
 
 use fs_machine::Answer;
@@ -20,19 +20,25 @@ use fs_time::Micros;
 use fs_value::{Document, Documents};
 use std::alloc::{AllocError, Global};
 
-/// Why a time can't be read.
-pub(crate) fn time_refusal(past: &Past, time: Micros) -> Option<Refusal>
-    ensures value { result ≡ time_refusal past.now time }
+/// Why a time isn't one from another on, up to what is released.
+pub(crate) fn refusal_from(past: &Past, from: Micros, time: Micros) -> Option<Refusal>
+    ensures value { result ≡ refusal_from from past.now time }
 {
-    let floor = past.floor();
-    if time < floor {
-        return Some(Refusal::of(Reason::TooOld(time, floor)));
+    if time < from {
+        return Some(Refusal::of(Reason::TooOld(time, from)));
     }
     let released = past.released();
     if released < time {
         return Some(Refusal::of(Reason::TooNew(time, released)));
     }
     None
+}
+
+/// Why a time can't be read.
+pub(crate) fn time_refusal(past: &Past, time: Micros) -> Option<Refusal>
+    ensures value { result ≡ time_refusal past.now time }
+{
+    refusal_from(past, past.floor(), time)
 }
 
 // A document with the fields that a mask names, or with all of them where there is none.

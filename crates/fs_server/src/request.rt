@@ -4,30 +4,32 @@ use crate::numbers::{ids_after, number_of};
 use crate::server::Server;
 use fs_history::Reads;
 use fs_machine::{Answer, ParkedRequest};
-use fs_rpc::Envelope;
+use fs_rpc::{Envelope, Request};
 use fs_status::{Id, Reason, Refusal};
 use std::alloc::{AllocError, Global};
 
 impl Server {
-    ghost use Rattle.std.specs.Prelude.{◌≡◌, ◌≢◌, None, Some, nat_le, length, IfOk, OnOk, OnErr};
+    ghost use Rattle.std.specs.Prelude.{◌≡◌, ◌≢◌, false, None, Some, nat_le, length, IfOk, OnOk, OnErr};
     ghost use Rattle.fs_status.specs.Refusal.{refusal_of};
     ghost use Rattle.fs_status.specs.declared.reason.Reason.TheVariants.{Memory};
     ghost use Rattle.fs_machine.specs.Grows.{Grows};
     ghost use Rattle.fs_machine.specs.Request.{answered, arrival_refusal, asked, check_refusal, held_by};
     ghost use Rattle.fs_machine.specs.declared.answer.Answer.TheVariants.{Refused};
-    ghost use Rattle.fs_server.specs.Noted.{noted_reads};
+    ghost use Rattle.fs_server.specs.Noted.{listens, noted_reads};
 
     /// A request comes on a session: what it is answered at once. A commit that passes no limit is prepared, and its reply comes
     /// to the outbox of the session once it is settled and released. One that writes a name which a commit writes that isn't released
     /// yet waits (`Held`), until it is tried again; in pessimistic mode a commit of no transaction waits too for the open transactions that
     /// have read what it writes, and a read in a read-write transaction for the commits that aren't released and write what it reads.
     /// Reads are answered as of the time that they ask for, or of what is released, or of their transaction's. A transaction begins, and
-    /// ends by its commit or a rollback; the commit of one that is in conflict is aborted.
+    /// ends by its commit or a rollback; the commit of one that is in conflict is aborted. A target is added, or removed: one that isn't added
+    /// is told to be removed, with the cause, unless the request breaks a rule or the session has another target of its id.
     ///
     /// Of several refusals the first of these is told: a rule of queries that is broken; limits, in the order in which `Limits` has them; a
-    /// transaction that isn't open, or only reads and is to write; a read time that is too old or too new; that as many requests wait as
-    /// may; a conflict; that no document is there. Where memory runs out, all is as before. (v1 reference, "Commit", "GetDocument",
-    /// "BatchGetDocuments", "RunQuery", "BeginTransaction", "Rollback".)
+    /// transaction that isn't open, or only reads and is to write, or a target that is there or isn't; a read time that is too old or too
+    /// new, or a resume token that is none or shows a later time than what is released; that as many requests wait as may; a conflict; that
+    /// no document is there. Where memory runs out, all is as before. (v1 reference, "Commit", "GetDocument",
+    /// "BatchGetDocuments", "RunQuery", "BeginTransaction", "Rollback", "Listen".)
     pub fn request(&mut self, alloc: Global, session: u32, envelope: &Envelope) -> Answer
         ensures told { result ≢ Refused (refusal_of Memory) → result ≡ answered self.old session envelope.now }
         ensures state { result ≢ Refused (refusal_of Memory) → self.new ≡ asked self.old session envelope.now }
@@ -51,6 +53,30 @@ impl Server {
         ensures state { OnOk result (self.new ≡ asked self.old session envelope.now) }
         ensures err { OnErr result (self.new ≡ self.old) }
     {
+        match &envelope.request {
+            Request::AddTarget {
+                id,
+                target,
+                token,
+                ..
+            } => self.add_target(alloc, session, *id, target, token),
+            Request::RemoveTarget { id, .. } => self.remove_target(alloc, session, *id),
+            _ => self.ask(alloc, session, envelope),
+        }
+    }
+
+    // One that is of no target.
+    fn ask(
+        &mut self,
+        alloc: Global,
+        session: u32,
+        envelope: &Envelope,
+    ) -> Result<Answer, AllocError>
+        requires { listens envelope.now.request ≡ false }
+        ensures told { IfOk result (λ a. a ≡ answered self.old session envelope.now) }
+        ensures state { OnOk result (self.new ≡ asked self.old session envelope.now) }
+        ensures err { OnErr result (self.new ≡ self.old) }
+    {
         let reads = self.shown(alloc, &envelope.request)?;
         match self.arrival_refusal(alloc, session, &envelope.request, &reads)? {
             Some(refusal) => Ok(Answer::Refused(refusal)),
@@ -66,6 +92,7 @@ impl Server {
         envelope: &Envelope,
         reads: Reads,
     ) -> Result<Answer, AllocError>
+        requires plain { listens envelope.now.request ≡ false }
         requires limits { arrival_refusal self.old session envelope.now.request ≡ None }
         requires reads { reads ≡ noted_reads self.old envelope.now.request }
         ensures told { IfOk result (λ a. a ≡ answered self.old session envelope.now) }
@@ -90,6 +117,7 @@ impl Server {
         envelope: &Envelope,
         reads: Reads,
     ) -> Result<Answer, AllocError>
+        requires plain { listens envelope.now.request ≡ false }
         requires limits { arrival_refusal self.old session envelope.now.request ≡ None }
         requires check { check_refusal self.old envelope.now.request ≡ None }
         requires reads { reads ≡ noted_reads self.old envelope.now.request }
@@ -112,6 +140,7 @@ impl Server {
         envelope: &Envelope,
         holder: Id,
     ) -> Result<Answer, AllocError>
+        requires plain { listens envelope.now.request ≡ false }
         requires limits { arrival_refusal self.old session envelope.now.request ≡ None }
         requires check { check_refusal self.old envelope.now.request ≡ None }
         requires held { held_by self.old envelope.now.request ≡ Some holder }
@@ -143,6 +172,7 @@ impl Server {
         envelope: &Envelope,
         reads: Reads,
     ) -> Result<Answer, AllocError>
+        requires plain { listens envelope.now.request ≡ false }
         requires limits { arrival_refusal self.old session envelope.now.request ≡ None }
         requires check { check_refusal self.old envelope.now.request ≡ None }
         requires free { held_by self.old envelope.now.request ≡ None }

@@ -1,6 +1,8 @@
 //! The server.
 ghost use Rattle.std.specs.Prelude.{◌≡◌};
 
+use crate::listeners::Listeners;
+use crate::matched::lesser;
 use crate::sessions::Sessions;
 use crate::settle::release;
 use crate::waiting::Waiting;
@@ -8,6 +10,7 @@ use fs_machine::{Config, Limits, Messages, Numbers, machines_are_lawful};
 use fs_past::{Past, Version};
 use fs_path::{DocName, Root};
 use fs_status::Id;
+use fs_target::targets_are_lawful;
 use fs_time::Micros;
 use fs_txn::Txns;
 use std::alloc::{AllocError, Global};
@@ -41,6 +44,8 @@ pub struct Server {
     pub(crate) past: Past,
     pub(crate) txns: Txns,
     pub(crate) sessions: Sessions,
+    // of the same sessions
+    pub(crate) listeners: Listeners,
     // those that wait, in the order of their arrival
     pub(crate) waiting: Waiting,
     pub(crate) numbers: Numbers,
@@ -53,6 +58,7 @@ impl Model for Server {
 
     ghost coded = { machine_code };
 
+    ghost use Rattle.fs_server.specs.Heard.{listeners_of};
     ghost use Rattle.fs_server.specs.Kept.{IsKept};
 
     ghost view = { λ s. record {
@@ -61,11 +67,12 @@ impl Model for Server {
       past = s.past;
       txns = s.txns;
       sessions = s.sessions;
+      listeners = listeners_of s.listeners;
       parked = s.waiting;
       numbers = s.numbers;
     } };
 
-    ghost invariant = { λ s. IsKept s.config s.limits s.past s.txns s.sessions s.waiting s.numbers };
+    ghost invariant = { λ s. IsKept s.config s.limits s.past s.txns s.sessions s.listeners s.waiting s.numbers };
 }
 
 impl Server {
@@ -83,6 +90,7 @@ impl Server {
     ghost use Rattle.fs_machine.specs.Tick.{advanced, ticked};
     ghost use Rattle.fs_machine.specs.Pending.{next_pending as next_in};
     ghost use Rattle.fs_machine.specs.Settle.{pending_of};
+    ghost use Rattle.fs_past.specs.Bringing.{IsBrought};
 
     /// A server without documents and sessions, at a moment. The allocator serves what comes.
     pub fn new(alloc: Global, config: Config, limits: Limits, start: Micros) -> Server
@@ -97,10 +105,12 @@ impl Server {
             past,
             txns: Txns::new(alloc),
             sessions: Sessions::new(alloc),
+            listeners: Listeners::new(alloc),
             waiting: Waiting::new(alloc),
             numbers: Numbers {
                 ids: 0,
                 sessions: 0,
+                targets: 0,
             },
         }
     }
@@ -110,6 +120,13 @@ impl Server {
         ensures { result.now ≡ self.now.config.root }
     {
         &self.config.root
+    }
+
+    /// Into how many shards the collections are cut whose changes listeners are told of.
+    pub fn shards(&self) -> u32
+        ensures { result ≡ self.now.config.shards }
+    {
+        self.config.shards
     }
 
     /// The time up to which all that is committed can be read.
@@ -144,14 +161,15 @@ impl Server {
         self.past.chain(name)
     }
 
-    /// A session ends, if it is open. Messages that it was still to be sent are lost, and its requests that wait are withdrawn; its
-    /// pending commits go on, and so do its transactions. It takes no memory.
+    /// A session ends, if it is open. Messages that it was still to be sent are lost, it listens to nothing any more, and its requests that
+    /// wait are withdrawn; its pending commits go on, and so do its transactions. It takes no memory.
     pub fn leave(&mut self, session: u32)
         ensures state { self.new ≡ departed self.old session }
         ensures grows { Grows self.old.past self.new.past }
     {
         self.stand();
         self.sessions.remove(session);
+        self.listeners.remove(session);
         self.waiting.withdraw(session);
     }
 
@@ -164,21 +182,23 @@ impl Server {
         ensures grows { Grows self.old.past self.new.past }
     {
         self.stand();
+        targets_are_lawful();
         self.past.advance(now);
         self.txns.expire(now);
         release(alloc, &mut self.past, &mut self.sessions)?;
         Ok(self.past.released())
     }
 
-    /// Times before this one are given up, as far as what is released and no open transaction reads: the earliest time that can be read
-    /// now. It takes no memory. (Cloud Firestore documentation, "Point-in-time recovery": how far back can be read.)
+    /// Times before this one are given up, as far as what is released, no open transaction reads, and no target that is loaded is still to
+    /// be told: the earliest time that can be read now. It takes no memory. (Cloud Firestore documentation, "Point-in-time recovery": how far back can be read.)
     pub fn compact(&mut self, to: Micros) -> Micros
         ensures state { self.new ≡ compacted self.old to }
         ensures told { result ≡ self.new.past.floor }
         ensures grows { Grows self.old.past self.new.past }
     {
         self.stand();
-        self.past.compact(to, self.txns.oldest())
+        let first = lesser(self.txns.oldest(), self.listeners.least_position());
+        self.past.compact(to, first)
     }
 
     /// A session's messages, of which it has none left; none, where it isn't open. It takes no memory.
@@ -195,6 +215,8 @@ impl Server {
     pub(crate) fn stand(&self)
         ensures facts { Facts self.now }
         ensures allowed { AreAllowed self.now.limits }
+        ensures brought { IsBrought self.now.past.history }
+        ensures configured { IsAllowed self.now.config }
         ensures grows { AlwaysGrows }
     {
         machines_are_lawful();

@@ -34,7 +34,7 @@ impl Model for Sessions {
 impl Sessions {
     ghost use Rattle.std.specs.Prelude.{◌≡◌, ◌∷◌, ◌++◌, [], IfOk, OnOk, OnErr, length, map};
     ghost use Rattle.fs_machine.specs.Release.{all_delivered};
-    ghost use Rattle.fs_machine.specs.Sessions.{outbox_in, delivered, emptied, without};
+    ghost use Rattle.fs_machine.specs.Sessions.{outbox_in, delivered, emptied, with_outbox, without};
     ghost use Rattle.fs_server.specs.Place.{all_taken_back, taken_back};
 
     /// None is open. The allocator serves those that open.
@@ -95,6 +95,17 @@ impl Sessions {
     {
         match place_in(&self.list, number) {
             Some(place) => self.list[place].outbox.push(message),
+            None => Ok(()),
+        }
+    }
+
+    /// Messages more for a session, if it is open: all of them or none.
+    pub fn tell(&mut self, number: u32, messages: Vec<Message>) -> Result<(), AllocError>
+        ensures ok { OnOk result (self.new ≡ with_outbox number (λ ms. ms ++ messages.items) self.old) }
+        ensures err { OnErr result (self.new ≡ self.old) }
+    {
+        match place_in(&self.list, number) {
+            Some(place) => self.list[place].outbox.append(messages),
             None => Ok(()),
         }
     }

@@ -5,6 +5,7 @@ ghost use Rattle.fs_machine.specs.Release.{all_delivered, past_released, replies
 ghost use Rattle.fs_machine.specs.Sessions.{delivered};
 ghost use Rattle.fs_machine.specs.Settle.{ComesTo, dropped_from, pending_of};
 ghost use Rattle.fs_machine.specs.declared.unreleased.Unreleased.{Unreleased};
+ghost use Rattle.fs_past.specs.Bringing.{BringsMore};
 ghost use Rattle.fs_server.specs.Settling.{is_refused, settled_so, Decides};
 
 use crate::server::Server;
@@ -13,6 +14,7 @@ use fs_machine::{Outcome, Settled, Unreleased};
 use fs_past::Past;
 use fs_rpc::{Message, copy_id};
 use fs_status::{Id, Refusal};
+use fs_target::targets_are_lawful;
 use fs_time::Micros;
 use std::alloc::{AllocError, Global};
 
@@ -95,6 +97,7 @@ pub(crate) fn release(
     sessions: &mut Sessions,
 ) -> Result<(), AllocError>
     ensures past { OnOk result (past.new ≡ past_released past.old) }
+    ensures brings { OnOk result (BringsMore past.old past.new) }
     ensures told { OnOk result (sessions.new ≡ all_delivered (replies_out past.old) sessions.old) }
     ensures err { OnErr result (past.new ≡ past.old) }
     ensures err_told { OnErr result (sessions.new ≡ sessions.old) }
@@ -153,6 +156,7 @@ impl Server {
         ensures grows { Grows self.old.past self.new.past }
     {
         self.stand();
+        targets_are_lawful();
         let time = pending(&self.past, commit).time();
         let dropped = is_refused(&outcome);
         if let Err(_) = decide(alloc, &mut self.past, &mut self.sessions, commit, outcome) {

@@ -15,6 +15,6 @@ returns-in-RunQuery c =
     let q = request.RunQuery w.database w.query w.when in
     IfOk-weaker c.run_refusal.result _ _
     (λ told so. so
-    ∙ ap (λ o. unless_closed (query_refusal w.query) (outbox_refusal m c.args.session o)) (limit_is m w.when q c.args.reads.now (c.requires ∙ ap (noted_reads m) w.is))
+    ∙ ap (λ o. unless_closed (query_refusal w.query) (outbox_refusal m c.args.session o)) (limit_is m w.when q c.args.reads.now (c.requires.reads ∙ ap (noted_reads m) w.is))
     ∙ ap (arrival_refusal m c.args.session) (sym w.is))
     c.run_refusal.ensures

@@ -1,5 +1,4 @@
 use Rattle.std.proofs.Common.{ap, ◌∙◌}
-use Rattle.fs_history.specs.declared.read.Read.{Read}
 use Rattle.fs_machine.specs.Commit.{next_commit}
 use Rattle.fs_server.specs.Changes.{asking}
 use Rattle.fs_server.proofs.Preparing.{does_free}

@@ -1,4 +1,4 @@
-use Rattle.std.proofs.Common.{Some, sym, ap, ◌∙◌}
+use Rattle.std.proofs.Common.{Some, ap, ◌∙◌}
 use Rattle.fs_txn.specs.Transactions.{txn_of}
 use Rattle.fs_machine.specs.Commit.{commit_retry_refusal}
 use Rattle.fs_machine.proofs.Carried.{number_open}

@@ -1,7 +1,8 @@
-use Rattle.std.proofs.Common.{◌≡◌, sym, ap, ◌∙◌, subst}
+use Rattle.std.proofs.Common.{refl, sym, ap, ◌∙◌, subst}
 use Rattle.fs_machine.specs.State.{Machine}
 use Rattle.fs_server.specs.Changes.{IsFresh}
 use Rattle.fs_server.specs.Noted.{own_number}
+use Rattle.fs_server.specs.Heard.{listeners_of}
 use Rattle.fs_server.proofs.Asking.{went, went_kept}
 use Rattle.fs_server.proofs.Fresh.{fresh_asked}
 use Rattle.fs_server.proofs.Within.{retried_within}
@@ -24,14 +25,14 @@ carry_out-requires-clause-fresh c =
 pub invariant_of-self-2 : goal.invariant_of-self-2
 invariant_of-self-2 c =
     let s = c.self.inside in
-    let m0 : Machine = record { config = s.config; limits = s.limits; past = s.past; txns = s.txns; sessions = s.sessions; parked = s.waiting; numbers = s.numbers } in
+    let m0 : Machine = record { config = s.config; limits = s.limits; past = s.past; txns = s.txns; sessions = s.sessions; listeners = listeners_of s.listeners; parked = s.waiting; numbers = s.numbers } in
     went_kept m0 c.args.self.now c.self.view_is c.args.session c.args.envelope.now c.requires.limits c.requires.check c.number_of-id.result c.ids_after-self-inside.result c.number_of-id.ensures
-    c.ids_after-self-inside.ensures c.requires.free (c.in_ok-answer.answer, c.in_ok-answer.change) c.in_ok-answer.ensures c.make.new.past c.make.new.txns c.in_ok-make.ensures.past c.in_ok-make.ensures.txns
-    c.self.invariant.allowed c.stand.ensures.facts
+    c.ids_after-self-inside.ensures c.requires.plain c.requires.free (c.in_ok-answer.answer, c.in_ok-answer.change) c.in_ok-answer.ensures c.make.new.past c.make.new.txns c.in_ok-make.ensures.past c.in_ok-make.ensures.txns
+    s.listeners refl c.self.invariant.configured c.self.invariant.allowed c.self.invariant.shards c.self.invariant.heard c.stand.ensures.facts
 
 pub returns-clause-state : goal.returns-clause-state
 returns-clause-state c =
     let s = c.self.inside in
-    let m0 : Machine = record { config = s.config; limits = s.limits; past = s.past; txns = s.txns; sessions = s.sessions; parked = s.waiting; numbers = s.numbers } in
+    let m0 : Machine = record { config = s.config; limits = s.limits; past = s.past; txns = s.txns; sessions = s.sessions; listeners = listeners_of s.listeners; parked = s.waiting; numbers = s.numbers } in
     went m0 c.args.self.now c.self.view_is c.args.session c.args.envelope.now c.requires.limits c.requires.check c.number_of-id.result c.ids_after-self-inside.result c.number_of-id.ensures
-    c.ids_after-self-inside.ensures c.requires.free (c.in_ok-answer.answer, c.in_ok-answer.change) c.in_ok-answer.ensures c.make.new.past c.make.new.txns c.in_ok-make.ensures.past c.in_ok-make.ensures.txns
+    c.ids_after-self-inside.ensures c.requires.plain c.requires.free (c.in_ok-answer.answer, c.in_ok-answer.change) c.in_ok-answer.ensures c.make.new.past c.make.new.txns c.in_ok-make.ensures.past c.in_ok-make.ensures.txns

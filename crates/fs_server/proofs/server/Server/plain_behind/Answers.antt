@@ -1,6 +1,6 @@
 use Rattle.std.proofs.Common.{◌≡◌, sym, ap, ◌∙◌}
 use Rattle.fs_locks.specs.Holds.{lesser_of}
-use Rattle.fs_machine.specs.Behind.{behind, least, writing_same}
+use Rattle.fs_machine.specs.Behind.{least, writing_same}
 use Rattle.fs_machine.specs.Conflict.{others, plain_behind, readers_of}
 use Rattle.fs_machine.specs.State.{Machine}
 use Rattle.fs_past.proofs.LeastNumber.{least_both}

@@ -1,10 +1,14 @@
-use Rattle.std.proofs.Common.{◌≡◌, Some, sym, ap, ◌∙◌, subst}
+use Rattle.std.proofs.Common.{◌≡◌, refl, sym, ap, ◌∙◌, subst}
 use Rattle.fs_machine.specs.Event.{Event}
 use Rattle.fs_machine.specs.Facts.{Facts}
+use Rattle.fs_machine.specs.Past.{Past}
 use Rattle.fs_machine.specs.Settle.{ComesTo, Settles}
 use Rattle.fs_machine.specs.State.{Machine}
 use Rattle.fs_machine.proofs.Runs.{keeps}
 use Rattle.fs_server.specs.Settling.{is_refused, settled_so}
+use Rattle.fs_server.specs.Heard.{listeners_of}
+use Rattle.fs_server.proofs.Asking.{kept_of}
+use Rattle.fs_server.proofs.Heard.{decided_shards, heard_decided, heard_grown, heard_same}
 use Rattle.fs_server.proofs.Settling.{has_time, is_decided, is_settled, settles, settles_grows, settles_owed}
 use Rattle.fs_server.proofs.server.Server.settle.Goals as goal
 use Rattle.fs_server.proofs.server.Server.settle.Goals.{in-Ok, in-Err-release}
@@ -13,26 +17,34 @@ pub invariant_of-self-2 : goal.invariant_of-self-2
 invariant_of-self-2 c =
     let s = c.self.inside in
     let id = c.args.commit in
-    let m : Machine = record { config = s.config; limits = s.limits; past = s.past; txns = s.txns; sessions = s.sessions; parked = s.waiting; numbers = s.numbers } in
+    let m : Machine = record { config = s.config; limits = s.limits; past = s.past; txns = s.txns; sessions = s.sessions; listeners = listeners_of s.listeners; parked = s.waiting; numbers = s.numbers } in
     let comes = subst (λ (k : Machine). ComesTo k.past id c.args.outcome) (sym c.self.view_is) c.requires in
     let facts = subst Facts (sym c.self.view_is) c.stand.ensures.facts in
     let decided = keeps m (Event.deciding id) facts in
+    let does = c.in_default.ensures.ok in
+    let shards = decided_shards s.past c.decide.new.past s.sessions c.decide.new.sessions id c.args.outcome does ∙ c.self.invariant.shards in
+    let heard = heard_decided s.config s.limits s.past c.decide.new.past s.sessions c.decide.new.sessions s.listeners id c.args.outcome does c.self.invariant.heard in
     elim c.match-release.branch [
       | in-Ok w ↦
           let is = is_settled m id c.args.outcome c.decide.new.past c.release.new.past c.decide.new.sessions c.release.new.sessions comes c.in_default.ensures.ok w.in-Ok.ensures.past w.in-Ok.ensures.told in
           let kept = subst Facts (sym is) (keeps _ Event.releasing decided) in
-          record { allowed = c.self.invariant.allowed; drawn = kept.ids; held = kept.txns; numbered = kept.sessions }
+          kept_of (record m { past = c.release.new.past; sessions = c.release.new.sessions }) s.listeners refl c.self.invariant.configured c.self.invariant.allowed
+          (ap (λ (q : Past). q.shards) w.in-Ok.ensures.past ∙ shards)
+          (heard_grown c.targets_are_lawful.ensures.growth s.config s.limits c.decide.new.past c.release.new.past s.listeners w.in-Ok.ensures.brings kept.past.history.rising heard) kept
       | in-Err-release w ↦
           let is = is_decided m id c.args.outcome c.decide.new.past c.release.new.past c.decide.new.sessions c.release.new.sessions comes c.in_default.ensures.ok w.in-Err-release.ensures.err w.in-Err-release.ensures.err_told in
           let kept = subst Facts (sym is) decided in
-          record { allowed = c.self.invariant.allowed; drawn = kept.ids; held = kept.txns; numbered = kept.sessions }
+          let back = w.in-Err-release.ensures.err in
+          kept_of (record m { past = c.release.new.past; sessions = c.release.new.sessions }) s.listeners refl c.self.invariant.configured c.self.invariant.allowed
+          (ap (λ (q : Past). q.shards) back ∙ shards)
+          (heard_same s.config s.limits c.decide.new.past c.release.new.past s.listeners (ap (λ (q : Past). q.history) back) (ap (λ (q : Past). q.released) back) heard) kept
     ]
 
 pub returns-clause-settles : goal.returns-clause-settles
 returns-clause-settles c =
     let s = c.self.inside in
     let id = c.args.commit in
-    let m : Machine = record { config = s.config; limits = s.limits; past = s.past; txns = s.txns; sessions = s.sessions; parked = s.waiting; numbers = s.numbers } in
+    let m : Machine = record { config = s.config; limits = s.limits; past = s.past; txns = s.txns; sessions = s.sessions; listeners = listeners_of s.listeners; parked = s.waiting; numbers = s.numbers } in
     let n : Machine = record m { past = c.release.new.past; sessions = c.release.new.sessions } in
     let comes = subst (λ (k : Machine). ComesTo k.past id c.args.outcome) (sym c.self.view_is) c.requires in
     subst (λ (k : Machine). Settles k n id c.match-release.result) c.self.view_is

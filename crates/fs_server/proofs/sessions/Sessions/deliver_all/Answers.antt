@@ -1,6 +1,5 @@
-use Rattle.std.proofs.Common.{◌≡◌, ◌++◌, [], ◌∷◌, map, sym, ap, ◌∙◌}
+use Rattle.std.proofs.Common.{◌++◌, [], ◌∷◌, sym, ap, ◌∙◌}
 use Rattle.std.proofs.lemmas.List.{map-append}
-use Rattle.fs_machine.specs.Release.{all_delivered}
 use Rattle.fs_machine.specs.Sessions.{delivered}
 use Rattle.fs_machine.specs.declared.reply.Reply.{Reply}
 use Rattle.fs_server.specs.Place.{all_taken_back}
