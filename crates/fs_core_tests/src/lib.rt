@@ -5,6 +5,8 @@
 #[cfg(test)]
 mod history;
 #[cfg(test)]
+mod listened;
+#[cfg(test)]
 mod now;
 #[cfg(test)]
 mod replay;

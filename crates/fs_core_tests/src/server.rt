@@ -2,6 +2,7 @@
 
 mod asked;
 mod limits;
+mod listening;
 mod steps;
 mod tables;
 mod tests;

@@ -12,6 +12,7 @@ use Rattle.fs_status.specs.Refusal.{at_limit, refusal_of}
 use Rattle.fs_status.specs.declared.refusal.Refusal.{Refusal}
 use Rattle.fs_write.specs.declared.write.Write.{Write}
 use Rattle.fs_machine.specs.Commit.{next_commit, past_prepared}
+use Rattle.fs_machine.specs.Event.{Event}
 use Rattle.fs_machine.specs.Open.{is_full, with_session}
 use Rattle.fs_machine.specs.Request.{answered, arrived, asked, carried_by}
 use Rattle.fs_machine.specs.State.{Machine}
@@ -20,7 +21,8 @@ use Rattle.fs_machine.specs.declared.answer.Answer.TheVariants.{Reply, Prepared,
 use Rattle.fs_machine.specs.declared.parked_request.ParkedRequest.{ParkedRequest}
 use Rattle.fs_machine.proofs.Carried.{carried_rest}
 use Rattle.fs_replay.specs.Directory.{number_of}
-use Rattle.fs_replay.specs.Laws.{IsOneLine, commits_in, commits_on, commits_opened, is_prepared, writes_of}
+use Rattle.fs_replay.specs.Commits.{commits_in, commits_on, commits_opened, is_prepared, writes_of}
+use Rattle.fs_replay.specs.Lines.{IsOneLine}
 use Rattle.fs_replay.specs.Line.{reason_of}
 use Rattle.fs_replay.specs.Outboxes.{reply_output}
 use Rattle.fs_replay.specs.Played.{Played}
@@ -86,7 +88,7 @@ told_no (Refused refusal) told = refl
 
 module _ (on : State) (name : List ℕ) (number : ℕ) (knows : has_number number on.directory ≡ true) where
   abbrev comes_to : Envelope → Machine → Answer → Type 0
-  comes_to e n a = Comes on (is_prepared a) (record { state = with_server on n; output = reply_output name e.id a })
+  comes_to e n a = Comes on (is_prepared a) (record { state = with_server on n; output = reply_output name e.id a; events = Event.asking number e ∷ [] })
 
   goes_comes : (e : Envelope) (n : Machine) (a : Answer) → n.parked ≡ on.server.parked → Goes (arrived on.server number e) (writes_of e.request) on.server.past n.past a → comes_to e n a
   goes_comes e n a parked (Goes.answers same told) = answers (record { past = same; parked = parked; line = told_line name e.id a told; no = told_no a told })
@@ -104,12 +106,12 @@ module _ (on : State) (name : List ℕ) (number : ℕ) (knows : has_number numbe
       })
 
   becomes_comes : (e : Envelope) (n : Machine) (a : Answer) → Becomes on.server (arrived on.server number e) n a → comes_to e n a
-  becomes_comes e n a (Becomes.refused k refusal is told) =
+  becomes_comes e n a (Becomes.refused k is told) =
       answers (record {
         past = ap (λ (m : Machine). m.past) is;
         parked = ap (λ (m : Machine). m.parked) is;
-        line = told_line name e.id a (ap is_told told);
-        no = ap is_prepared told;
+        line = told_line name e.id a told;
+        no = told_no a told;
       })
   becomes_comes e n a (Becomes.held k by is told behind may) =
       waits (record {
@@ -142,8 +144,8 @@ module _ (on : State) (name : List ℕ) (number : ℕ) (knows : has_number numbe
 
 -- ---- the session of a line
 
--- what was committed and what waits is the same after one opened
-with_one_comes : (s : State) (name : List ℕ) (commits : Bool) (p : Played) → Comes (with_one s name) commits p → Comes s commits p
+-- what was committed and what waits is the same after one opened, which is an event before
+with_one_comes : (s : State) (name : List ℕ) (commits : Bool) (p : Played) → Comes (with_one s name) commits p → Comes s commits (record p { events = Event.opening ∷ p.events })
 with_one_comes s name commits p (answers a) = answers (record { past = a.past; parked = a.parked; line = a.line; no = a.no })
 with_one_comes s name commits p (waits w) = waits (record {
   request = w.request;
@@ -154,7 +156,17 @@ with_one_comes s name commits p (waits w) = waits (record {
   room = w.room;
   no = w.no;
 })
-with_one_comes s name commits p (prepares c) = prepares (record { request = c.request; id = c.id; writes = c.writes; reads = c.reads; past = c.past; parked = c.parked; knows = c.knows; output = c.output; yes = c.yes })
+with_one_comes s name commits p (prepares c) = prepares (record {
+  request = c.request;
+  id = c.id;
+  writes = c.writes;
+  reads = c.reads;
+  past = c.past;
+  parked = c.parked;
+  knows = c.knows;
+  output = c.output;
+  yes = c.yes;
+})
 
 -- the server with it, unless as many are open as may be
 abbrev with_one_unless : Bool → Machine → Machine
@@ -166,7 +178,9 @@ number_unless full refusal m = cond full (Err refusal) (Ok m.numbers.sessions)
 
 -- its first request
 abbrev opens_unless : Bool → Refusal → State → SessionRequest → Played
-opens_unless full refusal s a = asks_if (named_if (with_server s (with_one_unless full s.server)) a.session (number_unless full refusal s.server)) a (number_unless full refusal s.server)
+opens_unless full refusal s a =
+    let p = asks_if (named_if (with_server s (with_one_unless full s.server)) a.session (number_unless full refusal s.server)) a (number_unless full refusal s.server) in
+    record p { events = Event.opening ∷ p.events }
 
 -- whether that is a commit
 abbrev commits_unless : Bool → Refusal → Machine → SessionRequest → Bool

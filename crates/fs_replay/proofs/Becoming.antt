@@ -1,33 +1,38 @@
--- What becomes of a request that comes: it is refused, it waits, or it is carried out.
-use Rattle.std.proofs.Common.{◌≡◌, ℕ, ◌+◌, Bool, true, false, cond, List, Option, Some, None, refl, ◌∙◌}
+-- What becomes of a request that comes: it is told why not, it waits, or it is carried out.
+use Rattle.std.proofs.Common.{◌≡◌, ℕ, ◌+◌, Bool, true, false, cond, List, [], ◌∷◌, Option, Some, None, refl, ◌∙◌}
 use Rattle.std.specs.Prelude.{codes, length, nat_le, nat_lt}
 use Rattle.fs_history.specs.declared.read.Read.{Read}
+use Rattle.fs_query.specs.declared.listen.ListenMessage.TheVariants as listen
+use Rattle.fs_rpc.specs.declared.message.Message.{Message}
+use Rattle.fs_rpc.specs.declared.message.Message.TheVariants as message
 use Rattle.fs_rpc.specs.declared.request.Envelope.{Envelope}
 use Rattle.fs_rpc.specs.declared.request.Request.{Request}
-use Rattle.fs_rpc.specs.declared.request.Request.TheVariants.{Commit, GetDocument, BatchGetDocuments, RunQuery, BeginTransaction, Rollback}
+use Rattle.fs_rpc.specs.declared.request.Request.TheVariants.{Commit, GetDocument, BatchGetDocuments, RunQuery, BeginTransaction, Rollback, AddTarget, RemoveTarget}
 use Rattle.fs_status.specs.Refusal.{at_limit}
 use Rattle.fs_status.specs.declared.refusal.Refusal.{Refusal}
 use Rattle.fs_write.specs.declared.write.Write.{Write}
 use Rattle.fs_history.specs.Bytes.{commit_size}
 use Rattle.fs_machine.specs.Commit.{growth_refusal, number_refusal, only_reads, unless_closed}
+use Rattle.fs_machine.specs.Listen.{cause_of, has_target, is_rule}
 use Rattle.fs_machine.specs.Numbered.{draws}
 use Rattle.fs_machine.specs.Read.{read_limit_refusal}
 use Rattle.fs_machine.specs.Refusing.{journal_count, journal_size, outbox_is_full, outbox_refusal, passed, room_refusal, time_limit_refusal}
-use Rattle.fs_machine.specs.Request.{Decision, answer_by, answered, answered_unless, arrival_refusal, arrived, arrives, asked, asked_unless, carried_by, check_refusal, decided_answer, decision, held_by, query_refusal, retry_refusal, unless_full, unless_held, unless_refused, with_parked}
+use Rattle.fs_machine.specs.Request.{Decision, answer_by, answered, answered_unless, arrival_refusal, arrived, arrives, asked, asked_unless, carried_by, check_refusal, decided_answer, decision, held_by, query_refusal, refused_by, retry_refusal, unless_full, unless_held, unless_refused, with_parked}
 use Rattle.fs_machine.specs.State.{Machine}
 use Rattle.fs_machine.specs.Transact.{reads_had}
 use Rattle.fs_machine.specs.declared.answer.Answer.{Answer}
-use Rattle.fs_machine.specs.declared.answer.Answer.TheVariants.{Held, Refused}
+use Rattle.fs_machine.specs.declared.answer.Answer.TheVariants.{Held, Refused, Reply}
 use Rattle.fs_machine.specs.declared.numbers.Numbers.{Numbers}
 use Rattle.fs_machine.specs.declared.parked_request.ParkedRequest.{ParkedRequest}
 use Rattle.fs_machine.proofs.Holding.{decision_alike}
+use Rattle.fs_replay.proofs.Going.{is_told}
 
 abbrev pub with_numbers : Machine → Numbers → Machine
 with_numbers m k = record m { numbers = k }
 
 -- the server then, and the answer
 pub data Becomes (m : Machine) (r : ParkedRequest) (n : Machine) (a : Answer) : Type 0 where
-  refused : (k : Numbers) → (refusal : Refusal) → n ≡ with_numbers m k → a ≡ Refused refusal → Becomes m r n a
+  refused : (k : Numbers) → n ≡ with_numbers m k → is_told a ≡ true → Becomes m r n a
   held : (k : Numbers) → (by : ℕ) → n ≡ with_parked (with_numbers m k) r → a ≡ Held by → held_by m r.envelope.request ≡ Some by → retry_refusal m r.envelope.request ≡ None → Becomes m r n a
   goes_on : (k : Numbers) → n ≡ carried_by (with_numbers m k) r r.envelope.request → a ≡ answer_by (with_numbers m k) r r.envelope.request
       → decision (with_numbers m k) r.envelope.request ≡ Decision.goes_on → Becomes m r n a
@@ -73,6 +78,8 @@ may_retry m session (RunQuery database query when) none =
     has_outbox m session limit (breaks_none (query_refusal query) (outbox_refusal m session limit) none)
 may_retry m session (BeginTransaction database options) none = refl
 may_retry m session (Rollback database transaction) none = refl
+may_retry m session (AddTarget database target t token) none = refl
+may_retry m session (RemoveTarget database target) none = refl
 
 -- ---- stage by stage
 
@@ -81,11 +88,11 @@ module _ (m : Machine) (r : ParkedRequest) (k : Numbers) (may : retry_refusal m 
   then_is d = Becomes m r (arrives (with_numbers m k) r d) (decided_answer (with_numbers m k) r d)
 
   full_is : (by : ℕ) (full : Bool) → held_by m r.envelope.request ≡ Some by → then_is (cond full (Decision.refused (at_limit (codes "parked") m.limits.parked)) (Decision.held by))
-  full_is by true is = refused k (at_limit (codes "parked") m.limits.parked) refl refl
+  full_is by true is = refused k refl refl
   full_is by false is = held k by refl refl is may
 
   decided_is : (refusal : Option Refusal) (found : Option ℕ) → check_refusal m r.envelope.request ≡ refusal → held_by m r.envelope.request ≡ found → then_is (unless_full m (unless_refused refusal (unless_held found)))
-  decided_is (Some refusal) found none free = refused k refusal refl refl
+  decided_is (Some refusal) found none free = refused k refl refl
   decided_is None (Some by) none free = full_is by (nat_le m.limits.parked (length m.parked)) free
   decided_is None None none free = goes_on k refl refl (decision_alike m k m.parked r.envelope.request ∙ (λ i. unless_refused (none i) (unless_held (free i))))
 
@@ -95,9 +102,26 @@ drawn_is : (m : Machine) (r : ParkedRequest) (b : Bool) → retry_refusal m r.en
 drawn_is m r true may = decided_is m r (record m.numbers { ids = m.numbers.ids + 1 }) may (check_refusal m r.envelope.request) (held_by m r.envelope.request) refl refl
 drawn_is m r false may = decided_is m r m.numbers may (check_refusal m r.envelope.request) (held_by m r.envelope.request) refl refl
 
+-- one that isn't carried out is told so
+unadded_told : (b c : Bool) (refusal : Refusal) (message : Message) → is_told (cond b (Refused refusal) (cond c (Refused refusal) (Reply message))) ≡ true
+unadded_told true c refusal message = refl
+unadded_told false true refusal message = refl
+unadded_told false false refusal message = refl
+
+refused_told : (m : Machine) (session : ℕ) (q : Request) (refusal : Refusal) → is_told (refused_by m session q refusal) ≡ true
+refused_told m session (Commit database writes transaction) refusal = refl
+refused_told m session (GetDocument name mask when) refusal = refl
+refused_told m session (BatchGetDocuments database names mask when) refusal = refl
+refused_told m session (RunQuery database query when) refusal = refl
+refused_told m session (BeginTransaction database options) refusal = refl
+refused_told m session (Rollback database transaction) refusal = refl
+refused_told m session (AddTarget database target t token) refusal =
+    unadded_told (is_rule refusal.reason) (has_target m session target) refusal (message.Listen (listen.Remove (target ∷ []) (Some (cause_of refusal))))
+refused_told m session (RemoveTarget database target) refusal = refl
+
 asked_is : (m : Machine) (session : ℕ) (e : Envelope) (refusal : Option Refusal) → arrival_refusal m session e.request ≡ refusal
     → Becomes m (arrived m session e) (asked_unless refusal m (arrived m session e)) (answered_unless refusal m (arrived m session e))
-asked_is m session e (Some refusal) is = refused m.numbers refusal refl refl
+asked_is m session e (Some refusal) is = refused m.numbers refl (refused_told m session e.request refusal)
 asked_is m session e None is = drawn_is m (arrived m session e) (draws e.request) (may_retry m session e.request is)
 
 pub asked_becomes : (m : Machine) (session : ℕ) (e : Envelope) → Becomes m (arrived m session e) (asked m session e) (answered m session e)

@@ -9,7 +9,7 @@ use Rattle.fs_machine.specs.Outbox.{outbox_of, taken}
 use Rattle.fs_machine.specs.Sessions.{outbox_in, delivered}
 use Rattle.fs_machine.specs.State.{Machine}
 use Rattle.fs_machine.specs.declared.session.Session.{Session}
-use Rattle.fs_replay.specs.Laws.{HasNothing, is_open}
+use Rattle.fs_replay.specs.BetweenLines.{HasNothing, is_open}
 use Rattle.fs_replay.specs.Outboxes.{drained, drain_output, message_line, message_lines}
 use Rattle.fs_replay.specs.declared.directory.Named.{Named}
 use Rattle.fs_replay.proofs.Known.{has_number}
@@ -21,7 +21,7 @@ with_list m ss = record m { sessions = ss }
 
 -- ---- where nothing waits
 
-taken_same : (m : Machine) (number : ℕ) → AllByRecursion HasNothing m.sessions → taken m number ≡ m
+pub taken_same : (m : Machine) (number : ℕ) → AllByRecursion HasNothing m.sessions → taken m number ≡ m
 taken_same m number none = ap (with_list m) (emptied_same m.sessions number (nothing_in m.sessions number none))
 
 pub drained_same : (ns : List Named) (m : Machine) → AllByRecursion HasNothing m.sessions → drained ns m ≡ m

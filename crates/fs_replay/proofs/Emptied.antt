@@ -9,7 +9,7 @@ use Rattle.fs_machine.specs.SessionsNumbered.{NumbersRise}
 use Rattle.fs_machine.specs.State.{Machine}
 use Rattle.fs_machine.specs.declared.session.Session.{Session}
 use Rattle.fs_machine.proofs.SessionsNumbered.{numbers_of}
-use Rattle.fs_replay.specs.Laws.{HasNothing, numbers_in}
+use Rattle.fs_replay.specs.BetweenLines.{HasNothing, numbers_in}
 use Rattle.fs_replay.specs.Outboxes.{drained}
 use Rattle.fs_replay.specs.declared.directory.Named.{Named}
 use Rattle.fs_replay.proofs.Known.{below_apart}

@@ -7,7 +7,10 @@ use Rattle.std.proofs.lemmas.Bool.{and_parts, or_parts}
 use Rattle.std.proofs.lemmas.Bool.Decides.{nat_tests}
 use Rattle.std.proofs.lemmas.List.{at_drop_more, drop_all, nil_from_length}
 use Rattle.fs_machine.specs.Compact.{compacted}
+use Rattle.fs_machine.specs.Load.{loaded}
+use Rattle.fs_machine.specs.Match.{matched}
 use Rattle.fs_machine.specs.Pending.{next_in, next_pending}
+use Rattle.fs_machine.specs.Raise.{raised}
 use Rattle.fs_machine.specs.Request.{Decision, decided_answer}
 use Rattle.fs_machine.specs.Retry.{retried, retry_decision, tried}
 use Rattle.fs_machine.specs.Settle.{pending_of, settled}
@@ -15,10 +18,10 @@ use Rattle.fs_machine.specs.State.{Machine}
 use Rattle.fs_machine.specs.Tick.{later}
 use Rattle.fs_machine.specs.declared.parked_request.ParkedRequest.{ParkedRequest}
 use Rattle.fs_replay.specs.Directory.{name_of, number_of}
-use Rattle.fs_replay.specs.Laws.{HasNothing, IsBetweenLines, IsHeld, IsHeldStill, IsSettled}
-use Rattle.fs_replay.specs.Played.{Played, nothing, followed_by}
-use Rattle.fs_replay.specs.Settling.{closed, did_something, emptied, left_to_do, place_after, retry_output, settles, settles_if, settling, tries, tries_all, tries_from, tries_if, turn, turns, waits_on}
-use Rattle.fs_replay.specs.Step.{clocked, does_not_apply, in_session, leaves, line_played}
+use Rattle.fs_replay.specs.BetweenLines.{IsBetweenLines, IsHeld, IsHeldStill, IsServed, IsSettled}
+use Rattle.fs_replay.specs.Played.{Played, followed_by, nothing, prints}
+use Rattle.fs_replay.specs.Settling.{closed, did_something, emptied, left_to_do, place_after, retry_output, serves, settles, settles_if, settling, tries, tries_all, tries_from, tries_if, turn, turns, waits_on}
+use Rattle.fs_replay.specs.Step.{does_not_apply, in_session, leaves, line_played}
 use Rattle.fs_replay.specs.declared.request.Line.{Line}
 use Rattle.fs_replay.specs.declared.request.Line.TheVariants as line
 use Rattle.fs_replay.specs.declared.state.State.{State}
@@ -26,20 +29,21 @@ use Rattle.fs_replay.proofs.Drained.{drain_none, drained_same}
 use Rattle.fs_replay.proofs.Each.{all_at}
 use Rattle.fs_replay.proofs.Emptied.{drained_nothing}
 use Rattle.fs_replay.proofs.Falling.{fewer_wait, none_next, place_is, retried_is, tries_from_falls, turn_did}
-use Rattle.fs_replay.proofs.Kept.{Closes, all_tried_kept, asked_kept, departed_by, emptied_kept, keeps_closes, turn_kept, turns_kept, with_server}
+use Rattle.fs_replay.proofs.Hands.{HoldsByHand, loads_hold, matches_hold, raises_hold}
+use Rattle.fs_replay.proofs.Kept.{Closes, Serves, all_tried_kept, asked_kept, departed_by, emptied_kept, keeps_closes, keeps_serves, serves_kept, ticked_by, turn_kept, turns_kept, with_server}
 use Rattle.fs_replay.proofs.Playing.{found_at}
 use Rattle.fs_replay.proofs.Released.{none_under_way, starts_pending}
-use Rattle.fs_replay.proofs.Standing.{Any, Stands, any_read, stands_all, stands_asking, stands_closing}
+use Rattle.fs_replay.proofs.Beside.{Empty, empty_serving, serves_settled}
+use Rattle.fs_replay.proofs.Served.{serves_all}
+use Rattle.fs_replay.proofs.Shown.{shown}
+use Rattle.fs_replay.proofs.Standing.{Any, Stands, any_read, stands_all, stands_asking, stands_closing, stands_serving}
 use Rattle.fs_replay.proofs.Turns.{less_left}
 
 -- ---- a turn that does nothing
 
--- nothing waits to be told
-abbrev pub Empty : State → Type 0
-Empty s = AllByRecursion HasNothing s.server.sessions
-
-pub emptied_none : (s : State) → Empty s → emptied s ≡ nothing s
-emptied_none s empty = λ i. record { state = with_server s (drained_same s.directory s.server empty i); output = drain_none s.directory s.server empty i }
+-- so nothing is seen where the outboxes are emptied
+pub emptied_none : (s : State) → Empty s → shown (emptied s) ≡ nothing s
+emptied_none s empty = λ i. record { state = with_server s (drained_same s.directory s.server empty i); output = drain_none s.directory s.server empty i; events = [] }
 
 untold : (found : Option (List ℕ)) → option_map_or {U = List ℕ} (λ name. []) found [] ≡ []
 untold None = refl
@@ -47,35 +51,35 @@ untold (Some name) = refl
 
 -- one that is held is tried in vain
 vain_by : (s : State) (place : ℕ) (r : ParkedRequest) (d : Decision) → slice_get s.server.parked place ≡ Some r → retry_decision s.server r.envelope.request ≡ d → IsHeld d → Empty s
-    → (tries s place ≡ nothing s) × (place_after s.server place ≡ place + 1)
+    → (shown (tries s place) ≡ nothing s) × (place_after s.server place ≡ place + 1)
 vain_by s place r (Decision.refused refusal) at is held empty = absurd held
 vain_by s place r (Decision.held id) at is held empty = (
-  ap (tries_if s place) at
-      ∙ (λ i. followed_by (record { state = with_server s ((retried_is s.server place r at ∙ ap (tried s.server place r) is) i); output = retry_output s.directory r (decided_answer s.server r (is i)) }) emptied)
-      ∙ ap (λ (o : List ℕ). followed_by (record { state = s; output = o }) emptied) (untold (name_of r.session s.directory))
+  ap (λ found. shown (tries_if s place found)) at
+      ∙ (λ i. shown (followed_by (prints (with_server s ((retried_is s.server place r at ∙ ap (tried s.server place r) is) i)) (retry_output s.directory r (decided_answer s.server r (is i)))) emptied))
+      ∙ ap (λ (o : List ℕ). shown (followed_by (prints s o) emptied)) (untold (name_of r.session s.directory))
       ∙ ap (λ (p : Played). followed_by (nothing s) (λ t. p)) (emptied_none s empty),
   place_is s.server place r at ∙ ap (λ (c : Decision). cond (waits_on (Some (decided_answer s.server r c))) (place + 1) place) is,
 )
 vain_by s place r Decision.goes_on at is held empty = absurd held
 
-tried_in_vain : (s : State) (place : ℕ) (r : ParkedRequest) → slice_get s.server.parked place ≡ Some r → IsHeldStill s.server r → Empty s → (tries s place ≡ nothing s) × (place_after s.server place ≡ place + 1)
+tried_in_vain : (s : State) (place : ℕ) (r : ParkedRequest) → slice_get s.server.parked place ≡ Some r → IsHeldStill s.server r → Empty s → (shown (tries s place) ≡ nothing s) × (place_after s.server place ≡ place + 1)
 tried_in_vain s place r at held empty = vain_by s place r (retry_decision s.server r.envelope.request) at refl held empty
 
 -- and so are all
-none_moves : (n place : ℕ) (s : State) → Empty s → AllByRecursion (IsHeldStill s.server) s.server.parked → place + n ≤ length s.server.parked → tries_from n place s ≡ nothing s
+none_moves : (n place : ℕ) (s : State) → Empty s → AllByRecursion (IsHeldStill s.server) s.server.parked → place + n ≤ length s.server.parked → shown (tries_from n place s) ≡ nothing s
 none_moves zero place s empty all within = refl
 none_moves (suc n) place s empty all within =
     let at = found_at s.server.parked place (omega (arith, within)) in
     let vain = tried_in_vain s place at.0 at.1 (all_at (IsHeldStill s.server) s.server.parked place at.0 at.1 all) empty in
-    ap (λ (p : Played). followed_by p (tries_from n (place_after s.server place))) vain.0
-    ∙ ap (λ (k : ℕ). followed_by (nothing s) (tries_from n k)) vain.1
-    ∙ ap (λ (p : Played). followed_by (nothing s) (λ t. p)) (none_moves n (place + 1) s empty all (omega (arith, within)))
+    ap (λ (p : Played). shown (followed_by p (tries_from n (place_after s.server place)))) vain.0
+    ∙ ap (λ (k : ℕ). shown (followed_by (nothing s) (tries_from n k))) vain.1
+    ∙ none_moves n (place + 1) s empty all (omega (arith, within))
 
 turn_of_tries : (s : State) → next_pending s.server.past ≡ None → turn s ≡ tries_all s
 turn_of_tries s none = ap (λ next. followed_by (settles_if s next) tries_all) none
 
-pub settled_turn : (s : State) → Empty s → IsSettled s.server → turn s ≡ nothing s
-settled_turn s empty settled = turn_of_tries s (ap next_in settled.released) ∙ none_moves (length s.server.parked) 0 s empty settled.held (omega arith)
+pub settled_turn : (s : State) → Empty s → IsSettled s.server → shown (turn s) ≡ nothing s
+settled_turn s empty settled = ap shown (turn_of_tries s (ap next_in settled.released)) ∙ none_moves (length s.server.parked) 0 s empty settled.held (omega arith)
 
 -- ---- where a turn does nothing
 
@@ -106,8 +110,8 @@ held_next : (n place : ℕ) (s : State) (r : ParkedRequest) → Empty s → slic
 held_next n place s r empty at cut (inr moves) none more = absurd (moves_less n place s r at moves none)
 held_next n place s r empty at cut (inl held) none more =
     let vain = tried_in_vain s place r at held empty in
-    let same : tries_from (suc n) place s ≡ followed_by (nothing s) (tries_from n (place + 1)) =
-    ap (λ (p : Played). followed_by p (tries_from n (place_after s.server place))) vain.0 ∙ ap (λ (k : ℕ). followed_by (nothing s) (tries_from n k)) vain.1 in
+    let same : shown (tries_from (suc n) place s) ≡ shown (tries_from n (place + 1) s) =
+    ap (λ (p : Played). shown (followed_by p (tries_from n (place_after s.server place)))) vain.0 ∙ ap (λ (k : ℕ). shown (followed_by (nothing s) (tries_from n k))) vain.1 in
     subst (AllByRecursion (IsHeldStill s.server)) (sym cut) (held, more (subst (NoneLess s) same none))
 
 held_from : (n place : ℕ) (s : State) → Empty s → place + n ≡ length s.server.parked → NoneLess s (tries_from n place s) → AllByRecursion (IsHeldStill s.server) (drop place s.server.parked)
@@ -178,13 +182,32 @@ settling_ends s both = ends_settled (left_to_do s.server) s (omega arith) both
 settling_empty : (s : State) → StandsEmpty s → StandsEmpty (settling s).state
 settling_empty s both = turns_kept StandsEmpty empty_closing (left_to_do s.server) s both
 
-unless_between : (t : State) (manual : Bool) → t.manual ≡ manual → StandsEmpty t → ((cond manual (nothing t) (settling t)).state.manual ≡ false → IsSettled (cond manual (nothing t) (settling t)).state.server) × StandsEmpty (cond manual (nothing t) (settling t)).state
-unless_between t true is both = (λ other. absurd (let never : true ≡ false = sym is ∙ other in cc), both)
-unless_between t false is both = (λ other. settling_ends t both, settling_empty t both)
+stands_empty_serving : Serves StandsEmpty
+stands_empty_serving =
+    let serving = keeps_serves Stands stands_serving in
+    record {
+      by_loading = λ s n id both. (serving.by_loading s n id both.0, empty_serving.by_loading s n id both.1);
+      by_matching = λ s shard to both. (serving.by_matching s shard to both.0, empty_serving.by_matching s shard to both.1);
+      by_raising = λ s n both. (serving.by_raising s n both.0, empty_serving.by_raising s n both.1);
+    }
 
-pub between_from : (s : State) → (s.manual ≡ false → IsSettled s.server) → StandsEmpty s → IsBetweenLines s
-between_from s settled both = record {
-  settled = settled;
+-- nothing is left to settle, and each session was told all
+abbrev IsDone : State → Type 0
+IsDone s = IsSettled s.server × IsServed s.server
+
+unless_between : (t : State) (manual : Bool) → t.manual ≡ manual → StandsEmpty t
+    → ((cond manual (nothing t) (followed_by (settling t) serves)).state.manual ≡ false → IsDone (cond manual (nothing t) (followed_by (settling t) serves)).state)
+    × StandsEmpty (cond manual (nothing t) (followed_by (settling t) serves)).state
+unless_between t true is both = (λ other. absurd (let never : true ≡ false = sym is ∙ other in cc), both)
+unless_between t false is both =
+    let u = (settling t).state in
+    let then = settling_empty t both in
+    (λ other. (serves_settled u (settling_ends t both), serves_all u then.0 then.1), serves_kept StandsEmpty stands_empty_serving u then)
+
+pub between_from : (s : State) → (s.manual ≡ false → IsDone s) → StandsEmpty s → IsBetweenLines s
+between_from s done both = record {
+  settled = λ manual. (done manual).0;
+  served = λ manual. (done manual).1;
   released = both.0.fits.released;
   empty = both.1;
   known = both.0.fits.known;
@@ -227,15 +250,35 @@ retry_between s n true is b =
     left_by_hand s (tries_all s).state (manual ∙ sym is) is (all_tried_kept StandsEmpty empty_closing s (stands_between s b, b.empty))
 retry_between s n false is b = b
 
+-- so does what is done to targets by hand
+by_hand_between : (s t : State) → t.manual ≡ s.manual → s.manual ≡ true → Stands t → IsBetweenLines (emptied t).state
+by_hand_between s t same manual stands = left_by_hand s (emptied t).state same manual (emptied_kept Stands stands_closing t stands, emptied_empty t stands)
+
+abbrev LeadsBetween : Played → Type 0
+LeadsBetween p = IsBetweenLines p.state
+
+targets_between : (s : State) → IsBetweenLines s → HoldsByHand LeadsBetween s
+targets_between s b =
+    let stands = stands_between s b in
+    record {
+      stays = λ bytes. b;
+      loading = λ number target at bytes manual. by_hand_between s (with_server s (loaded s.server number target at)) refl manual (stands_serving.by_loading s number target at stands);
+      matching = λ shard to manual. by_hand_between s (with_server s (matched s.server shard to)) refl manual (stands_serving.by_matching s shard to stands);
+      raising = λ number manual. by_hand_between s (with_server s (raised s.server number)) refl manual (stands_serving.by_raising s number stands);
+    }
+
 pub line_between : (s : State) (n : ℕ) (l : Line) → IsBetweenLines s → IsBetweenLines (line_played s n l).state
 line_between s n line.Empty b = b
 line_between s n line.NotBuilt b = b
 line_between s n (line.Refused reason) b = b
 line_between s n (line.Asked a) b =
     closed_between (in_session s a (number_of a.session s.directory)).state (asked_kept Stands Any stands_asking s a (any_read a.request) (stands_between s b))
-line_between s n (line.Clock time) b = closed_between (clocked s time) (stands_all.by_ticking s (later s.moment time) (stands_between s b))
+line_between s n (line.Clock time) b = closed_between (ticked_by s (later s.moment time)) (stands_all.by_ticking s (later s.moment time) (stands_between s b))
 line_between s n (line.Compact time) b = closed_between (with_server s (compacted s.server time)) (stands_all.by_compacting s time (stands_between s b))
 line_between s n (line.Leave name) b = leaves_between s n name (number_of name s.directory) refl b
 line_between s n (line.Manual on) b = closed_between (record s { manual = on }) (stands_all.by_hand s on (stands_between s b))
 line_between s n (line.Settle id) b = settle_between s n id (s.manual && is_some (pending_of s.server.past id)) refl b
 line_between s n line.Retry b = retry_between s n s.manual refl b
+line_between s n (line.Load name target at) b = loads_hold LeadsBetween s n (targets_between s b) name target at
+line_between s n (line.Match shard) b = matches_hold LeadsBetween s n (targets_between s b) shard
+line_between s n (line.Raise name) b = raises_hold LeadsBetween s n (targets_between s b) name

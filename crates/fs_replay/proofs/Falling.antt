@@ -21,7 +21,7 @@ use Rattle.fs_machine.specs.declared.parked_request.ParkedRequest.{ParkedRequest
 use Rattle.fs_machine.specs.declared.unreleased.Unreleased.{Unreleased}
 use Rattle.fs_machine.proofs.Carried.{AtMostPrepares, carried_follows, carried_rest}
 use Rattle.fs_machine.proofs.Pending.{number_found, pending_it}
-use Rattle.fs_replay.specs.Laws.{IsHeld}
+use Rattle.fs_replay.specs.BetweenLines.{IsHeld}
 use Rattle.fs_replay.specs.Played.{nothing, followed_by}
 use Rattle.fs_replay.specs.Settling.{did_something, emptied, left_to_do, place_after, settles, settles_if, settles_next, tries, tries_all, tries_from, tries_if, tries_it, turn, waits_on}
 use Rattle.fs_replay.specs.declared.state.State.{State}

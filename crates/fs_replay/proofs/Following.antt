@@ -1,233 +1,64 @@
 -- What follows from a line, by its kind: what it leaves of what was committed, and how many lines it gives.
-use Rattle.std.proofs.Common.{◌≡◌, ◌⊎◌, inl, inr, ℕ, ℤ, Bool, true, false, List, [], ◌∷◌, ◌++◌, Option, Some, None, Result, Ok, Err, refl, sym, ap, ◌∙◌, subst}
+use Rattle.std.proofs.Common.{◌≡◌, ◌⊎◌, ℕ, ℤ, Bool, true, false, List, [], Option, Some, None, refl, sym, ap, ◌∙◌, subst}
 use Rattle.std.specs.Prelude.{pos, ◌+ℤ◌, ◌&&◌, ◌||◌, ◌==◌, codes, not}
 use Rattle.std.specs.List.{AllByRecursion}
-use Rattle.std.proofs.lemmas.Bool.{or_parts}
-use Rattle.std.proofs.lemmas.List.{append-nil}
-use Rattle.fs_json.specs.declared.bad.Bad.{Bad}
+use Rattle.std.proofs.lemmas.Bool.{and_parts, or_parts}
 use Rattle.fs_rpc.specs.MessageJson.{error_json}
-use Rattle.fs_rpc.specs.declared.envelope.SessionRequest.{SessionRequest}
-use Rattle.fs_rpc.specs.declared.request.Envelope.{Envelope}
-use Rattle.fs_rpc.specs.declared.request.Request.{Request}
 use Rattle.fs_status.specs.declared.code.Code.TheVariants.{Unimplemented}
-use Rattle.fs_machine.specs.Commit.{next_commit}
 use Rattle.fs_machine.specs.Compact.{compacted}
 use Rattle.fs_machine.specs.Leave.{departed, of_others}
-use Rattle.fs_machine.specs.Past.{Past}
+use Rattle.fs_machine.specs.Load.{loaded}
+use Rattle.fs_machine.specs.Match.{matched}
+use Rattle.fs_machine.specs.Raise.{raised}
 use Rattle.fs_machine.specs.Release.{all_delivered, free_to, kept_back}
-use Rattle.fs_machine.specs.Request.{arrival_refusal, arrived, asked}
 use Rattle.fs_machine.specs.State.{Machine}
 use Rattle.fs_machine.specs.Tick.{later}
 use Rattle.fs_machine.specs.declared.parked_request.ParkedRequest.{ParkedRequest}
 use Rattle.fs_machine.specs.declared.reply.Reply.{Reply}
 use Rattle.fs_machine.specs.declared.unreleased.Unreleased.{Unreleased}
-use Rattle.fs_machine.proofs.Carried.{asked_alone}
+use Rattle.fs_machine.proofs.Listening.{loaded_rest, raised_rest}
 use Rattle.fs_replay.specs.Directory.{number_of}
-use Rattle.fs_replay.specs.Laws.{HasNothing, IsBetweenLines, IsHeldStill, IsOneLine, IsSettled, ends_one, ends_read, is_answered, is_commit, is_silent, keeps_waiting, may_let_on, may_move, none_waits}
-use Rattle.fs_replay.specs.Played.{Played, nothing, followed_by}
+use Rattle.fs_replay.specs.BetweenLines.{HasNothing, IsBetweenLines, IsSettled}
+use Rattle.fs_replay.specs.Commits.{is_commit, may_move}
+use Rattle.fs_replay.specs.Lines.{IsOneLine, is_answered, is_silent, keeps_waiting, may_let_on, nobody_listens, none_waits}
+use Rattle.fs_replay.specs.Played.{Played}
 use Rattle.fs_replay.specs.Reply.{line_error, refused_json}
 use Rattle.fs_replay.specs.Settling.{closed}
-use Rattle.fs_replay.specs.Step.{clocked, in_session, leaves, line_played}
+use Rattle.fs_replay.specs.Step.{leaves, line_played}
 use Rattle.fs_replay.specs.declared.request.Line.{Line}
 use Rattle.fs_replay.specs.declared.request.Line.TheVariants as line
 use Rattle.fs_replay.specs.declared.state.State.{State}
-use Rattle.fs_replay.proofs.Asking.{Answers, Comes, Waits, answers, comes, prepares, waits}
-use Rattle.fs_replay.proofs.Closing.{closed_by_hand, closed_last, closed_one_line, closed_quiet, closed_settled}
-use Rattle.fs_replay.proofs.Each.{all_filtered, all_more}
-use Rattle.fs_replay.proofs.Ended.{Empty, settled_by_none, stands_between}
-use Rattle.fs_replay.proofs.Kept.{KeepsAsking, MayRead, asked_kept, departed_by, with_server}
+use Rattle.fs_replay.proofs.Beside.{Empty}
+use Rattle.fs_replay.proofs.Closing.{closed_by_hand, closed_quiet, closed_silent}
+use Rattle.fs_replay.proofs.Each.{all_filtered}
+use Rattle.fs_replay.proofs.Emptied.{drained_past}
+use Rattle.fs_replay.proofs.Ended.{settled_by_none}
+use Rattle.fs_replay.proofs.Hands.{HoldsByHand, loads_hold, matches_hold, raises_hold}
+use Rattle.fs_replay.proofs.Kept.{departed_by, ticked_by, with_server}
 use Rattle.fs_replay.proofs.OneLine.{json_one_line}
-use Rattle.fs_replay.proofs.Readers.{ReadsOn, asked_reads, reads_same, reads_then}
+use Rattle.fs_replay.proofs.Quiet.{compacted_served, nobody_served}
 use Rattle.fs_replay.proofs.Released.{nobody_told}
-use Rattle.fs_replay.proofs.Standing.{Any, Stands, any_read, stands_asking}
-use Rattle.fs_replay.proofs.Staying.{AllKept, AllStay, StaysOn, all_compacted, all_departed, all_held, all_kept_then, all_stay, all_stay_then, kept_none, stays_then}
-use Rattle.fs_replay.proofs.Waiting.{nothing_left, nothing_more}
-
-never : {A : Type 0} → true ≡ false → A
-never e = absurd (cc)
-
--- ---- a request, before its line is closed
-
--- the sessions but for the one that may open are as they were
-asked_sessions : (m : Machine) (number : ℕ) (e : Envelope) → (asked m number e).sessions ≡ m.sessions
-asked_sessions m number e = (asked_alone m (arrived m number e) (arrival_refusal m number e.request)).sessions
-
-empty_asking : KeepsAsking Empty Any
-empty_asking = record {
-  by_opening = λ s name empty. nothing_more s.server.sessions s.server.numbers.sessions empty;
-  by_asking = λ s number e knows may empty. subst (AllByRecursion HasNothing) (sym (asked_sessions s.server number e)) empty;
-}
-
-manual_asking : (manual : Bool) → KeepsAsking (λ s. s.manual ≡ manual) Any
-manual_asking manual = record { by_opening = λ s name is. is; by_asking = λ s number e knows may is. is }
-
--- no transaction ends
-abbrev EndsNone : Request → Type 0
-EndsNone q = ends_one q ≡ false
-
-reads_asking : (m : Machine) → KeepsAsking (λ s. ReadsOn m s.server) EndsNone
-reads_asking m = record {
-  by_opening = λ s name on. record { config = on.config; limits = on.limits; reads = on.reads };
-  by_asking = λ s number e knows may on. reads_then m s.server (asked s.server number e) on (asked_reads s.server number e may);
-}
-
-ends_none : (r : Result Request Bad) → ends_read r ≡ false → MayRead EndsNone r
-ends_none (Ok request) ends = ends
-ends_none (Err bad) ends = tt
-
-no_one : (rs : List ParkedRequest) → none_waits rs ≡ true → rs ≡ []
-no_one [] is = refl
-no_one (r ∷ rs) is = never (sym is)
-
--- no transaction ends, or nothing waits
-lets_none : (ends : Bool) (rs : List ParkedRequest) → (ends && not (none_waits rs)) ≡ false → (ends ≡ false) ⊎ (rs ≡ [])
-lets_none false rs is = inl refl
-lets_none true [] is = inr refl
-lets_none true (r ∷ rs) is = never is
-
-lets_by : (s : State) (a : SessionRequest) → may_let_on s (line.Asked a) ≡ false → s.manual ≡ false → (ends_read a.request ≡ false) ⊎ (s.server.parked ≡ [])
-lets_by s a lets manual = lets_none (ends_read a.request) s.server.parked (sym (ap (λ b. not b && (ends_read a.request && not (none_waits s.server.parked))) manual) ∙ lets)
-
-some_more : (rs : List ParkedRequest) (r : ParkedRequest) → rs ++ r ∷ [] ≡ [] → ⊥
-some_more [] r none = cc
-some_more (q ∷ rs) r none = cc
-
-module _ (s : State) (a : SessionRequest) (b : IsBetweenLines s) where
-  abbrev played : Played
-  played = in_session s a (number_of a.session s.directory)
-
-  abbrev asked_state : State
-  asked_state = played.state
-
-  stands : Stands asked_state
-  stands = asked_kept Stands Any stands_asking s a (any_read a.request) (stands_between s b)
-
-  empty : Empty asked_state
-  empty = asked_kept Empty Any empty_asking s a (any_read a.request) b.empty
-
-  same_manual : (manual : Bool) → s.manual ≡ manual → asked_state.manual ≡ manual
-  same_manual manual is = asked_kept (λ (t : State). t.manual ≡ manual) Any (manual_asking manual) s a (any_read a.request) is
-
-  reads : ends_read a.request ≡ false → ReadsOn s.server asked_state.server
-  reads ends = asked_kept (λ (t : State). ReadsOn s.server t.server) EndsNone (reads_asking s.server) s a (ends_none a.request ends) (reads_same s.server)
-
-  -- what waits between lines is kept by transactions
-  stay : s.manual ≡ false → AllStay s.server s.server.parked
-  stay manual = all_stay s.server s.server.parked (b.settled manual).released (b.settled manual).held
-
-  abbrev commits : Bool
-  commits = is_commit s (line.Asked a)
-
-  abbrev EndsNoneOrNoneWaits : Type 0
-  EndsNoneOrNoneWaits = (ends_read a.request ≡ false) ⊎ (s.server.parked ≡ [])
-
-  -- ---- what was committed stays, but for a commit
-
-  idle_then : s.manual ≡ false → asked_state.server.past ≡ s.server.past → asked_state.server.past.unreleased ≡ []
-  idle_then manual past = ap (λ (p : Past). p.unreleased) past ∙ (b.settled manual).released
-
-  still_settled : s.manual ≡ false → Answers s commits played → EndsNoneOrNoneWaits → IsSettled asked_state.server
-  still_settled manual it (inl ends) =
-      let held = all_held asked_state.server s.server.parked (all_stay_then s.server asked_state.server s.server.parked (reads ends) it.past (stay manual)) in
-      record { released = idle_then manual it.past; held = subst (AllByRecursion (IsHeldStill asked_state.server)) (sym it.parked) held }
-  still_settled manual it (inr none) = settled_by_none asked_state.server (idle_then manual it.past) (it.parked ∙ none)
-
-  -- with one more that waits
-  one_more : s.manual ≡ false → Waits s commits played → IsSettled asked_state.server
-  one_more manual it =
-      let idle = (b.settled manual).released in
-      let m = asked_state.server in
-      let q = it.request.envelope.request in
-      let others = all_stay_then s.server m s.server.parked it.reads it.past (stay manual) in
-      let it_stays = stays_then s.server m q it.reads it.past (record { kept = it.kept idle; room = it.room }) in
-      let all = all_more (λ (r : ParkedRequest). StaysOn m r.envelope.request) s.server.parked it.request others it_stays in
-      record { released = idle_then manual it.past; held = subst (AllByRecursion (IsHeldStill m)) (sym it.parked) (all_held m (s.server.parked ++ it.request ∷ []) all) }
-
-  settled_then : Comes s commits played → commits ≡ false → s.manual ≡ false → EndsNoneOrNoneWaits → IsSettled asked_state.server
-  settled_then (answers it) other manual lets = still_settled manual it lets
-  settled_then (waits it) other manual lets = one_more manual it
-  settled_then (prepares it) other manual lets = never (sym it.yes ∙ other)
-
-  same_past : Comes s commits played → commits ≡ false → asked_state.server.past ≡ s.server.past
-  same_past (answers it) other = it.past
-  same_past (waits it) other = it.past
-  same_past (prepares it) other = never (sym it.yes ∙ other)
-
-  pub asked_unmoved : commits ≡ false → may_let_on s (line.Asked a) ≡ false → (closed asked_state).state.server.past ≡ s.server.past
-  asked_unmoved other lets =
-      let settled : asked_state.manual ≡ false → IsSettled asked_state.server = λ off.
-      let manual = sym (same_manual s.manual refl) ∙ off in settled_then (comes s a) other manual (lets_by s a lets manual) in
-      ap (λ (p : Played). p.state.server.past) (closed_quiet asked_state empty settled) ∙ same_past (comes s a) other
-
-  -- ---- a commit gets the next time
-
-  prepared_last : Comes s commits played → commits ≡ true → asked_state.server.past.last ≡ (s.server.past.last +ℤ pos 1)
-  prepared_last (answers it) made = never (sym made ∙ it.no)
-  prepared_last (waits it) made = never (sym made ∙ it.no)
-  prepared_last (prepares it) made = ap (λ (p : Past). p.last) it.past
-
-  prepared_parked : Comes s commits played → commits ≡ true → asked_state.server.parked ≡ s.server.parked
-  prepared_parked (answers it) made = it.parked
-  prepared_parked (waits it) made = never (sym made ∙ it.no)
-  prepared_parked (prepares it) made = it.parked
-
-  -- and those that wait are kept still
-  still_kept : s.manual ≡ false → asked_state.server.parked ≡ s.server.parked → EndsNoneOrNoneWaits → AllKept asked_state.server asked_state.server.parked
-  still_kept manual same (inl ends) =
-      subst (AllKept asked_state.server) (sym same) (all_kept_then s.server asked_state.server s.server.parked (reads ends) (stay manual))
-  still_kept manual same (inr none) = subst (AllKept asked_state.server) (sym (same ∙ none)) tt
-
-  same_last : (manual : Bool) → s.manual ≡ manual → commits ≡ true → may_let_on s (line.Asked a) ≡ false → (closed asked_state).state.server.past.last ≡ asked_state.server.past.last
-  same_last true manual made lets = ap (λ (p : Played). p.state.server.past.last) (closed_by_hand asked_state empty (same_manual true manual))
-  same_last false manual made lets = closed_last asked_state (still_kept manual (prepared_parked (comes s a) made) (lets_by s a lets manual))
-
-  pub asked_rises : commits ≡ true → may_let_on s (line.Asked a) ≡ false → (closed asked_state).state.server.past.last ≡ (s.server.past.last +ℤ pos 1)
-  asked_rises made lets = same_last s.manual refl made lets ∙ prepared_last (comes s a) made
-
-  -- ---- one line
-
-  told_one : s.manual ≡ false → s.server.parked ≡ [] → (Waits s commits played → ⊥) → Comes s commits played → IsOneLine (followed_by played closed).output
-  told_one manual none held (answers it) =
-      let same = closed_settled asked_state empty (same_manual false manual) (still_settled manual it (inr none)) in
-      subst (λ (p : Played). IsOneLine (played.output ++ p.output)) (sym same) (subst IsOneLine (sym (append-nil played.output)) it.line)
-  told_one manual none held (waits it) = absurd (held it)
-  told_one manual none held (prepares it) =
-      let u = next_commit s.server.past it.id it.request it.writes it.reads in
-      let alone : asked_state.server.past.unreleased ≡ u ∷ [] = ap (λ (p : Past). p.unreleased) it.past ∙ ap (λ us. us ++ u ∷ []) (b.settled manual).released in
-      let one = closed_one_line asked_state u stands empty alone refl (it.parked ∙ none) it.knows (same_manual false manual) in
-      subst (λ o. IsOneLine (o ++ (closed asked_state).output)) (sym it.output) one
-
-  -- it doesn't wait where no transaction keeps any waiting, or nothing waits then
-  unkept : s.manual ≡ false → keeps_waiting s.server ≡ false → Waits s commits played → ⊥
-  unkept manual keeps it = kept_none s.server.config.mode s.server.txns.open it.request.envelope.request keeps (it.kept (b.settled manual).released)
-
-  unheld : s.manual ≡ false → (closed asked_state).state.server.parked ≡ [] → Waits s commits played → ⊥
-  unheld manual after it =
-      let same = closed_settled asked_state empty (same_manual false manual) (one_more manual it) in
-      let waits : s.server.parked ++ it.request ∷ [] ≡ [] = sym it.parked ∙ sym (ap (λ (p : Played). p.state.server.parked) same) ∙ after in
-      some_more s.server.parked it.request waits
-
-  pub asked_one_line : s.manual ≡ false → s.server.parked ≡ [] → (keeps_waiting s.server ≡ false) ⊎ ((closed asked_state).state.server.parked ≡ []) → IsOneLine (followed_by played closed).output
-  asked_one_line manual none (inl keeps) = told_one manual none (unkept manual keeps) (comes s a)
-  asked_one_line manual none (inr after) = told_one manual none (unheld manual after) (comes s a)
+use Rattle.fs_replay.proofs.Requested.{asked_one_line, asked_rises, asked_unmoved, never, no_one}
+use Rattle.fs_replay.proofs.Staying.{StaysOn, all_compacted, all_departed, all_held, all_stay}
+use Rattle.fs_replay.proofs.Waiting.{nothing_left}
 
 -- ---- lines that give nothing
 
-no_output : (t : State) → closed t ≡ nothing t → (closed t).output ≡ []
-no_output t same = ap (λ (p : Played). p.output) same
+-- by hand, or where nothing waits and no session has a target
+clock_quiet : (s : State) (manual : Bool) → s.manual ≡ manual → (manual || (none_waits s.server.parked && nobody_listens s.server)) ≡ true → s.manual ≡ false
+    → (s.server.parked ≡ []) × (nobody_listens s.server ≡ true)
+clock_quiet s true is quiet off = never (sym is ∙ off)
+clock_quiet s false is quiet off = let both = and_parts (none_waits s.server.parked) (nobody_listens s.server) quiet in (no_one s.server.parked both.0, both.1)
 
--- by hand, or where nothing waits
-clock_settled : (s : State) (manual : Bool) → s.manual ≡ manual → (manual || none_waits s.server.parked) ≡ true → s.manual ≡ false → s.server.parked ≡ []
-clock_settled s true is quiet off = never (sym is ∙ off)
-clock_settled s false is quiet off = no_one s.server.parked quiet
-
-clock_silent : (s : State) (time : ℤ) → (s.manual || none_waits s.server.parked) ≡ true → IsBetweenLines s → (closed (clocked s time)).output ≡ []
+clock_silent : (s : State) (time : ℤ) → (s.manual || (none_waits s.server.parked && nobody_listens s.server)) ≡ true → IsBetweenLines s
+    → (closed (ticked_by s (later s.moment time))).output ≡ []
 clock_silent s time quiet b =
     let now = later s.moment time in
-    let t = clocked s time in
+    let t = ticked_by s now in
     let same : t.server.sessions ≡ s.server.sessions = ap (λ (rs : List Reply). all_delivered rs s.server.sessions) (nobody_told s.server.past now b.facts.past.unreleased b.released) in
     let none : s.server.past.unreleased ≡ [] → t.server.past.unreleased ≡ [] = λ idle. ap (λ (us : List Unreleased). kept_back (free_to (later s.server.past.last now) us) us) idle in
-    no_output t (closed_quiet t (subst (AllByRecursion HasNothing) (sym same) b.empty) (λ manual. settled_by_none t.server (none (b.settled manual).released) (clock_settled s s.manual refl quiet manual)))
+    let then = clock_quiet s s.manual refl quiet in
+    closed_silent t (subst (AllByRecursion HasNothing) (sym same) b.empty) (λ manual. settled_by_none t.server (none (b.settled manual).released) (then manual).0) (λ manual. nobody_served t.server (then manual).1)
 
 -- a compaction lets nothing go on
 compacted_settled : (m : Machine) (time : ℤ) → IsSettled m → IsSettled (compacted m time)
@@ -238,10 +69,10 @@ compacted_settled m time settled =
 compact_silent : (s : State) (time : ℤ) → IsBetweenLines s → (closed (with_server s (compacted s.server time))).output ≡ []
 compact_silent s time b =
     let t = with_server s (compacted s.server time) in
-    no_output t (closed_quiet t b.empty (λ manual. compacted_settled s.server time (b.settled manual)))
+    closed_silent t b.empty (λ manual. compacted_settled s.server time (b.settled manual)) (λ manual. compacted_served s.server time (b.served manual))
 
 hands_silent : (s : State) → IsBetweenLines s → (closed (record s { manual = true })).output ≡ []
-hands_silent s b = let t : State = record s { manual = true } in no_output t (closed_by_hand t b.empty refl)
+hands_silent s b = ap (λ (p : Played). p.output) (closed_by_hand (record s { manual = true }) b.empty refl)
 
 manual_silent : (s : State) (on : Bool) → on ≡ true → IsBetweenLines s → (closed (record s { manual = on })).output ≡ []
 manual_silent s true is b = hands_silent s b
@@ -258,6 +89,9 @@ silent s n (line.Leave name) is b = never (sym is)
 silent s n (line.Manual on) is b = manual_silent s on is b
 silent s n (line.Settle id) is b = never (sym is)
 silent s n line.Retry is b = never (sym is)
+silent s n (line.Load name target at) is b = never (sym is)
+silent s n (line.Match shard) is b = never (sym is)
+silent s n (line.Raise name) is b = never (sym is)
 
 -- ---- lines that leave what was committed
 
@@ -271,11 +105,23 @@ departed_settled m number settled =
 leaves_unmoved : (s : State) (n : ℕ) (name : List ℕ) (number : Option ℕ) → IsBetweenLines s → (leaves s n name number).state.server.past ≡ s.server.past
 leaves_unmoved s n name None b = refl
 leaves_unmoved s n name (Some number) b =
-    ap (λ (p : Played). p.state.server.past) (closed_quiet (departed_by s number name) (nothing_left s.server.sessions number b.empty) (λ manual. departed_settled s.server number (b.settled manual)))
+    ap (λ (t : State). t.server.past) (closed_quiet (departed_by s number name) (nothing_left s.server.sessions number b.empty) (λ manual. departed_settled s.server number (b.settled manual)))
 
 manual_unmoved : (s : State) (on : Bool) → not on ≡ false → IsBetweenLines s → (closed (record s { manual = on })).state.server.past ≡ s.server.past
 manual_unmoved s true is b = ap (λ (p : Played). p.state.server.past) (closed_by_hand (record s { manual = true }) b.empty refl)
 manual_unmoved s false is b = never is
+
+-- what is done to targets by hand leaves it too
+abbrev LeavesPast : State → Played → Type 0
+LeavesPast s p = p.state.server.past ≡ s.server.past
+
+targets_unmoved : (s : State) → HoldsByHand (LeavesPast s) s
+targets_unmoved s = record {
+  stays = λ bytes. refl;
+  loading = λ number target at bytes manual. drained_past s.directory (loaded s.server number target at) ∙ ap (λ (m : Machine). m.past) (loaded_rest s.server number target at);
+  matching = λ shard to manual. drained_past s.directory (matched s.server shard to);
+  raising = λ number manual. drained_past s.directory (raised s.server number) ∙ ap (λ (m : Machine). m.past) (raised_rest s.server number);
+}
 
 pub unmoved : (s : State) (n : ℕ) (l : Line) → may_move s l ≡ false → IsBetweenLines s → (line_played s n l).state.server.past ≡ s.server.past
 unmoved s n line.Empty is b = refl
@@ -290,6 +136,9 @@ unmoved s n (line.Leave name) is b = leaves_unmoved s n name (number_of name s.d
 unmoved s n (line.Manual on) is b = manual_unmoved s on is b
 unmoved s n (line.Settle id) is b = never is
 unmoved s n line.Retry is b = never is
+unmoved s n (line.Load name target at) is b = loads_hold (LeavesPast s) s n (targets_unmoved s) name target at
+unmoved s n (line.Match shard) is b = matches_hold (LeavesPast s) s n (targets_unmoved s) shard
+unmoved s n (line.Raise name) is b = raises_hold (LeavesPast s) s n (targets_unmoved s) name
 
 -- ---- commits, and answers
 
@@ -304,16 +153,22 @@ rises s n (line.Leave name) is lets b = never (sym is)
 rises s n (line.Manual on) is lets b = never (sym is)
 rises s n (line.Settle id) is lets b = never (sym is)
 rises s n line.Retry is lets b = never (sym is)
+rises s n (line.Load name target at) is lets b = never (sym is)
+rises s n (line.Match shard) is lets b = never (sym is)
+rises s n (line.Raise name) is lets b = never (sym is)
 
-pub answered_once : (s : State) (n : ℕ) (l : Line) → is_answered l ≡ true → s.manual ≡ false → s.server.parked ≡ []
+pub answered_once : (s : State) (n : ℕ) (l : Line) → is_answered l ≡ true → s.manual ≡ false → s.server.parked ≡ [] → nobody_listens (line_played s n l).state.server ≡ true
     → (keeps_waiting s.server ≡ false) ⊎ ((line_played s n l).state.server.parked ≡ []) → IsBetweenLines s → IsOneLine (line_played s n l).output
-answered_once s n line.Empty is manual none held b = never (sym is)
-answered_once s n line.NotBuilt is manual none held b = json_one_line (line_error (error_json Unimplemented (codes "line not read yet")) n)
-answered_once s n (line.Refused reason) is manual none held b = json_one_line (line_error (refused_json reason) n)
-answered_once s n (line.Asked a) is manual none held b = asked_one_line s a b manual none held
-answered_once s n (line.Clock time) is manual none held b = never (sym is)
-answered_once s n (line.Compact time) is manual none held b = never (sym is)
-answered_once s n (line.Leave name) is manual none held b = never (sym is)
-answered_once s n (line.Manual on) is manual none held b = never (sym is)
-answered_once s n (line.Settle id) is manual none held b = never (sym is)
-answered_once s n line.Retry is manual none held b = never (sym is)
+answered_once s n line.Empty is manual none nobody held b = never (sym is)
+answered_once s n line.NotBuilt is manual none nobody held b = json_one_line (line_error (error_json Unimplemented (codes "line not read yet")) n)
+answered_once s n (line.Refused reason) is manual none nobody held b = json_one_line (line_error (refused_json reason) n)
+answered_once s n (line.Asked a) is manual none nobody held b = asked_one_line s a b manual none nobody held
+answered_once s n (line.Clock time) is manual none nobody held b = never (sym is)
+answered_once s n (line.Compact time) is manual none nobody held b = never (sym is)
+answered_once s n (line.Leave name) is manual none nobody held b = never (sym is)
+answered_once s n (line.Manual on) is manual none nobody held b = never (sym is)
+answered_once s n (line.Settle id) is manual none nobody held b = never (sym is)
+answered_once s n line.Retry is manual none nobody held b = never (sym is)
+answered_once s n (line.Load name target at) is manual none nobody held b = never (sym is)
+answered_once s n (line.Match shard) is manual none nobody held b = never (sym is)
+answered_once s n (line.Raise name) is manual none nobody held b = never (sym is)

@@ -1,12 +1,12 @@
 -- What a request that is carried out comes to: it is answered, and what was committed stays; or its writes are prepared.
-use Rattle.std.proofs.Common.{◌≡◌, ℕ, ℤ, Bool, true, false, cond, List, [], Option, Some, None, refl}
+use Rattle.std.proofs.Common.{◌≡◌, ℕ, ℤ, Bool, true, false, cond, List, [], Option, Some, None, refl, pos, negsuc}
 use Rattle.std.specs.FinMap.{get}
 use Rattle.fs_history.specs.History.{at}
 use Rattle.fs_history.specs.declared.read.Read.{Read}
 use Rattle.fs_path.specs.declared.field.FieldPath.{FieldPath}
 use Rattle.fs_rpc.specs.declared.message.Message.TheVariants as message
 use Rattle.fs_rpc.specs.declared.request.Request.{Request}
-use Rattle.fs_rpc.specs.declared.request.Request.TheVariants.{Commit, GetDocument, BatchGetDocuments, RunQuery, BeginTransaction, Rollback}
+use Rattle.fs_rpc.specs.declared.request.Request.TheVariants.{Commit, GetDocument, BatchGetDocuments, RunQuery, BeginTransaction, Rollback, AddTarget, RemoveTarget}
 use Rattle.fs_rpc.specs.declared.when.When.{When}
 use Rattle.fs_rpc.specs.declared.when.When.TheVariants.{Released, At, In}
 use Rattle.fs_status.specs.declared.refusal.Refusal.{Refusal}
@@ -26,7 +26,7 @@ use Rattle.fs_machine.specs.Transact.{refusal_unless, with_ended}
 use Rattle.fs_machine.specs.declared.answer.Answer.{Answer}
 use Rattle.fs_machine.specs.declared.answer.Answer.TheVariants.{Reply, Prepared, Held, Refused}
 use Rattle.fs_machine.specs.declared.parked_request.ParkedRequest.{ParkedRequest}
-use Rattle.fs_replay.specs.Laws.{writes_of}
+use Rattle.fs_replay.specs.Commits.{writes_of}
 use Rattle.fs_replay.specs.Settling.{waits_on}
 
 -- whether an answer is told at once
@@ -88,6 +88,9 @@ carried_goes m r (BatchGetDocuments database names mask when) goes = answers (re
 carried_goes m r (RunQuery database query when) goes = answers (read_past m when (RunQuery database query when)) refl
 carried_goes m r (BeginTransaction database options) goes = answers refl refl
 carried_goes m r (Rollback database transaction) goes = answers refl refl
+carried_goes m r (AddTarget database target t token) goes = answers refl refl
+carried_goes m r (RemoveTarget database (pos target)) goes = answers refl refl
+carried_goes m r (RemoveTarget database (negsuc target)) goes = answers refl refl
 
 -- it isn't answered that it waits
 unless_waits : (m : Machine) (t : Txn) (found : Option ℕ) → waits_on (Some (committed_answer_unless m t found)) ≡ false
@@ -115,3 +118,6 @@ never_waits m r (BatchGetDocuments database names mask when) = refl
 never_waits m r (RunQuery database query when) = refl
 never_waits m r (BeginTransaction database options) = refl
 never_waits m r (Rollback database transaction) = refl
+never_waits m r (AddTarget database target t token) = refl
+never_waits m r (RemoveTarget database (pos target)) = refl
+never_waits m r (RemoveTarget database (negsuc target)) = refl

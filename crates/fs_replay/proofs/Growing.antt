@@ -28,7 +28,12 @@ module _ (grow : AlwaysGrows) (p : Past) where
   grown_closing = record {
     by_settling = λ s id grown. by_event (decided s.server id) Event.releasing (by_event s.server (Event.deciding id) grown);
     by_retrying = λ s place r is grown. by_event s.server (Event.retrying place) grown;
-    by_taking = λ s number grown. by_event s.server (Event.taking number) grown;
+    serving = record {
+      by_taking = λ s number grown. by_event s.server (Event.taking number) grown;
+      by_loading = λ s number target at grown. by_event s.server (Event.loading number target at) grown;
+      by_matching = λ s shard to grown. by_event s.server (Event.matching shard to) grown;
+      by_raising = λ s number grown. by_event s.server (Event.raising number) grown;
+    };
   }
 
   grown_all : KeepsAll (λ s. Grown p s.server) Any

@@ -14,7 +14,7 @@ use Rattle.fs_machine.specs.declared.parked_request.ParkedRequest.{ParkedRequest
 use Rattle.fs_machine.specs.declared.session.Session.{Session}
 use Rattle.fs_machine.proofs.SessionsNumbered.{numbers_of}
 use Rattle.fs_replay.specs.Directory.{number_of, without}
-use Rattle.fs_replay.specs.Laws.{is_open, numbers_in}
+use Rattle.fs_replay.specs.BetweenLines.{is_open, numbers_in}
 use Rattle.fs_replay.specs.declared.directory.Named.{Named}
 
 -- ---- the session of a name
@@ -45,7 +45,7 @@ open_by_number : (ss : List Session) (number : ℕ) → is_open number ss ≡ li
 open_by_number [] number = refl
 open_by_number (s ∷ ss) number = ap (λ b. (s.number == number) || b) (open_by_number ss number)
 
-known_by_number : (ns : List Named) (number : ℕ) → has_number number ns ≡ list_any (λ k. k == number) (numbers_in ns)
+pub known_by_number : (ns : List Named) (number : ℕ) → has_number number ns ≡ list_any (λ k. k == number) (numbers_in ns)
 known_by_number [] number = refl
 known_by_number (n ∷ ns) number = ap (λ b. (n.number == number) || b) (known_by_number ns number)
 

@@ -27,7 +27,9 @@ use Rattle.fs_machine.specs.declared.config.Config.{Config}
 use Rattle.fs_machine.specs.declared.limits.Limits.{Limits}
 use Rattle.fs_machine.proofs.Grows.{grows_on, grows_same}
 use Rattle.fs_replay.specs.Held.{held_lines}
-use Rattle.fs_replay.specs.Laws.{IsBetweenLines, IsOneLine, asked_writes, is_answered, is_commit, is_silent, is_written_in, keeps_waiting, line_in_state, may_let_on, may_move, will_be_written}
+use Rattle.fs_replay.specs.BetweenLines.{IsBetweenLines}
+use Rattle.fs_replay.specs.Commits.{asked_writes, is_commit, is_written_in, may_move, will_be_written}
+use Rattle.fs_replay.specs.Lines.{IsOneLine, is_answered, is_silent, keeps_waiting, line_in_state, may_let_on, nobody_listens}
 use Rattle.fs_replay.specs.Run.{GrowsThroughout, IsSerialThroughout}
 use Rattle.fs_replay.specs.Step.{after_line, line_output, start}
 use Rattle.fs_replay.specs.Transcript.{after_lines, lines_of, transcript, written}
@@ -35,6 +37,7 @@ use Rattle.fs_replay.specs.declared.state.State.{State}
 use Rattle.fs_replay.proofs.Ended.{line_between}
 use Rattle.fs_replay.proofs.Following.{answered_once, rises, silent, unmoved}
 use Rattle.fs_replay.proofs.Growing.{line_grows}
+use Rattle.fs_replay.proofs.Quiet.{nobody_served}
 use Rattle.fs_replay.proofs.Staying.{nobody_waits}
 use Rattle.fs_replay.proofs.Untouched.{Untouched, Unwritten, line_leaves, untouched}
 use Rattle.fs_replay.proofs.Waiting.{nothing_in}
@@ -44,6 +47,7 @@ use Rattle.fs_replay.proofs.Waiting.{nothing_in}
 pub starts_between : AlwaysKept → (config : Config) (limits : Limits) → AreAllowed limits → IsBetweenLines (start config limits)
 starts_between kept config limits allowed = record {
   settled = λ _. record { released = refl; held = tt };
+  served = λ _. nobody_served (start config limits).server refl;
   released = refl;
   empty = tt;
   known = refl;
@@ -121,14 +125,15 @@ pub lines_keep : Unwritten → (s : State) (n : ℕ) (lines : List (List ℕ)) (
     → get (whole (after_lines s n lines).server.past.history) name ≡ get (whole s.server.past.history) name
 lines_keep unwritten s n lines name between will e = (all_leave unwritten name (get (whole s.server.past.history) name) s n lines e (untouched name s.server will)).stays
 
-pub one_line : (s : State) (n : ℕ) (bytes : List ℕ) → IsBetweenLines s → s.manual ≡ false → keeps_waiting s.server ≡ false → is_answered (line_in_state s bytes) ≡ true → IsOneLine (line_output s n bytes)
-unfolding line_output
-one_line s n bytes between manual keeps is = answered_once s n (line_in_state s bytes) is manual (nobody_keeps s between manual keeps) (inl keeps) between
-
-pub one_line_where_none_waits : (s : State) (n : ℕ) (bytes : List ℕ) → IsBetweenLines s → s.manual ≡ false → s.server.parked ≡ [] → (after_line s n bytes).server.parked ≡ [] → is_answered (line_in_state s bytes) ≡ true
-    → IsOneLine (line_output s n bytes)
+pub one_line : (s : State) (n : ℕ) (bytes : List ℕ) → IsBetweenLines s → s.manual ≡ false → keeps_waiting s.server ≡ false → nobody_listens (after_line s n bytes).server ≡ true
+    → is_answered (line_in_state s bytes) ≡ true → IsOneLine (line_output s n bytes)
 unfolding line_output after_line
-one_line_where_none_waits s n bytes between manual none after is = answered_once s n (line_in_state s bytes) is manual none (inr after) between
+one_line s n bytes between manual keeps nobody is = answered_once s n (line_in_state s bytes) is manual (nobody_keeps s between manual keeps) nobody (inl keeps) between
+
+pub one_line_where_none_waits : (s : State) (n : ℕ) (bytes : List ℕ) → IsBetweenLines s → s.manual ≡ false → s.server.parked ≡ [] → (after_line s n bytes).server.parked ≡ [] → nobody_listens (after_line s n bytes).server ≡ true
+    → is_answered (line_in_state s bytes) ≡ true → IsOneLine (line_output s n bytes)
+unfolding line_output after_line
+one_line_where_none_waits s n bytes between manual none after nobody is = answered_once s n (line_in_state s bytes) is manual none nobody (inr after) between
 
 pub no_line : (s : State) (n : ℕ) (bytes : List ℕ) → IsBetweenLines s → is_silent s (line_in_state s bytes) ≡ true → line_output s n bytes ≡ []
 unfolding line_output

@@ -2,7 +2,6 @@ mod Flow
 mod Cutting
 mod Written
 mod Ending
-pub mod Floats
 mod Json
 mod Tokens
 mod Listened
@@ -36,3 +35,15 @@ mod Carried
 mod Closing
 mod Following
 mod Lawful
+mod Shown
+mod Beside
+mod Nobody
+mod Hands
+mod Leading
+mod Loading
+mod Serving
+mod Doing
+mod Changed
+mod Served
+mod Quiet
+mod Requested

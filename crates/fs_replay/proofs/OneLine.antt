@@ -8,7 +8,7 @@ use Rattle.std.proofs.lemmas.Bool.Decides.{nat_tests}
 use Rattle.json.specs.Print.{quoted, escape, escape_byte}
 use Rattle.serde_json.specs.Data.{Num, unsigned, negative, float, Data, null, boolean, number, string, array, object, Items, no_items, item, Members, no_members, member}
 use Rattle.serde_json.specs.Written.{compact_text, items_text, members_text, number_text, comma_if}
-use Rattle.fs_replay.specs.Laws.{IsOneLine}
+use Rattle.fs_replay.specs.Lines.{IsOneLine}
 use Rattle.fs_replay.specs.Reply.{json_line}
 
 abbrev is_newline : ℕ → Bool

@@ -3,7 +3,7 @@ use Rattle.std.proofs.Common.{◌≡◌, ℕ, Bool, true, false, List, [], ◌�
 use Rattle.std.proofs.lemmas.Map.Lookups.{exact_bytes}
 use Rattle.std.specs.Cmp.Lexicographic.{slice_cmp}
 use Rattle.std.specs.Bool.{⊤}
-use Rattle.std.specs.List.{list_any}
+use Rattle.std.specs.List.{AllByRecursion, list_any}
 use Rattle.std.specs.Option.{option_map_or, option_or}
 use Rattle.std.specs.Ordering.{nat_cmp, match_ordering}
 use Rattle.std.specs.declared.cmp.Ordering.{Ordering}
@@ -14,6 +14,8 @@ use Rattle.serde_json.specs.Find.{get, get_member}
 use Rattle.fs_json.specs.Answer.{made, ◌>>=◌}
 use Rattle.fs_json.specs.Members.{first_twice, first_unknown, is_there, only_at}
 use Rattle.fs_json.specs.Names.{spells}
+use Rattle.fs_json.specs.Scalars.{text_at, truth_at}
+use Rattle.fs_json.specs.Time.{time_at}
 use Rattle.fs_json.specs.declared.bad.Bad.{Bad}
 use Rattle.fs_json.specs.declared.bad.Bad.TheVariants.{At}
 use Rattle.fs_path.specs.Place.{member_place}
@@ -22,6 +24,7 @@ use Rattle.fs_path.specs.declared.place.Rule.TheVariants.{G}
 use Rattle.fs_rpc.specs.Envelope.{session_request_at}
 use Rattle.fs_rpc.specs.Methods.{methods, session_head}
 use Rattle.fs_rpc.specs.declared.envelope.SessionRequest.{SessionRequest}
+use Rattle.fs_replay.specs.Forms.{id_at, leave_at, load_at, number_at, sole_as, true_at}
 use Rattle.fs_replay.specs.Line.{bare, form_at, form_members, form_of, has_any, is_unbuilt_form, leaves_session, line_read, unbuilt_forms, without_each, without_member}
 use Rattle.fs_replay.specs.declared.request.Line.{Line}
 use Rattle.fs_replay.specs.declared.request.Line.TheVariants as line
@@ -106,9 +109,14 @@ any_absent names (k ∷ ks) d r unknown passed =
     let each = or_parts (list_any (λ name. spells name k) names) (list_any (λ key. list_any (λ name. spells name key) names) ks) unknown in
     rw (is_absent names k d r each.0 passed) (any_absent names ks d r each.1 passed)
 
-none_told : (a b c e f g h : Bool) (s t u v w x y z : Result Line Bad) → a ≡ false → b ≡ false → c ≡ false → e ≡ false → f ≡ false → g ≡ false → h ≡ false
-    → (if a then s else if b then t else if c then u else if e then v else if f then w else if g then x else if h then y else z) ≡ z
-none_told a b c e f g h s t u v w x y z not_a not_b not_c not_e not_f not_g not_h = rw (not_a, not_b, not_c, not_e, not_f, not_g, not_h) refl
+-- the first of these that holds decides
+abbrev told_first : List (Bool × Result Line Bad) → Result Line Bad → Result Line Bad
+told_first [] rest = rest
+told_first (t ∷ ts) rest = if t.0 then t.1 else told_first ts rest
+
+none_told : (ts : List (Bool × Result Line Bad)) (rest : Result Line Bad) → AllByRecursion (λ (t : Bool × Result Line Bad). t.0 ≡ false) ts → told_first ts rest ≡ rest
+none_told [] rest none = refl
+none_told (t ∷ ts) rest none = ap (λ b. if b then t.1 else told_first ts rest) none.0 ∙ none_told ts rest none.1
 
 isnt_there : (k : List ℕ) (d : Data) → get k d ≡ None → is_there k d ≡ false
 isnt_there k d none = rw none refl
@@ -116,6 +124,21 @@ isnt_there k d none = rw none refl
 neither_both : (a b : Bool) → b ≡ false → (a && b) ≡ false
 neither_both true b none = none
 neither_both false b none = refl
+
+-- what tells each other form, and what a line of it is read as
+abbrev forms : Data → List (Bool × Result Line Bad)
+forms d =
+    (is_unbuilt_form d, Ok line.NotBuilt)
+    ∷ (is_there (codes "clock") d, made line.Clock (sole_as time_at (codes "clock") d))
+    ∷ (is_there (codes "compact") d, made line.Compact (sole_as time_at (codes "compact") d))
+    ∷ (is_there (codes "manual") d, made line.Manual (sole_as truth_at (codes "manual") d))
+    ∷ (is_there (codes "settle") d, made line.Settle (sole_as id_at (codes "settle") d))
+    ∷ (is_there (codes "retry") d, made (λ _. line.Retry) (sole_as true_at (codes "retry") d))
+    ∷ (is_there (codes "load") d, sole_as load_at (codes "load") d)
+    ∷ (is_there (codes "match") d, made line.Match (sole_as number_at (codes "match") d))
+    ∷ (is_there (codes "raise") d, made line.Raise (sole_as text_at (codes "raise") d))
+    ∷ (leaves_session d, made line.Leave (leave_at d))
+    ∷ []
 
 -- what is read as a request has no member that tells another form, and none of those members
 pub record IsPlain (root : Root) (d : Data) : Type 0 where
@@ -128,11 +151,34 @@ is_plain root d asked is =
     let passed = first_passes (only_at known d []) _ asked is in
     let none = λ (k : List ℕ) (spelled : list_any (λ name. spells name k) known ≡ false). isnt_there k d (is_absent known k d passed.0 spelled passed.1) in
     record {
-      untold = none_told (is_unbuilt_form d) (is_there (codes "clock") d) (is_there (codes "compact") d) (is_there (codes "manual") d) (is_there (codes "settle") d)
-          (is_there (codes "retry") d) (leaves_session d) _ _ _ _ _ _ _ _
-          (any_absent known unbuilt_forms d passed.0 refl passed.1) (none (codes "clock") refl) (none (codes "compact") refl) (none (codes "manual") refl)
-          (none (codes "settle") refl) (none (codes "retry") refl)
-          (neither_both (is_there (codes "session") d) (is_there (codes "leave") d) (none (codes "leave") refl));
+      untold = none_told (forms d) (made line.Asked (session_request_at root (bare d))) (
+        any_absent known unbuilt_forms d passed.0 refl passed.1,
+        (
+          none (codes "clock") refl,
+          (
+            none (codes "compact") refl,
+            (
+              none (codes "manual") refl,
+              (
+                none (codes "settle") refl,
+                (
+                  none (codes "retry") refl,
+                  (
+                    none (codes "load") refl,
+                    (
+                      none (codes "match") refl,
+                      (
+                        none (codes "raise") refl,
+                        (neither_both (is_there (codes "session") d) (is_there (codes "leave") d) (none (codes "leave") refl), tt),
+                      ),
+                    ),
+                  ),
+                ),
+              ),
+            ),
+          ),
+        ),
+      );
       bare = is_bare d (any_absent known form_members d passed.0 refl passed.1);
     }
 

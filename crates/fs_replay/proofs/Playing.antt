@@ -1,5 +1,5 @@
 -- What was played so far, and what is to be played behind it.
-use Rattle.std.proofs.Common.{◌≡◌, ℕ, Bool, true, false, cond, List, ◌++◌, append_assoc, arith, suc, ◌<◌, ◌-◌, ◌+◌, Some, drop, get_or, length, inl, inr, refl, sym, ap, ◌∙◌, subst}
+use Rattle.std.proofs.Common.{◌≡◌, ℕ, Bool, true, false, cond, List, ◌++◌, append_assoc, arith, suc, ◌<◌, ◌-◌, ◌+◌, Some, drop, get_or, length, inl, inr, sym, ap, ◌∙◌, subst}
 use Rattle.std.specs.Prelude.{◌||◌, is_some, nat_lt, slice_get}
 use Rattle.std.proofs.lemmas.List.{append-nil, at_drop_more}
 use Rattle.std.proofs.lemmas.Option.{slice_get_cases}

@@ -1,5 +1,5 @@
 -- Who has read what some writes touch still has, as long as no transaction ends.
-use Rattle.std.proofs.Common.{◌≡◌, ℕ, ℤ, Bool, true, false, cond, List, [], ◌∷◌, ◌++◌, Some, None, refl, sym, ap, ◌∙◌, subst}
+use Rattle.std.proofs.Common.{◌≡◌, ℕ, ℤ, Bool, true, false, cond, List, [], ◌∷◌, ◌++◌, Some, None, refl, sym, ap, ◌∙◌, subst, pos, negsuc}
 use Rattle.std.specs.Prelude.{◌&&◌, ◌||◌, ◌==◌, nat_lt}
 use Rattle.std.specs.List.{AllByRecursion}
 use Rattle.std.proofs.lemmas.List.Folds.{list_any-append}
@@ -7,7 +7,7 @@ use Rattle.fs_history.specs.Touches.{some_touched, touched}
 use Rattle.fs_history.specs.declared.read.Read.{Read}
 use Rattle.fs_rpc.specs.declared.request.Envelope.{Envelope}
 use Rattle.fs_rpc.specs.declared.request.Request.{Request}
-use Rattle.fs_rpc.specs.declared.request.Request.TheVariants.{Commit, GetDocument, BatchGetDocuments, RunQuery, BeginTransaction, Rollback}
+use Rattle.fs_rpc.specs.declared.request.Request.TheVariants.{Commit, GetDocument, BatchGetDocuments, RunQuery, BeginTransaction, Rollback, AddTarget, RemoveTarget}
 use Rattle.fs_rpc.specs.declared.when.When.{When}
 use Rattle.fs_rpc.specs.declared.when.When.TheVariants.{Released, At, In}
 use Rattle.fs_txn.specs.Transactions.{Transactions, all_noted, changed_at, is_read_write, noted, put_in, with_read}
@@ -20,7 +20,7 @@ use Rattle.fs_machine.specs.State.{Machine}
 use Rattle.fs_machine.specs.declared.answer.Answer.{Answer}
 use Rattle.fs_machine.specs.declared.parked_request.ParkedRequest.{ParkedRequest}
 use Rattle.fs_machine.proofs.Carried.{asked_alone}
-use Rattle.fs_replay.specs.Laws.{ends_one}
+use Rattle.fs_replay.specs.Lines.{ends_one}
 use Rattle.fs_replay.proofs.Becoming.{Becomes, asked_becomes, with_numbers}
 
 -- none of these transactions has read what these writes touch
@@ -84,9 +84,12 @@ carried_on m r (BatchGetDocuments database names mask when) ends = read_on m whe
 carried_on m r (RunQuery database query when) ends = read_on m when (RunQuery database query when)
 carried_on m r (BeginTransaction database options) ends = λ ws none. put_on (λ t. is_reader ws t ≡ false) _ m.txns.open none
 carried_on m r (Rollback database transaction) ends = absurd (cc)
+carried_on m r (AddTarget database target t token) ends = λ ws none. none
+carried_on m r (RemoveTarget database (pos target)) ends = λ ws none. none
+carried_on m r (RemoveTarget database (negsuc target)) ends = λ ws none. none
 
 becomes_on : (m : Machine) (r : ParkedRequest) (n : Machine) (a : Answer) → Becomes m r n a → ends_one r.envelope.request ≡ false → ReadOn m.txns.open n.txns.open
-becomes_on m r n a (Becomes.refused k refusal is told) ends = subst (λ (x : Machine). ReadOn m.txns.open x.txns.open) (sym is) (λ ws none. none)
+becomes_on m r n a (Becomes.refused k is told) ends = subst (λ (x : Machine). ReadOn m.txns.open x.txns.open) (sym is) (λ ws none. none)
 becomes_on m r n a (Becomes.held k by is told behind may) ends = subst (λ (x : Machine). ReadOn m.txns.open x.txns.open) (sym is) (λ ws none. none)
 becomes_on m r n a (Becomes.goes_on k is told goes) ends = subst (λ (x : Machine). ReadOn m.txns.open x.txns.open) (sym is) (carried_on (with_numbers m k) r r.envelope.request ends)
 

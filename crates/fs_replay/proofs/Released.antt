@@ -13,7 +13,7 @@ use Rattle.fs_machine.specs.UnreleasedRise.{RiseFrom, UnreleasedRise}
 use Rattle.fs_machine.specs.declared.unreleased.Unreleased.{Unreleased}
 use Rattle.fs_machine.proofs.Moved.{accepted_goes, none_freed, pending_stays}
 use Rattle.fs_machine.proofs.UnreleasedRise.{free_above, unreleased_advanced, unreleased_prepared, unreleased_released}
-use Rattle.fs_replay.specs.Laws.{IsReleased}
+use Rattle.fs_replay.specs.BetweenLines.{IsReleased}
 
 -- the first of them is pending, if there is one
 abbrev pub StartsPending : List Unreleased → Type 0

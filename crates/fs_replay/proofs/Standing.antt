@@ -6,19 +6,21 @@ use Rattle.fs_rpc.specs.MessageJson.{refused}
 use Rattle.fs_rpc.specs.declared.request.Envelope.{Envelope}
 use Rattle.fs_rpc.specs.declared.request.Request.{Request}
 use Rattle.fs_status.specs.declared.refusal.Refusal.{Refusal}
-use Rattle.fs_txn.specs.Reading.{oldest}
 use Rattle.fs_write.specs.Batch.{Docs}
 use Rattle.fs_write.specs.declared.write.Write.{Write}
 use Rattle.fs_write.specs.declared.write_result.WriteResult.{WriteResult}
 use Rattle.fs_machine.specs.Commit.{next_commit}
-use Rattle.fs_machine.specs.Compact.{compacted}
+use Rattle.fs_machine.specs.Compact.{compacted, first_asked}
 use Rattle.fs_machine.specs.Event.{Event}
 use Rattle.fs_machine.specs.Facts.{Facts}
 use Rattle.fs_machine.specs.Leave.{departed}
 use Rattle.fs_machine.specs.Limits.{AreAllowed}
+use Rattle.fs_machine.specs.Load.{loaded}
+use Rattle.fs_machine.specs.Match.{matched}
 use Rattle.fs_machine.specs.Open.{with_session}
 use Rattle.fs_machine.specs.Outbox.{taken}
 use Rattle.fs_machine.specs.Past.{Past}
+use Rattle.fs_machine.specs.Raise.{raised}
 use Rattle.fs_machine.specs.Release.{all_delivered, replies_out}
 use Rattle.fs_machine.specs.Request.{Decision, answer_by, answered, arrived, asked, carried, decision, retry_refusal}
 use Rattle.fs_machine.specs.Retry.{retried, retry_decision, tried, unparked}
@@ -35,10 +37,12 @@ use Rattle.fs_machine.specs.declared.session.Session.{Session}
 use Rattle.fs_machine.specs.declared.unreleased.Unreleased.{Unreleased}
 use Rattle.fs_machine.proofs.Carried.{carried_rest}
 use Rattle.fs_machine.proofs.Holding.{decision_alike}
+use Rattle.fs_machine.proofs.Listening.{beside_listening, loaded_numbers, loaded_rest, raised_numbers, raised_rest}
 use Rattle.fs_machine.proofs.Runs.{keeps, kept_with_session}
 use Rattle.fs_machine.proofs.SessionsNumbered.{numbers_of, same_numbers}
 use Rattle.fs_replay.specs.Directory.{number_of, without}
-use Rattle.fs_replay.specs.Laws.{IsReleased, is_open, numbers_in, writes_of}
+use Rattle.fs_replay.specs.BetweenLines.{IsReleased, is_open, numbers_in}
+use Rattle.fs_replay.specs.Commits.{writes_of}
 use Rattle.fs_replay.specs.declared.directory.Named.{Named}
 use Rattle.fs_replay.specs.declared.request.Line.{Line}
 use Rattle.fs_replay.specs.declared.request.Line.TheVariants as line
@@ -47,7 +51,7 @@ use Rattle.fs_replay.proofs.Becoming.{Becomes, asked_becomes, with_numbers}
 use Rattle.fs_replay.proofs.Each.{all_more, all_removed}
 use Rattle.fs_replay.proofs.Falling.{retried_is, settled_is, settled_parked}
 use Rattle.fs_replay.proofs.Going.{Goes, carried_goes, passes}
-use Rattle.fs_replay.proofs.Kept.{Keeps, KeepsAll, KeepsAsking, MayAsk, MayRead}
+use Rattle.fs_replay.proofs.Kept.{Keeps, KeepsAll, KeepsAsking, KeepsServing, MayAsk, MayRead}
 use Rattle.fs_replay.proofs.Known.{OfOpen, known_departed, known_more, known_open, of_open_alike, of_open_departed, of_open_more}
 use Rattle.fs_replay.proofs.Released.{compacted_released, prepared_released, owes_nothing}
 
@@ -128,21 +132,42 @@ retried_fits : (ns : List Named) (m : Machine) (place : ℕ) (r : ParkedRequest)
 retried_fits ns m place r is facts fits =
     subst (Fits ns) (sym (retried_is m place r is)) (tried_fits ns m place r (retry_decision m r.envelope.request) refl facts fits)
 
-taken_fits : (ns : List Named) (m : Machine) (number : ℕ) → Fits ns m → Fits ns (taken m number)
-taken_fits ns m number fits =
-    let same = same_numbers m.sessions number (λ ms. []) in
-    record {
+-- all but what sessions listen to and their outboxes stays
+beside_fits : (ns : List Named) (m n : Machine) → n ≡ beside_listening m n → numbers_of n.sessions ≡ numbers_of m.sessions → Fits ns m → Fits ns n
+beside_fits ns m n is same fits =
+    subst (Fits ns) (sym is)
+    (record {
       released = fits.released;
       known = fits.known ∙ sym same;
-      waiting = of_open_alike m.sessions (taken m number).sessions m.parked same fits.waiting;
+      waiting = of_open_alike m.sessions n.sessions m.parked same fits.waiting;
       limits = fits.limits;
-    }
+    })
+
+taken_fits : (ns : List Named) (m : Machine) (number : ℕ) → Fits ns m → Fits ns (taken m number)
+taken_fits ns m number fits = beside_fits ns m (taken m number) refl (same_numbers m.sessions number (λ ms. [])) fits
+
+pub stands_serving : KeepsServing Stands
+stands_serving = record {
+  by_taking = λ s number stands. record { facts = keeps s.server (Event.taking number) stands.facts; fits = taken_fits s.directory s.server number stands.fits };
+  by_loading = λ s number target at stands. record {
+    facts = keeps s.server (Event.loading number target at) stands.facts;
+    fits = beside_fits s.directory s.server (loaded s.server number target at) (loaded_rest s.server number target at) (loaded_numbers s.server number target at) stands.fits;
+  };
+  by_matching = λ s shard to stands. record {
+    facts = keeps s.server (Event.matching shard to) stands.facts;
+    fits = beside_fits s.directory s.server (matched s.server shard to) refl refl stands.fits;
+  };
+  by_raising = λ s number stands. record {
+    facts = keeps s.server (Event.raising number) stands.facts;
+    fits = beside_fits s.directory s.server (raised s.server number) (raised_rest s.server number) (raised_numbers s.server number) stands.fits;
+  };
+}
 
 pub stands_closing : Keeps Stands
 stands_closing = record {
   by_settling = λ s id stands. record { facts = settled_stands s.server id stands.facts; fits = settled_fits s.directory s.server id stands.facts stands.fits };
   by_retrying = λ s place r is stands. record { facts = keeps s.server (Event.retrying place) stands.facts; fits = retried_fits s.directory s.server place r is stands.facts stands.fits };
-  by_taking = λ s number stands. record { facts = keeps s.server (Event.taking number) stands.facts; fits = taken_fits s.directory s.server number stands.fits };
+  serving = stands_serving;
 }
 
 -- ---- a request
@@ -152,7 +177,7 @@ numbered_fits : (ns : List Named) (m : Machine) (k : Numbers) → Fits ns m → 
 numbered_fits ns m k fits = record { released = fits.released; known = fits.known; waiting = fits.waiting; limits = fits.limits }
 
 becomes_fits : (ns : List Named) (m n : Machine) (r : ParkedRequest) (a : Answer) → Facts m → Fits ns m → is_open r.session m.sessions ≡ true → Becomes m r n a → Fits ns n
-becomes_fits ns m n r a facts fits opened (Becomes.refused k refusal is told) = subst (Fits ns) (sym is) (numbered_fits ns m k fits)
+becomes_fits ns m n r a facts fits opened (Becomes.refused k is told) = subst (Fits ns) (sym is) (numbered_fits ns m k fits)
 becomes_fits ns m n r a facts fits opened (Becomes.held k by is told behind may) =
     let waits = all_more (λ (q : ParkedRequest). is_open q.session m.sessions ≡ true) m.parked r fits.waiting opened in
     subst (Fits ns) (sym is) (record { released = fits.released; known = fits.known; waiting = waits; limits = fits.limits })
@@ -191,7 +216,7 @@ ticked_fits ns m now facts fits =
     }
 
 compacted_fits : (ns : List Named) (m : Machine) (to : ℤ) → Fits ns m → Fits ns (compacted m to)
-compacted_fits ns m to fits = record { released = compacted_released m.past (oldest m.txns.open) to fits.released; known = fits.known; waiting = fits.waiting; limits = fits.limits }
+compacted_fits ns m to fits = record { released = compacted_released m.past (first_asked m) to fits.released; known = fits.known; waiting = fits.waiting; limits = fits.limits }
 
 -- any request may be asked
 abbrev pub Any : Request → Type 0
@@ -212,6 +237,9 @@ any_line (line.Leave name) = tt
 any_line (line.Manual on) = tt
 any_line (line.Settle id) = tt
 any_line line.Retry = tt
+any_line (line.Load name target at) = tt
+any_line (line.Match shard) = tt
+any_line (line.Raise name) = tt
 
 pub stands_asking : KeepsAsking Stands Any
 stands_asking = record {

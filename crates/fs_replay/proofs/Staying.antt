@@ -7,7 +7,7 @@ use Rattle.fs_history.specs.Touches.{some_touched}
 use Rattle.fs_history.specs.declared.batch.Batch.{Batch}
 use Rattle.fs_history.specs.declared.read.Read.{Read}
 use Rattle.fs_rpc.specs.declared.request.Request.{Request}
-use Rattle.fs_rpc.specs.declared.request.Request.TheVariants.{Commit, GetDocument, BatchGetDocuments, RunQuery, BeginTransaction, Rollback}
+use Rattle.fs_rpc.specs.declared.request.Request.TheVariants.{Commit, GetDocument, BatchGetDocuments, RunQuery, BeginTransaction, Rollback, AddTarget, RemoveTarget}
 use Rattle.fs_rpc.specs.declared.when.When.{When}
 use Rattle.fs_status.specs.declared.refusal.Refusal.{Refusal}
 use Rattle.fs_txn.specs.Transactions.{is_read_write}
@@ -30,8 +30,10 @@ use Rattle.fs_machine.specs.declared.limits.Limits.{Limits}
 use Rattle.fs_machine.specs.declared.parked_request.ParkedRequest.{ParkedRequest}
 use Rattle.fs_machine.specs.declared.unreleased.Unreleased.{Unreleased}
 use Rattle.fs_machine.proofs.Behind.{none_any}
+use Rattle.fs_machine.proofs.Listening.{beside_listening}
 use Rattle.fs_machine.proofs.TransactionsHold.{none_passes}
-use Rattle.fs_replay.specs.Laws.{IsHeld, IsHeldStill, IsSettled, keeps_waiting, some_keep}
+use Rattle.fs_replay.specs.BetweenLines.{IsHeld, IsHeldStill, IsSettled}
+use Rattle.fs_replay.specs.Lines.{keeps_waiting, some_keep}
 use Rattle.fs_replay.proofs.Going.{passes}
 use Rattle.fs_replay.proofs.Readers.{NoneReads, ReadOn, ReadsOn}
 
@@ -51,6 +53,8 @@ IsKept mode ts (BatchGetDocuments database names mask when) = ⊥
 IsKept mode ts (RunQuery database query when) = ⊥
 IsKept mode ts (BeginTransaction database options) = ⊥
 IsKept mode ts (Rollback database transaction) = ⊥
+IsKept mode ts (AddTarget database target t token) = ⊥
+IsKept mode ts (RemoveTarget database target) = ⊥
 
 reader_on : (mode : Mode) (ts us : List Txn) (ws : List Write) → ReadOn ts us → HasReader mode ts ws → HasReader mode us ws
 reader_on Pessimistic ts us ws on has = λ none. has (on ws none)
@@ -64,6 +68,8 @@ kept_on mode ts us (BatchGetDocuments database names mask when) on kept = kept
 kept_on mode ts us (RunQuery database query when) on kept = kept
 kept_on mode ts us (BeginTransaction database options) on kept = kept
 kept_on mode ts us (Rollback database transaction) on kept = kept
+kept_on mode ts us (AddTarget database target t token) on kept = kept
+kept_on mode ts us (RemoveTarget database target) on kept = kept
 
 -- where no transaction keeps any, it keeps none
 only_read : (ws : List Write) (ts : List Txn) → AllByRecursion (λ t. is_read_write t.kind ≡ false) ts → NoneReads ws ts
@@ -82,6 +88,8 @@ kept_none mode ts (BatchGetDocuments database names mask when) none kept = kept
 kept_none mode ts (RunQuery database query when) none kept = kept
 kept_none mode ts (BeginTransaction database options) none kept = kept
 kept_none mode ts (Rollback database transaction) none kept = kept
+kept_none mode ts (AddTarget database target t token) none kept = kept
+kept_none mode ts (RemoveTarget database target) none kept = kept
 
 -- ---- what is held where no commit is under way
 
@@ -120,6 +128,8 @@ held_kept m (BatchGetDocuments database names mask when) by idle is = reader_fre
 held_kept m (RunQuery database query when) by idle is = reader_free m when (RunQuery database query when) by idle is
 held_kept m (BeginTransaction database options) by idle is = absurd (cc)
 held_kept m (Rollback database transaction) by idle is = absurd (cc)
+held_kept m (AddTarget database target t token) by idle is = absurd (cc)
+held_kept m (RemoveTarget database target) by idle is = absurd (cc)
 
 -- ---- it is held as long as there is room for it
 
@@ -138,6 +148,8 @@ HasRoom l h us last (BatchGetDocuments database names mask when) = ⊤
 HasRoom l h us last (RunQuery database query when) = ⊤
 HasRoom l h us last (BeginTransaction database options) = ⊤
 HasRoom l h us last (Rollback database transaction) = ⊤
+HasRoom l h us last (AddTarget database target t token) = ⊤
+HasRoom l h us last (RemoveTarget database target) = ⊤
 
 pub has_room : (m : Machine) (q : Request) → retry_refusal m q ≡ None → HasRoom m.limits m.past.history m.past.unreleased m.past.last q
 has_room m (Commit database writes None) none = none
@@ -147,6 +159,8 @@ has_room m (BatchGetDocuments database names mask when) none = tt
 has_room m (RunQuery database query when) none = tt
 has_room m (BeginTransaction database options) none = tt
 has_room m (Rollback database transaction) none = tt
+has_room m (AddTarget database target t token) none = tt
+has_room m (RemoveTarget database target) none = tt
 
 -- one that waits is kept, and has room
 pub record StaysOn (m : Machine) (q : Request) : Type 0 where
@@ -189,6 +203,8 @@ stays_held m (BatchGetDocuments database names mask when) stays = absurd stays.k
 stays_held m (RunQuery database query when) stays = absurd stays.kept
 stays_held m (BeginTransaction database options) stays = absurd stays.kept
 stays_held m (Rollback database transaction) stays = absurd stays.kept
+stays_held m (AddTarget database target t token) stays = absurd stays.kept
+stays_held m (RemoveTarget database target) stays = absurd stays.kept
 
 goes_free : (found : Option ℕ) → unless_held found ≡ Decision.goes_on → found ≡ None
 goes_free None goes = refl
@@ -205,6 +221,8 @@ kept_waits m (BatchGetDocuments database names mask when) kept goes = kept
 kept_waits m (RunQuery database query when) kept goes = kept
 kept_waits m (BeginTransaction database options) kept goes = kept
 kept_waits m (Rollback database transaction) kept goes = kept
+kept_waits m (AddTarget database target t token) kept goes = kept
+kept_waits m (RemoveTarget database target) kept goes = kept
 
 -- ---- all that wait
 
@@ -241,10 +259,14 @@ pub all_stay_then : (m n : Machine) (rs : List ParkedRequest) → ReadsOn m n �
 all_stay_then m n [] on past all = tt
 all_stay_then m n (r ∷ rs) on past all = (stays_then m n r.envelope.request on past all.0, all_stay_then m n rs on past all.1)
 
--- a compaction, and a session that leaves, leave that as it is
+-- a compaction, what is done to targets, and a session that leaves, leave that as it is
 pub all_compacted : (m : Machine) (to : ℤ) (rs : List ParkedRequest) → AllStay m rs → AllStay (compacted m to) rs
 all_compacted m to [] all = tt
 all_compacted m to (r ∷ rs) all = (record { kept = all.0.kept; room = all.0.room }, all_compacted m to rs all.1)
+
+pub all_beside : (m n : Machine) (rs : List ParkedRequest) → AllStay m rs → AllStay (beside_listening m n) rs
+all_beside m n [] all = tt
+all_beside m n (r ∷ rs) all = (record { kept = all.0.kept; room = all.0.room }, all_beside m n rs all.1)
 
 pub all_departed : (m : Machine) (number : ℕ) (rs : List ParkedRequest) → AllStay m rs → AllStay (departed m number) rs
 all_departed m number [] all = tt

@@ -6,6 +6,7 @@ use Rattle.fs_replay.specs.Played.{Played, nothing, followed_by}
 use Rattle.fs_replay.specs.Settling.{did_something, left_to_do, settling, tries_all, tries_from, turn, turns}
 use Rattle.fs_replay.specs.declared.state.State.{State}
 use Rattle.fs_replay.proofs.Falling.{nothing_pending}
+use Rattle.fs_replay.proofs.Shown.{shown}
 
 -- what is played behind it, where it did something
 abbrev Behind : ℕ → State → State → Played
@@ -34,6 +35,13 @@ idle_turns s zero idle = refl
 idle_turns s (suc n) idle =
     ap (λ (p : Played). followed_by p (Behind n s)) idle
     ∙ ap (λ b. followed_by (nothing s) (λ t. cond b (turns n s) (nothing s))) (not_itself s)
+
+-- and where nothing is seen of one, nothing is seen of them
+pub quiet_turns : (s : State) (n : ℕ) → shown (turn s) ≡ nothing s → shown (turns n s) ≡ nothing s
+quiet_turns s zero quiet = refl
+quiet_turns s (suc n) quiet =
+    ap (λ (p : Played). shown (followed_by p (Behind n s))) quiet
+    ∙ ap (λ b. shown (followed_by (nothing s) (λ t. cond b (turns n s) (nothing s)))) (not_itself s)
 
 -- ---- enough are as good as more
 

@@ -31,7 +31,7 @@ use Rattle.fs_machine.specs.declared.unreleased.Unreleased.{Unreleased}
 use Rattle.fs_machine.proofs.Behind.{none_any}
 use Rattle.fs_machine.proofs.Carried.{carried_rest}
 use Rattle.fs_machine.proofs.Holding.{decision_alike}
-use Rattle.fs_replay.specs.Laws.{asked_writes, will_be_written, writes_of, writes_read}
+use Rattle.fs_replay.specs.Commits.{asked_writes, will_be_written, writes_of, writes_read}
 use Rattle.fs_replay.specs.Step.{line_played}
 use Rattle.fs_replay.specs.declared.request.Line.{Line}
 use Rattle.fs_replay.specs.declared.request.Line.TheVariants as line
@@ -40,7 +40,7 @@ use Rattle.fs_replay.proofs.Becoming.{Becomes, asked_becomes, with_numbers}
 use Rattle.fs_replay.proofs.Each.{all_at, all_filtered, all_more, all_removed}
 use Rattle.fs_replay.proofs.Falling.{retried_is}
 use Rattle.fs_replay.proofs.Going.{Goes, carried_goes, passes}
-use Rattle.fs_replay.proofs.Kept.{KeepsAll, MayAsk, MayRead, line_kept}
+use Rattle.fs_replay.proofs.Kept.{KeepsAll, MayAsk, MayRead, keeps_beside, line_kept}
 
 -- a law of batches
 abbrev pub Unwritten : Type 0
@@ -142,7 +142,7 @@ module _ (unwritten : Unwritten) (name : DocName) (found : Option Document) wher
       subst (Untouched name found) (sym (retried_is m place r at)) (tried_leaves m place r (retry_decision m r.envelope.request) refl (all_at (WillLeaveIt name) m.parked place r at is.waiting) is)
 
   becomes_leaves : (m n : Machine) (r : ParkedRequest) (a : Answer) → WillLeaveIt name r → Untouched name found m → Becomes m r n a → Untouched name found n
-  becomes_leaves m n r a leaves is (Becomes.refused k refusal same told) = subst (Untouched name found) (sym same) (record { under_way = is.under_way; waiting = is.waiting; stays = is.stays })
+  becomes_leaves m n r a leaves is (Becomes.refused k same told) = subst (Untouched name found) (sym same) (record { under_way = is.under_way; waiting = is.waiting; stays = is.stays })
   becomes_leaves m n r a leaves is (Becomes.held k by same told behind may) =
       let waits = all_more (WillLeaveIt name) m.parked r is.waiting leaves in
       subst (Untouched name found) (sym same) (record { under_way = is.under_way; waiting = waits; stays = is.stays })
@@ -159,7 +159,7 @@ module _ (unwritten : Unwritten) (name : DocName) (found : Option Document) wher
     closes = record {
       by_settling = λ s id is. settled_leaves s.server id is;
       by_retrying = λ s place r at is. retried_leaves s.server place r at is;
-      by_taking = λ s number is. record { under_way = is.under_way; waiting = is.waiting; stays = is.stays };
+      serving = keeps_beside (λ s. Untouched name found s.server) (λ s n is. record { under_way = is.under_way; waiting = is.waiting; stays = is.stays });
     };
     asking = record {
       by_opening = λ s of is. record { under_way = is.under_way; waiting = is.waiting; stays = is.stays };
@@ -192,6 +192,9 @@ may_ask name (line.Leave of) leaves = tt
 may_ask name (line.Manual on) leaves = tt
 may_ask name (line.Settle id) leaves = tt
 may_ask name line.Retry leaves = tt
+may_ask name (line.Load of target at) leaves = tt
+may_ask name (line.Match shard) leaves = tt
+may_ask name (line.Raise of) leaves = tt
 
 pub line_leaves : Unwritten → (name : DocName) (found : Option Document) (s : State) (n : ℕ) (l : Line) → is_written name (asked_writes l) ≡ false → Untouched name found s.server
     → Untouched name found (line_played s n l).state.server

@@ -1,11 +1,11 @@
 -- What waits in outboxes, where one message at most does.
-use Rattle.std.proofs.Common.{◌≡◌, ℕ, Bool, true, false, cond, List, [], ◌∷◌, ◌++◌, refl, sym, ap}
+use Rattle.std.proofs.Common.{◌≡◌, ℕ, Bool, true, false, cond, List, [], ◌∷◌, ◌++◌, refl, sym, ap, subst}
 use Rattle.std.specs.Prelude.{◌==◌, ◌||◌}
 use Rattle.std.specs.List.{AllByRecursion}
 use Rattle.fs_rpc.specs.declared.message.Message.{Message}
-use Rattle.fs_machine.specs.Sessions.{emptied, outbox_in, delivered, without}
+use Rattle.fs_machine.specs.Sessions.{emptied, outbox_in, delivered, with_outbox, without}
 use Rattle.fs_machine.specs.declared.session.Session.{Session}
-use Rattle.fs_replay.specs.Laws.{HasNothing, is_open}
+use Rattle.fs_replay.specs.BetweenLines.{HasNothing, is_open}
 use Rattle.fs_replay.proofs.Known.{apart}
 
 -- ---- where nothing waits
@@ -39,6 +39,21 @@ left_next s ss number false none all more = (none, more)
 pub nothing_left : (ss : List Session) (number : ℕ) → AllByRecursion HasNothing ss → AllByRecursion HasNothing (without number ss)
 nothing_left [] number all = tt
 nothing_left (s ∷ ss) number all = left_next s ss number (s.number == number) all.0 all.1 (nothing_left ss number all.1)
+
+-- ---- where some wait for one session, and are taken
+
+taken_all_next : (s : Session) (ss : List Session) (number : ℕ) (change : List Message → List Message) (b : Bool) → (s.number == number) ≡ b → HasNothing s → AllByRecursion HasNothing ss
+    → AllByRecursion HasNothing (emptied number (with_outbox number change ss))
+    → AllByRecursion HasNothing (emptied number (cond b (record s { outbox = change s.outbox } ∷ ss) (s ∷ with_outbox number change ss)))
+taken_all_next s ss number change true is here all more = rw is (refl, all)
+taken_all_next s ss number change false is here all more = rw is (here, more)
+
+pub taken_all : (ss : List Session) (number : ℕ) (change : List Message → List Message) → AllByRecursion HasNothing ss → AllByRecursion HasNothing (emptied number (with_outbox number change ss))
+taken_all [] number change all = tt
+taken_all (s ∷ ss) number change all = taken_all_next s ss number change (s.number == number) refl all.0 all.1 (taken_all ss number change all.1)
+
+pub taken_none : (ss : List Session) (number : ℕ) → AllByRecursion HasNothing ss → AllByRecursion HasNothing (emptied number ss)
+taken_none ss number all = subst (AllByRecursion HasNothing) (sym (emptied_same ss number (nothing_in ss number all))) all
 
 -- ---- where one message does
 

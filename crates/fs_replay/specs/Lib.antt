@@ -12,6 +12,8 @@ pub mod Step
 pub mod Transcript
 pub mod Run
 pub mod Moved
-pub mod Laws
+pub mod BetweenLines
+pub mod Lines
+pub mod Commits
 pub mod Gathering
 pub mod Tokens

@@ -10,7 +10,7 @@ use Rattle.serde_json.specs.Read.{read}
 use Rattle.fs_path.specs.declared.name.Root.{Root}
 use Rattle.fs_json.specs.Answer.{made}
 use Rattle.fs_json.specs.Members.{is_there}
-use Rattle.fs_json.specs.Scalars.{truth_at}
+use Rattle.fs_json.specs.Scalars.{text_at, truth_at}
 use Rattle.fs_json.specs.Time.{time_at}
 use Rattle.fs_json.specs.declared.bad.Bad.{Bad}
 use Rattle.fs_json.specs.declared.bad.Bad.TheVariants.{At, Method, Memory}
@@ -18,14 +18,14 @@ use Rattle.fs_rpc.specs.Envelope.{session_request_at}
 use Rattle.fs_status.specs.declared.reason.Reason.{Reason}
 use Rattle.fs_status.specs.declared.reason.Reason.TheVariants as reasons
 use Rattle.fs_status.specs.declared.reason.LineFault.TheVariants.{NotAnObject, HasBytes}
-use Rattle.fs_replay.specs.Forms.{id_at, leave_at, sole_as, true_at}
+use Rattle.fs_replay.specs.Forms.{id_at, leave_at, load_at, number_at, sole_as, true_at}
 use Rattle.fs_replay.specs.Limits.{longest_line}
 use Rattle.fs_replay.specs.declared.request.Line.{Line}
 use Rattle.fs_replay.specs.declared.request.Line.TheVariants as line
 
 -- the forms of lines that aren't built, each told by a member, whatever it holds
 abbrev pub unbuilt_forms : List (List ℕ)
-unbuilt_forms = codes "load" ∷ codes "match" ∷ codes "raise" ∷ codes "client" ∷ []
+unbuilt_forms = codes "client" ∷ []
 
 abbrev pub has_any : List (List ℕ) → Data → Bool
 has_any names d = list_any (λ name. is_some (get name d)) names
@@ -69,7 +69,8 @@ without_each (name ∷ names) ms = without_each names (without_member name ms)
 
 -- the members that tell the forms of lines other than requests; `leave` does beside a session
 abbrev pub form_members : List (List ℕ)
-form_members = codes "clock" ∷ codes "compact" ∷ codes "manual" ∷ codes "settle" ∷ codes "retry" ∷ codes "leave" ∷ []
+form_members =
+    codes "clock" ∷ codes "compact" ∷ codes "manual" ∷ codes "settle" ∷ codes "retry" ∷ codes "load" ∷ codes "match" ∷ codes "raise" ∷ codes "leave" ∷ []
 
 -- a line without those members
 abbrev pub bare : Data → Data
@@ -90,6 +91,9 @@ form_at root d =
     else if is_there (codes "manual") d then made line.Manual (sole_as truth_at (codes "manual") d)
     else if is_there (codes "settle") d then made line.Settle (sole_as id_at (codes "settle") d)
     else if is_there (codes "retry") d then made (λ _. line.Retry) (sole_as true_at (codes "retry") d)
+    else if is_there (codes "load") d then sole_as load_at (codes "load") d
+    else if is_there (codes "match") d then made line.Match (sole_as number_at (codes "match") d)
+    else if is_there (codes "raise") d then made line.Raise (sole_as text_at (codes "raise") d)
     else if leaves_session d then made line.Leave (leave_at d)
     else made line.Asked (session_request_at root (bare d))
 

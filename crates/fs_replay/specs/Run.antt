@@ -1,16 +1,24 @@
--- What a run has done when it ends: what it has written, how often its source and its sink have failed, and what it has committed.
-use Rattle.std.specs.Prelude.{◌≡◌, ℕ, List, ◌++◌, Option}
+-- What a run has done when it ends: what it has written, how often its source and its sink have failed, what it has committed, and what
+-- sessions were told.
+use Rattle.std.specs.Prelude.{◌≡◌, ℕ, ℤ, true, List, ◌++◌, Option, Some}
+use Rattle.std.specs.List.{filter_map}
 use Rattle.fs_edge.specs.Count.{one_more, AtMostOneMore}
 use Rattle.fs_edge.specs.declared.status.Status.{Status}
 use Rattle.fs_edge.specs.declared.status.Status.TheVariants as status
 use Rattle.fs_history.specs.Serial.{IsSerial}
+use Rattle.fs_listen.specs.Gathered.{NeverFalls, ended_at, raise_in}
+use Rattle.fs_listen.specs.Laws.{IsOneTime}
+use Rattle.fs_machine.specs.Event.{Event, after}
 use Rattle.fs_machine.specs.Grows.{Grows}
 use Rattle.fs_machine.specs.Past.{Past}
+use Rattle.fs_machine.specs.State.{Machine}
+use Rattle.fs_machine.specs.Told.{is_open, told_in, world_of}
 use Rattle.fs_machine.specs.declared.config.Config.{Config}
 use Rattle.fs_machine.specs.declared.limits.Limits.{Limits}
+use Rattle.fs_query.specs.declared.listen.ListenMessage.{ListenMessage}
 use Rattle.fs_replay.specs.Moved.{Gained, GainedFront}
 use Rattle.fs_replay.specs.Step.{start}
-use Rattle.fs_replay.specs.Transcript.{after_lines, transcript, begun}
+use Rattle.fs_replay.specs.Transcript.{after_lines, begun, events_of, transcript}
 
 -- What the sink has gained of the bytes that were taken. Where the source failed or gave too much, the lines that
 -- have their newline were carried out. Where memory ran out or the sink failed, it has some front of the transcript.
@@ -65,3 +73,23 @@ IsSerialThroughout config limits lines = (front back : List (List ℕ)) → line
 -- and what stood then at a time that was released stands there for good.
 abbrev pub GrowsThroughout : Config → Limits → List (List ℕ) → Type 0
 GrowsThroughout config limits lines = (front back : List (List ℕ)) → lines ≡ front ++ back → Grows (past_after config limits front) (past_after config limits lines)
+
+-- ---- what sessions are told of their targets
+
+-- the server after events of a run, and all that a session was told of its targets by then
+abbrev pub server_after : Config → Limits → List Event → Machine
+server_after config limits events = after (start config limits).server events
+
+abbrev pub told_by_then : Config → Limits → List Event → ℕ → List ListenMessage
+told_by_then config limits events session = told_in (start config limits).server events session
+
+-- Wherever the events of a run are cut, and what a session was told by then ends with NO_CHANGE, whoever gathered all of it has just the views
+-- of all its targets at that time; and none of these times is below one before it. The server is after all events where it is after the lines.
+pub record CutsThroughout (config : Config) (limits : Limits) (lines : List (List ℕ)) : Type 0 where
+  pub server : (after_lines (start config limits) 1 lines).server ≡ server_after config limits (events_of (start config limits) 1 lines)
+  pub cuts : (front back : List Event) (session : ℕ) (time : ℤ) → events_of (start config limits) 1 lines ≡ front ++ back
+      → is_open session (server_after config limits front).sessions ≡ true → ended_at (told_by_then config limits front session) ≡ Some time
+      → IsOneTime (world_of (server_after config limits front) session (told_by_then config limits front session)) time
+  pub times : (front back : List Event) (session : ℕ) → events_of (start config limits) 1 lines ≡ front ++ back
+      → is_open session (server_after config limits front).sessions ≡ true
+      → NeverFalls (filter_map raise_in (told_by_then config limits front session))

@@ -15,32 +15,44 @@
 --     turn 1    the one that waits goes on as 2
 --     turn 2    2 is settled
 --     turn 3    nothing
-use Rattle.std.specs.Prelude.{ℕ, ◌+◌, ◌*◌, Bool, true, false, nat_lt, suc, zero, List, [], length, Option, Some, None, slice_get, if◌then◌else◌}
+--
+-- Then each target that isn't loaded is loaded, the sessions in the order of opening, each shard is matched up to what is released, and each
+-- session is raised. So each session is told what the line changed of its targets, and there is nothing left to do.
+use Rattle.std.specs.Prelude.{ℕ, ◌+◌, ◌*◌, Bool, true, false, nat_lt, not, suc, zero, List, [], ◌∷◌, length, map, Option, Some, None, slice_get, if◌then◌else◌}
+use Rattle.std.specs.FinMap.{entries}
 use Rattle.std.specs.List.{count_by}
 use Rattle.std.specs.Option.{option_map_or}
+use Rattle.fs_listen.specs.Cuts.{first_loading, is_loaded}
+use Rattle.fs_listen.specs.Listening.{Listened}
+use Rattle.fs_machine.specs.Event.{Event}
+use Rattle.fs_machine.specs.Listen.{listening_of}
+use Rattle.fs_machine.specs.Outbox.{outbox_of}
 use Rattle.fs_machine.specs.Past.{is_pending}
 use Rattle.fs_machine.specs.Pending.{next_pending}
-use Rattle.fs_machine.specs.Retry.{retried, retry_answer, tried_answer}
-use Rattle.fs_machine.specs.Settle.{settled}
+use Rattle.fs_machine.specs.Retry.{retry_answer, tried_answer}
 use Rattle.fs_machine.specs.State.{Machine}
 use Rattle.fs_machine.specs.declared.answer.Answer.{Answer}
 use Rattle.fs_machine.specs.declared.answer.Answer.TheVariants.{Reply, Prepared, Held, Refused}
 use Rattle.fs_machine.specs.declared.parked_request.ParkedRequest.{ParkedRequest}
 use Rattle.fs_replay.specs.Directory.{name_of}
-use Rattle.fs_replay.specs.Outboxes.{drained, drain_output, reply_output}
-use Rattle.fs_replay.specs.Played.{Played, nothing, followed_by}
+use Rattle.fs_replay.specs.Outboxes.{drained, drain_output, message_lines, reply_output}
+use Rattle.fs_replay.specs.Played.{Played, followed_by, happens, nothing}
 use Rattle.fs_replay.specs.declared.directory.Named.{Named}
 use Rattle.fs_replay.specs.declared.state.State.{State}
 
 -- the outboxes are emptied
 abbrev pub emptied : State → Played
-emptied s = record { state = record s { server = drained s.directory s.server }; output = drain_output s.directory s.server }
+emptied s = record {
+  state = record s { server = drained s.directory s.server };
+  output = drain_output s.directory s.server;
+  events = map (λ n. Event.taking n.number) s.directory;
+}
 
 -- ---- commits
 
 -- a commit is settled
 abbrev pub settles : State → ℕ → Played
-settles s id = emptied (record s { server = settled s.server id })
+settles s id = followed_by (followed_by (happens s (Event.deciding id) []) (λ t. happens t Event.releasing [])) emptied
 
 abbrev pub settles_if : State → Option ℕ → Played
 settles_if s None = nothing s
@@ -58,7 +70,7 @@ retry_output ns r answer = option_map_or (λ name. reply_output name r.envelope.
 
 abbrev pub tries_it : State → ℕ → ParkedRequest → Played
 tries_it s place r =
-    followed_by (record { state = record s { server = retried s.server place }; output = retry_output s.directory r (tried_answer s.server r) }) emptied
+    followed_by (happens s (Event.retrying place) (retry_output s.directory r (tried_answer s.server r))) emptied
 
 abbrev pub tries_if : State → ℕ → Option ParkedRequest → Played
 tries_if s place None = nothing s
@@ -109,10 +121,58 @@ turns (suc n) s = followed_by (turn s) (λ t. if did_something s t then turns n 
 abbrev pub settling : State → Played
 settling s = turns (left_to_do s.server) s
 
+-- ---- targets
+
+-- a session's messages are taken, where no other has any
+abbrev pub tells : Named → State → Played
+tells n s = happens s (Event.taking n.number) (message_lines n.name (outbox_of s.server n.number))
+
+-- a target of a session is loaded, at what is released
+abbrev pub loads_one : Named → ℕ → State → Played
+loads_one n id s = followed_by (happens s (Event.loading n.number id None) []) (tells n)
+
+-- how many of a session's aren't
+abbrev pub unloaded_count : Machine → ℕ → ℕ
+unloaded_count m number = count_by (λ (e : ℕ × Listened). not (is_loaded e.1.loaded)) (entries (listening_of m number).targets)
+
+-- the first of them, and then others
+abbrev pub loads_next : Named → State → (State → Played) → Option ℕ → Played
+loads_next n s others None = nothing s
+loads_next n s others (Some id) = followed_by (loads_one n id s) others
+
+-- so many of them, by their ids
+abbrev pub loads_from : ℕ → Named → State → Played
+loads_from zero n s = nothing s
+loads_from (suc k) n s = loads_next n s (loads_from k n) (first_loading (entries (listening_of s.server n.number).targets))
+
+abbrev pub loads_of : Named → State → Played
+loads_of n s = loads_from (unloaded_count s.server n.number) n s
+
+-- those of each session
+abbrev pub loads_each : List Named → State → Played
+loads_each [] s = nothing s
+loads_each (n ∷ ns) s = followed_by (loads_of n s) (loads_each ns)
+
+-- so many shards are matched up to what is released, from one on
+abbrev pub matches_from : ℕ → ℕ → State → Played
+matches_from zero shard s = nothing s
+matches_from (suc k) shard s = followed_by (happens s (Event.matching shard s.server.past.released) []) (matches_from k (shard + 1))
+
+abbrev pub matches_all : State → Played
+matches_all s = matches_from s.server.config.shards 0 s
+
+abbrev pub raises_each : List Named → State → Played
+raises_each [] s = nothing s
+raises_each (n ∷ ns) s = followed_by (followed_by (happens s (Event.raising n.number) []) (tells n)) (raises_each ns)
+
+-- all of it
+abbrev pub serves : State → Played
+serves s = followed_by (followed_by (loads_each s.directory s) matches_all) (λ t. raises_each t.directory t)
+
 -- ---- after each line
 
 abbrev pub unless_by_hand : State → Played
-unless_by_hand s = if s.manual then nothing s else settling s
+unless_by_hand s = if s.manual then nothing s else followed_by (settling s) serves
 
 abbrev pub closed : State → Played
 closed s = followed_by (emptied s) unless_by_hand

@@ -1,6 +1,11 @@
 //! Calls of the server that may want memory, which ends a run.
-ghost use Rattle.std.specs.Prelude.{◌≡◌, ◌<◌, IfOk, IsSome, OnOk, Some, length};
+ghost use Rattle.std.specs.Prelude.{◌≡◌, ◌≢◌, ◌<◌, IfOk, IsSome, OnOk, Some, length};
+ghost use Rattle.fs_status.specs.Refusal.{refusal_of};
+ghost use Rattle.fs_status.specs.declared.reason.Reason.TheVariants.{Memory};
+ghost use Rattle.fs_machine.specs.Load.{load_refusal, loaded};
+ghost use Rattle.fs_machine.specs.Match.{matched};
 ghost use Rattle.fs_machine.specs.Open.{open_answer, opened};
+ghost use Rattle.fs_machine.specs.Raise.{raised};
 ghost use Rattle.fs_machine.specs.Request.{answered, asked};
 ghost use Rattle.fs_machine.specs.Retry.{retried, retry_answer};
 ghost use Rattle.fs_machine.specs.Settle.{pending_of, settled};
@@ -8,6 +13,7 @@ ghost use Rattle.fs_machine.specs.Settle.{pending_of, settled};
 use fs_rpc::Envelope;
 use fs_server::{Answer, Server, Settled};
 use fs_status::{Id, Reason, Refusal};
+use fs_time::Micros;
 use std::alloc::{AllocError, Global};
 
 /// Opens a session.
@@ -59,6 +65,53 @@ pub fn retry(alloc: Global, server: &mut Server, place: u64) -> Result<Answer, A
         return Err(AllocError);
     }
     Ok(answer)
+}
+
+/// Loads a target of a session: why it isn't loaded, if it isn't.
+pub fn load(
+    alloc: Global,
+    server: &mut Server,
+    session: u32,
+    target: u32,
+    at: Option<Micros>,
+) -> Result<Option<Refusal>, AllocError>
+    ensures told { IfOk result (λ r. r ≡ load_refusal server.old session target at) }
+    ensures state { OnOk result (server.new ≡ loaded server.old session target at) }
+{
+    match server.load(alloc, session, target, at) {
+        Ok(()) => Ok(None),
+        Err(refusal) => unless_memory(refusal),
+    }
+}
+
+fn unless_memory(refusal: Refusal) -> Result<Option<Refusal>, AllocError>
+    ensures told { IfOk result (λ r. r ≡ Some refusal) }
+    ensures other { OnOk result (refusal ≢ refusal_of Memory) }
+{
+    if let Reason::Memory = &refusal.reason {
+        drop(refusal);
+        return Err(AllocError);
+    }
+    Ok(Some(refusal))
+}
+
+/// Matches a shard, up to what is released.
+pub fn match_shard(alloc: Global, server: &mut Server, shard: u32) -> Result<(), AllocError>
+    requires { shard < server.old.config.shards }
+    ensures { OnOk result (server.new ≡ matched server.old shard server.old.past.released) }
+{
+    let (events, to) = server.events(alloc, shard)?;
+    let done = server.feed(alloc, shard, &events, to);
+    drop(events);
+    done
+}
+
+/// Raises a session.
+pub fn raise(alloc: Global, server: &mut Server, session: u32) -> Result<(), AllocError>
+    ensures { OnOk result (server.new ≡ raised server.old session) }
+{
+    let _ = server.raise(alloc, session)?;
+    Ok(())
 }
 
 /// Settles a pending commit.

@@ -12,13 +12,14 @@ use crate::ask::say_answer;
 use crate::calls::{retry, settle};
 use crate::directory::{Directory, Named};
 use crate::reply::say_all;
+use crate::serve::serve;
 use crate::state::State;
 use fs_server::{Answer, Parked, Server};
 use fs_status::Id;
 use std::alloc::{AllocError, Global};
 
 /// The outboxes are emptied. Unless the script settles by hand, commits are settled then, and requests that wait are tried again, until
-/// nothing is left to do.
+/// nothing is left to do; and then sessions are told what changed of their targets.
 pub fn close(alloc: Global, state: &mut State, out: &mut Vec<u8>) -> Result<(), AllocError>
     ensures { OnOk result (Plays (closed state.old) state.new out.old.items out.new.items) }
 {
@@ -26,7 +27,8 @@ pub fn close(alloc: Global, state: &mut State, out: &mut Vec<u8>) -> Result<(), 
     if state.manual {
         return Ok(());
     }
-    settle_all(alloc, state, out)
+    settle_all(alloc, state, out)?;
+    serve(alloc, state, out)
 }
 
 // Turns are made until one does nothing.
@@ -128,8 +130,8 @@ fn say_tried(
     }
 }
 
-// Empties the outboxes, and writes what they held.
-fn empty(alloc: Global, state: &mut State, out: &mut Vec<u8>) -> Result<(), AllocError>
+/// Empties the outboxes, and writes what they held.
+pub fn empty(alloc: Global, state: &mut State, out: &mut Vec<u8>) -> Result<(), AllocError>
     ensures { OnOk result (Plays (emptied state.old) state.new out.old.items out.new.items) }
 {
     drain(alloc, &mut state.server, state.directory.as_slice(), out)

@@ -37,7 +37,7 @@ impl Model for Directory {
 }
 
 impl Directory {
-    ghost use Rattle.std.specs.Prelude.{◌≡◌, ◌∷◌, ◌++◌, OnOk, [], option_map};
+    ghost use Rattle.std.specs.Prelude.{◌≡◌, ◌∷◌, ◌++◌, OnOk, [], length, option_map};
     ghost use Rattle.fs_replay.specs.Directory.{name_of, number_of, without};
 
     /// No sessions. The allocator serves those that come.
@@ -53,6 +53,13 @@ impl Directory {
         ensures { result.now ≡ self.now }
     {
         self.items.as_slice()
+    }
+
+    /// How many are open.
+    pub fn len(&self) -> usize
+        ensures { result ≡ length self.now }
+    {
+        self.items.len()
     }
 
     /// The number of the session of a name, if it is open.

@@ -14,8 +14,10 @@ ghost use Rattle.fs_rpc.specs.declared.message.Message.TheVariants as message;
 ghost use Rattle.fs_rpc.specs.declared.request.Request.TheVariants.{GetDocument};
 ghost use Rattle.fs_rpc.specs.declared.when.When.TheVariants.{Released};
 ghost use Rattle.fs_value.specs.declared.document.Document.{Document};
-ghost use Rattle.fs_replay.specs.Laws.{IsBetweenLines, IsOneLine, is_answered, is_commit, is_silent, is_written_in, keeps_waiting, line_in_state, may_let_on, may_move, will_be_written};
-ghost use Rattle.fs_replay.specs.Run.{GrowsThroughout, IsSerialThroughout};
+ghost use Rattle.fs_replay.specs.BetweenLines.{IsBetweenLines};
+ghost use Rattle.fs_replay.specs.Commits.{is_commit, is_written_in, may_move, will_be_written};
+ghost use Rattle.fs_replay.specs.Lines.{IsOneLine, is_answered, is_silent, keeps_waiting, line_in_state, may_let_on, nobody_listens};
+ghost use Rattle.fs_replay.specs.Run.{CutsThroughout, GrowsThroughout, IsSerialThroughout};
 ghost use Rattle.fs_replay.specs.Step.{after_line, line_output, start};
 ghost use Rattle.fs_replay.specs.Transcript.{after_lines, transcript};
 ghost use Rattle.fs_replay.specs.declared.state.State.{State};
@@ -26,8 +28,8 @@ use fs_write::batches_are_lawful;
 /// The laws of scripts, as a user sees them. (Those of settling in any order are laws of the server, `machines_are_lawful`.)
 pub fn scripts_are_lawful()
     // Before the first line and after each, nothing waits to be told, each accepted commit that isn't released waits for an earlier one,
-    // and what stands at every moment of a server stands. Unless the script settles by hand, no commit is under way, and whatever waits is
-    // held still by a transaction that is open.
+    // and what stands at every moment of a server stands. Unless the script settles by hand, no commit is under way, whatever waits is held
+    // still by a transaction that is open, and each session was told all of its targets.
     ensures starts { (config : Config) (limits : Limits) → AreAllowed limits → IsBetweenLines (start config limits) }
     ensures between { (s : State) (n : ℕ) (line : List ℕ) → IsBetweenLines s → IsBetweenLines (after_line s n line) }
     // So nothing waits then but in pessimistic mode, where a transaction is open that reads and writes.
@@ -42,6 +44,8 @@ pub fn scripts_are_lawful()
     ensures runs_grow { (config : Config) (limits : Limits) (lines : List (List ℕ)) → AreAllowed limits → GrowsThroughout config limits lines }
     ensures runs_are_serial { (config : Config) (limits : Limits) (lines : List (List ℕ)) → AreAllowed limits
         → IsSerialThroughout config limits lines }
+    // What a session was told is, wherever it ends with NO_CHANGE, just the views of all its targets at one time.
+    ensures runs_cut { (config : Config) (limits : Limits) (lines : List (List ℕ)) → AreAllowed limits → CutsThroughout config limits lines }
     // A line leaves what was committed and its times as they are that asks for no commit, or for one that is refused, aborted or waits,
     // lets no other request go on by ending a transaction, and is none of the clock, of compactions and of settling.
     ensures unmoved { (s : State) (n : ℕ) (line : List ℕ) → IsBetweenLines s → may_move s (line_in_state s line) ≡ false
@@ -56,12 +60,13 @@ pub fn scripts_are_lawful()
         → will_be_written name s.server ≡ false → is_written_in name s n lines ≡ false
         → get (whole (after_lines s n lines).server.past.history) name ≡ get (whole s.server.past.history) name }
     // Unless the script settles by hand or an open transaction may keep commits waiting, each request, and each line that isn't read, gives
-    // exactly one line; and also where one may, if nothing waits before the line and after it. In any case an empty line and those of
-    // compactions and that begin settling by hand give none, and those of the clock where nothing waits, or the script settles by hand.
+    // exactly one line, where no session has a target afterwards; and also where one may, if nothing waits before the line and after it. In any
+    // case an empty line and those of compactions and that begin settling by hand give none, and those of the clock where nothing waits and no
+    // session has a target, or the script settles by hand.
     ensures one_line { (s : State) (n : ℕ) (line : List ℕ) → IsBetweenLines s → s.manual ≡ false → keeps_waiting s.server ≡ false
-        → is_answered (line_in_state s line) ≡ true → IsOneLine (line_output s n line) }
+        → nobody_listens (after_line s n line).server ≡ true → is_answered (line_in_state s line) ≡ true → IsOneLine (line_output s n line) }
     ensures at_once { (s : State) (n : ℕ) (line : List ℕ) → IsBetweenLines s → s.manual ≡ false → s.server.parked ≡ []
-        → (after_line s n line).server.parked ≡ [] → is_answered (line_in_state s line) ≡ true → IsOneLine (line_output s n line) }
+        → (after_line s n line).server.parked ≡ [] → nobody_listens (after_line s n line).server ≡ true → is_answered (line_in_state s line) ≡ true → IsOneLine (line_output s n line) }
     ensures no_line { (s : State) (n : ℕ) (line : List ℕ) → IsBetweenLines s → is_silent s (line_in_state s line) ≡ true
         → line_output s n line ≡ [] }
     // A read without a mask is answered with the document that stands. (That messages are read back is a clause of those that

@@ -21,6 +21,7 @@ mod reads_line;
 mod reply;
 mod request;
 mod script;
+mod serve;
 mod state;
 mod step;
 

@@ -5,7 +5,9 @@ ghost use Rattle.fs_json.specs.Answer.{Gives};
 ghost use Rattle.fs_rpc.specs.Envelope.{session_request_at};
 ghost use Rattle.fs_replay.specs.Line.{bare, form_at, form_of, has_any, is_unbuilt_form, IsFault, json_of, leaves_session, line_of, line_reason, without_each, without_member};
 
-use crate::forms::{LEAVE, SESSION, id_in, leaving_in, time_in, true_in, truth_in};
+use crate::forms::{
+    LEAVE, SESSION, id_in, leaving_in, load_in, number_in, text_in, time_in, true_in, truth_in,
+};
 use crate::limits::LONGEST_LINE;
 use crate::request::Line;
 use fs_json::{Bad, is_there};
@@ -16,8 +18,8 @@ use serde_json::{Map, Value};
 use std::alloc::{AllocError, Global};
 use std::mem;
 
-/// The forms of lines that aren't built, each told by a member.
-const UNBUILT_FORMS: [&str; 4] = ["load", "match", "raise", "client"];
+/// The form of lines that isn't built, told by a member.
+const UNBUILT_FORMS: [&str; 1] = ["client"];
 
 // The members that tell the other forms.
 const CLOCK: &str = "clock";
@@ -30,8 +32,16 @@ const SETTLE: &str = "settle";
 
 const RETRY: &str = "retry";
 
+const LOAD: &str = "load";
+
+const MATCH: &str = "match";
+
+const RAISE: &str = "raise";
+
 // All of them: `leave` tells one beside a session.
-const FORM_MEMBERS: [&str; 6] = [CLOCK, COMPACT, MANUAL, SETTLE, RETRY, LEAVE];
+const FORM_MEMBERS: [&str; 9] = [
+    CLOCK, COMPACT, MANUAL, SETTLE, RETRY, LOAD, MATCH, RAISE, LEAVE,
+];
 
 // Whether an object has a member of one of these names, whatever it holds.
 fn has_any(v: &Value, names: &[&str]) -> bool
@@ -133,6 +143,15 @@ fn form_in(alloc: Global, root: &Root, v: &mut Value) -> Result<Line, Bad>
     if is_there(v, RETRY) {
         true_in(alloc, v, RETRY)?;
         return Ok(Line::Retry);
+    }
+    if is_there(v, LOAD) {
+        return load_in(alloc, v, LOAD);
+    }
+    if is_there(v, MATCH) {
+        return Ok(Line::Match(number_in(alloc, v, MATCH)?));
+    }
+    if is_there(v, RAISE) {
+        return Ok(Line::Raise(text_in(alloc, v, RAISE)?));
     }
     if leaves_session(v) {
         return Ok(Line::Leave(leaving_in(alloc, v)?));

@@ -27,4 +27,14 @@ pub enum Line {
     Settle(Id),
     /// Each request that waits is tried again.
     Retry,
+    /// A target of the session of a name is loaded, at a time or at what is released.
+    Load {
+        session: Text,
+        target: u32,
+        at: Option<Micros>,
+    },
+    /// A shard is matched.
+    Match(u32),
+    /// The session of this name is raised.
+    Raise(Text),
 }

@@ -5,7 +5,7 @@ ghost use Rattle.fs_machine.specs.Config.{IsAllowed};
 ghost use Rattle.fs_machine.specs.Limits.{AreAllowed};
 ghost use Rattle.fs_replay.specs.Limits.{longest_input};
 ghost use Rattle.fs_replay.specs.Moved.{TakenUpTo, IfTaken, Gained, GainedFront};
-ghost use Rattle.fs_replay.specs.Run.{Ends, GrowsThroughout, IsSerialThroughout, ReadFaults, WriteFaults, Wrote};
+ghost use Rattle.fs_replay.specs.Run.{CutsThroughout, Ends, GrowsThroughout, IsSerialThroughout, ReadFaults, WriteFaults, Wrote};
 ghost use Rattle.fs_replay.specs.Transcript.{lines_of, transcript};
 
 use crate::gather::gather;
@@ -46,6 +46,10 @@ pub fn replay<S: Source, K: Sink>(
     // there for good.
     ensures serial { IfTaken (S.left source.old) (S.left source.new) (λ taken. IsSerialThroughout config limits (lines_of taken)) }
     ensures grows { IfTaken (S.left source.old) (S.left source.new) (λ taken. GrowsThroughout config limits (lines_of taken)) }
+
+    // Wherever their events are cut, and what a session was told by then ends with NO_CHANGE, whoever gathered all of it has just the views of
+    // all its targets at that one time, which never falls.
+    ensures cuts { IfTaken (S.left source.old) (S.left source.new) (λ taken. CutsThroughout config limits (lines_of taken)) }
 
     // Where that is nothing, the sink isn't asked.
     ensures unasked { IfTaken (S.left source.old) (S.left source.new) (λ taken. transcript config limits taken ≡ [] → sink.new ≡ sink.old) }

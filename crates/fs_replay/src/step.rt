@@ -1,19 +1,20 @@
 //! What one line does: to the server and its sessions, and to the output.
 ghost use Rattle.std.specs.Prelude.{◌≡◌, ◌++◌, OnOk};
-ghost use Rattle.fs_machine.specs.Compact.{compacted};
 ghost use Rattle.fs_machine.specs.Tick.{later};
 ghost use Rattle.fs_status.specs.declared.reason.LineFault.TheVariants.{DoesNotApply};
 ghost use Rattle.fs_status.specs.declared.reason.Reason.TheVariants as reasons;
 ghost use Rattle.fs_replay.specs.Directory.{number_of};
 ghost use Rattle.fs_replay.specs.Played.{Plays};
-ghost use Rattle.fs_replay.specs.Step.{after_line, clocked, error_line, leaves, line_output, line_played, settles_by_hand, tries_by_hand};
+ghost use Rattle.fs_replay.specs.Step.{after_line, clocks, error_line, leaves, line_output, line_played, loads_by_hand, matches_by_hand, raises_by_hand, settles_by_hand, tries_by_hand};
 ghost use Rattle.fs_replay.specs.Settling.{closed};
 
 use crate::ask::ask_in_session;
-use crate::close::{close, settle_one, try_all};
+use crate::calls::{match_shard, raise};
+use crate::close::{close, empty, settle_one, try_all};
 use crate::line::read_line;
 use crate::reply::{say_error, say_refused};
 use crate::request::Line;
+use crate::serve::load_target;
 use crate::state::State;
 use fs_rpc::{SessionRequest, error_json};
 use fs_status::{Code, Id, LineFault, Reason};
@@ -33,7 +34,7 @@ fn clock(
     time: Micros,
     out: &mut Vec<u8>,
 ) -> Result<(), AllocError>
-    ensures { OnOk result (Plays (closed (clocked state.old time)) state.new out.old.items out.new.items) }
+    ensures { OnOk result (Plays (clocks state.old time) state.new out.old.items out.new.items) }
 {
     let now = later(state.moment, time);
     state.server.tick(alloc, now)?;
@@ -47,8 +48,7 @@ fn compact(
     time: Micros,
     out: &mut Vec<u8>,
 ) -> Result<(), AllocError>
-    ensures { OnOk result (Plays (closed (record state.old { server = compacted state.old.server time }))
-        state.new out.old.items out.new.items) }
+    ensures { OnOk result (Plays (line_played state.old 0 (Line.Compact time)) state.new out.old.items out.new.items) }
 {
     let _ = state.server.compact(time);
     close(alloc, state, out)
@@ -120,6 +120,67 @@ fn retry(alloc: Global, state: &mut State, number: u64, out: &mut Vec<u8>) -> Re
     }
 }
 
+// The target of a session is loaded, unless it is loaded.
+fn load_named(
+    alloc: Global,
+    state: &mut State,
+    number: u64,
+    name: &str,
+    target: u32,
+    at: Option<Micros>,
+    out: &mut Vec<u8>,
+) -> Result<(), AllocError>
+    ensures { OnOk result (Plays (loads_by_hand state.old number name.now target at) state.new out.old.items out.new.items) }
+{
+    if !state.manual {
+        return say_does_not_apply(alloc, number, out);
+    }
+    match state.directory.number_of(name) {
+        Some(session) if state.server.is_loaded(session, target) != Some(true) => {
+            load_target(alloc, state, name, session, target, at, out)
+        }
+        _ => say_does_not_apply(alloc, number, out),
+    }
+}
+
+fn match_by_hand(
+    alloc: Global,
+    state: &mut State,
+    number: u64,
+    shard: u32,
+    out: &mut Vec<u8>,
+) -> Result<(), AllocError>
+    ensures { OnOk result (Plays (matches_by_hand state.old number shard) state.new out.old.items out.new.items) }
+{
+    if state.manual && shard < state.server.shards() {
+        match_shard(alloc, &mut state.server, shard)?;
+        empty(alloc, state, out)
+    } else {
+        say_does_not_apply(alloc, number, out)
+    }
+}
+
+fn raise_named(
+    alloc: Global,
+    state: &mut State,
+    number: u64,
+    name: &str,
+    out: &mut Vec<u8>,
+) -> Result<(), AllocError>
+    ensures { OnOk result (Plays (raises_by_hand state.old number name.now) state.new out.old.items out.new.items) }
+{
+    if !state.manual {
+        return say_does_not_apply(alloc, number, out);
+    }
+    match state.directory.number_of(name) {
+        Some(session) => {
+            raise(alloc, &mut state.server, session)?;
+            empty(alloc, state, out)
+        }
+        None => say_does_not_apply(alloc, number, out),
+    }
+}
+
 fn request(
     alloc: Global,
     state: &mut State,
@@ -157,6 +218,13 @@ fn carry_out_read(
         Line::Manual(manual) => settle_by_hand(alloc, state, manual, out),
         Line::Settle(commit) => settle_named(alloc, state, number, commit, out),
         Line::Retry => retry(alloc, state, number, out),
+        Line::Load {
+            session,
+            target,
+            at,
+        } => load_named(alloc, state, number, session.as_str(), target, at, out),
+        Line::Match(shard) => match_by_hand(alloc, state, number, shard, out),
+        Line::Raise(name) => raise_named(alloc, state, number, name.as_str(), out),
     }
 }
 

@@ -25,6 +25,7 @@ greatest_allowed = record {
   writes = omega arith;
   outbox = omega arith;
   sessions = omega arith;
+  targets = omega arith;
   transactions = omega arith;
   parked = omega arith;
   batches = omega arith;

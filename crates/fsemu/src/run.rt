@@ -3,7 +3,7 @@ ghost use Rattle.std.specs.Prelude.{◌≡◌, ◌≢◌, ◌↔◌, ◌⊎◌, 
 ghost use Rattle.fs_machine.specs.Limits.{greatest};
 ghost use Rattle.fs_replay.specs.Limits.{longest_input};
 ghost use Rattle.fs_replay.specs.Moved.{TakenUpTo, IfTaken, Gained};
-ghost use Rattle.fs_replay.specs.Run.{Ends, GrowsThroughout, IsSerialThroughout, ReadFaults, WriteFaults, Wrote};
+ghost use Rattle.fs_replay.specs.Run.{CutsThroughout, Ends, GrowsThroughout, IsSerialThroughout, ReadFaults, WriteFaults, Wrote};
 ghost use Rattle.fs_replay.specs.Transcript.{lines_of, transcript};
 ghost use Rattle.fsemu.specs.Words.{IfAsked, IsCommand};
 
@@ -50,6 +50,11 @@ pub fn run<Rt, S: Source, K: Sink, D: Doors, C: Clock>(
         IsSerialThroughout config greatest (lines_of taken))) }
     ensures grows { IfAsked (map string_bytes words.now) (λ config. IfTaken (S.left source.old) (S.left source.new) (λ taken.
         GrowsThroughout config greatest (lines_of taken))) }
+
+    // Wherever their events are cut, and what a session was told by then ends with NO_CHANGE, whoever gathered all of it has just the views of
+    // all its targets at that one time, which never falls.
+    ensures cuts { IfAsked (map string_bytes words.now) (λ config. IfTaken (S.left source.old) (S.left source.new) (λ taken.
+        CutsThroughout config greatest (lines_of taken))) }
 
     // Where that is nothing, the sink isn't asked.
     ensures unasked { IfAsked (map string_bytes words.now) (λ config. IfTaken (S.left source.old) (S.left source.new) (λ taken.

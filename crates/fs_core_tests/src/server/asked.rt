@@ -1,6 +1,7 @@
 //! Requests as steps write them.
 use crate::short::{cut, moment, name_of, query, root, writes};
-use fs_path::Names;
+use crate::targets::session::target_of;
+use fs_path::{Bytes, Names};
 use fs_rpc::{Request, TransactionOptions, When};
 use fs_status::Id;
 use fs_time::Micros;
@@ -100,6 +101,30 @@ fn begin(rt: &impl Abort, alloc: Global, text: &str) -> Request {
     }
 }
 
+// A target and its id, as `1 names c/a d/a` or `1 query c`, with the token of a time, as `1 query c from 2`.
+fn add_target(rt: &impl Abort, alloc: Global, text: &str) -> Request {
+    let (text, from) = cut(text, " from ");
+    let (id, text) = cut(text, " ");
+    let (kind, text) = cut(text, " ");
+    let token = time_of(rt, from).map(|time| Bytes::from_slice(
+        alloc,
+        &fs_token::write(time),
+    ).expect(rt, "memory"));
+    Request::AddTarget {
+        database: root(rt, alloc),
+        id: id.parse::<u32>().expect(rt, "an id"),
+        target: target_of(rt, alloc, kind, text),
+        token,
+    }
+}
+
+fn remove_target(rt: &impl Abort, alloc: Global, text: &str) -> Request {
+    Request::RemoveTarget {
+        database: root(rt, alloc),
+        id: text.parse::<i32>().expect(rt, "an id"),
+    }
+}
+
 /// The request of a method, as `commit` and `c/a=1 in 2`, `get` and `c/a @1`, or `begin` and `reading`.
 pub(crate) fn request(rt: &impl Abort, alloc: Global, method: &str, text: &str) -> Request {
     match method {
@@ -112,6 +137,8 @@ pub(crate) fn request(rt: &impl Abort, alloc: Global, method: &str, text: &str) 
             database: root(rt, alloc),
             transaction: id_of(rt, text),
         },
+        "listen" => add_target(rt, alloc, text),
+        "unlisten" => remove_target(rt, alloc, text),
         _ => panic!(rt; "no such step"),
     }
 }

@@ -11,6 +11,7 @@ fn set_limit(rt: &impl Abort, limits: &mut Limits, text: &str) {
         "writes" => limits.writes = number,
         "outbox" => limits.outbox = number,
         "sessions" => limits.sessions = number,
+        "targets" => limits.targets = number,
         "transactions" => limits.transactions = number,
         "parked" => limits.parked = number,
         "batches" => limits.batches = number,

@@ -4,6 +4,7 @@ ghost use Rattle.fs_machine.specs.Settle.{pending_of};
 
 use crate::server::asked::request;
 use crate::server::limits::{limits_of, mode_of};
+use crate::server::listening::{load, loaded, match_shard, raise, staged, unloaded};
 use crate::server::told::{
     push_answer, push_chain, push_count, push_messages, push_open, push_outcome, push_parked,
     push_settled,
@@ -230,6 +231,12 @@ pub(crate) fn answer(
         "compact" => push_moment(told, server.compact(moment(rt, rest))),
         "released" => push_moment(told, server.released()),
         "chain" => chain(rt, alloc, server, rest, told),
+        "load" => load(rt, alloc, server, rest, told),
+        "loaded" => loaded(rt, server, rest, told),
+        "unloaded" => unloaded(rt, server, rest, told),
+        "match" => match_shard(rt, alloc, server, rest, told),
+        "raise" => raise(rt, alloc, server, rest, told),
+        "staged" => staged(rt, server, rest, told),
         _ => ask(rt, alloc, server, word, rest, told),
     }
 }

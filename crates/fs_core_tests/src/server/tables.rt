@@ -116,7 +116,19 @@ reads 62 | open = 0 | commit 0 c/a=1 = pending 1 at 1 | settle = released at 1 |
 // what a commit's transaction was shown counts in the journal, and one that only reads passes no limit of it
 journal 188, batches 2 | open = 0 | commit 0 c/a=1 = pending 1 at 1 | settle = released at 1 | begin 0 = begun 2 | get 0 c/a in 2 = 1 | commit 0  in 2 = limit journal 188 | begin 0 reading = begun 3 | commit 0  in 3 = at 1:
 // sixty seconds after its last use one expires, and a microsecond before it doesn't
-greatest | open = 0 | begin 0 = begun 1 | tick 59999999 = 59999999 | get 0 c/a in 1 = none at 59999999 | tick 119999998 = 119999998 | get 0 c/a in 1 = none at 119999998 | tick 179999998 = 179999998 | get 0 c/a in 1 = transaction 1 expired: since 1970-01-01T00:01:59.999998Z, now 1970-01-01T00:02:59.999998Z"#;
+greatest | open = 0 | begin 0 = begun 1 | tick 59999999 = 59999999 | get 0 c/a in 1 = none at 59999999 | tick 119999998 = 119999998 | get 0 c/a in 1 = none at 119999998 | tick 179999998 = 179999998 | get 0 c/a in 1 = transaction 1 expired: since 1970-01-01T00:01:59.999998Z, now 1970-01-01T00:02:59.999998Z
+// a session is told of its targets as of one time, however far each shard was matched
+greatest | open = 0 | open = 1 | commit 0 c/a=1 = pending 1 at 1 | settle = released at 1 | commit 0 c/a=2 = pending 2 at 2 | settle = released at 2 | commit 0 d/a=3 = pending 3 at 3 | settle = released at 3 | listen 1 1 names c/a d/a = add 1 | loaded 1 1 = false | loaded 1 2 = none | unloaded 1 = 1 | raise 1 = loading 1 | staged 1 1 = none | load 1 1 @1 = loaded | loaded 1 1 = true | unloaded 1 = none | match 3 = 1 to 3 | staged 1 1 = 2 c/a=2 | raise 1 = 1 | take 1 = c/a=1 for 1, current 1 at 1, no change 1 | raise 1 = 1 | take 1 = nothing | match 0 = 1 to 3 | match 0 = 0 to 3 | staged 1 1 = 2 c/a=2; 3 d/a=3 | raise 1 = 3 | staged 1 1 = nothing | take 1 = c/a=2 for 1, d/a=3 for 1, no change 3
+// what a view has no more is deleted where no document stands, and removed where one does
+greatest | open = 0 | open = 1 | commit 0 c/a=1 c/b=1 = pending 1 at 1 | settle = released at 1 | listen 1 1 query c>=1 = add 1 | load 1 1 = loaded | raise 1 = 1 | take 1 = c/a=1 for 1, c/b=1 for 1, current 1 at 1, no change 1 | commit 0 c/a=- c/b=0 = pending 2 at 2 | settle = released at 2 | match 3 = 2 to 2 | raise 1 = 2 | take 1 = c/a deleted at 2 left 1, c/b gone at 2 left 1, no change 2
+// a target that isn't added is told to be removed, and one that isn't there can't be
+targets 1 | open = 0 | listen 0 1 names c/a = add 1 | listen 0 2 names c/a = remove 2 by limit targets 1 | listen 0 1 names c/a = limit targets 1 | unlisten 0 2 = target 2 unknown | unlisten 0 -1 = target -1 unknown | unlisten 0 1 = remove 1 | listen 0 2 names c/a = add 2 | load 0 1 = target 1 unknown | unloaded 0 = 2
+// an id in use, and a session that isn't open
+greatest | open = 0 | listen 0 1 names c/a = add 1 | listen 0 1 query c = target 1 in use | leave 0 = gone | loaded 0 1 = none | open = 1 | listen 1 1 names c/a = add 1
+// a token goes on from its time; behind a compaction to a later one the target is reset
+greatest | open = 0 | open = 1 | commit 0 c/a=1 = pending 1 at 1 | settle = released at 1 | commit 0 c/b=2 = pending 2 at 2 | settle = released at 2 | listen 1 1 query c from 1 = add 1 | load 1 1 @0 = 0 is before 1 | load 1 1 @3 = 3 is after 2 | load 1 1 = loaded | raise 1 = 2 | take 1 = c/b=2 for 1, current 1 at 2, no change 2 | compact 2 = 2 | listen 1 2 query c from 1 = add 2 | load 1 2 = loaded | raise 1 = 2 | take 1 = reset 2, c/a=1 for 1 2, c/b=2 for 1 2, current 2 at 2, no change 2
+// a target that is loaded keeps what it is still to be told
+greatest | open = 0 | listen 0 1 names c/a = add 1 | load 0 1 = loaded | tick 5 = 5 | compact 5 = 0 | match 3 = 0 to 5 | compact 5 = 5"#;
 
 /// A history of three documents. Its first moment is 0.
 pub(crate) const HISTORY: &str = r#"open = 0

@@ -1,4 +1,5 @@
 //! What calls of a server answer, as steps write it. Each adds to a text, what stands in a row with a space before it.
+use crate::listened::push_message as push_listened;
 use crate::short::{InRow, push_in_row, push_n, push_row};
 use fs_rpc::{BatchAnswer, Message};
 use fs_server::{Answer, Messages, Outcome, Parked, Settled, Version};
@@ -33,7 +34,11 @@ fn push_other(text: &mut String, alloc: Global, refusal: &Refusal) -> Result<(),
     text.push_str(message.as_str())
 }
 
-fn push_refusal(text: &mut String, alloc: Global, refusal: &Refusal) -> Result<(), AllocError> {
+pub(crate) fn push_refusal(
+    text: &mut String,
+    alloc: Global,
+    refusal: &Refusal,
+) -> Result<(), AllocError> {
     match &refusal.reason {
         Reason::TooOld(time, floor) => push_times(text, *time, "before", *floor),
         Reason::TooNew(time, released) => push_times(text, *time, "after", *released),
@@ -89,7 +94,7 @@ fn push_message(text: &mut String, message: &Message) -> Result<(), AllocError> 
         } => push_found(text, documents, *time),
         Message::BeginTransaction { transaction, .. } => push_begun(text, *transaction),
         Message::Rollback { .. } => text.push_str("rolled back"),
-        Message::Listen(_) => text.push_str("told of targets"),
+        Message::Listen(message) => push_listened(text, message),
         Message::Error { message, .. } => text.push_str(message.as_str()),
     }
 }

@@ -71,3 +71,14 @@ pub(crate) const TOLD_FROM_SIX: &str = r#"3 0 12 | 8 8 c/a 2 - c/c - 3; 11 10 c/
 0 7 11 | 11 10 d/b 1 2;
 1 0 12 |
 2 0 12 |"#;
+
+/// Two commits, between which documents come and go.
+pub(crate) const TWO_COMMITS: &str = "0 9 | 1 c/a=3 c/b=2 c/d=1 d/a=4; 5 c/a=- c/b=5 c/e=3 d/a=-";
+
+/// Each line: a time, a target, its view, and all that it listens to. `query c/2` are the first two of `c` by `n`.
+pub(crate) const LISTENED: &str = r#"4 query c/2 | c/b=2 c/d=1 | c/a=3 c/b=2 c/d=1
+9 query c/2 | c/d=1 c/e=3 | c/b=5 c/d=1 c/e=3
+4 query c | c/a=3 c/b=2 c/d=1 | c/a=3 c/b=2 c/d=1
+9 query d | none | none
+4 names d/a c/b c/x c/b c/a | c/a=3 c/b=2 d/a=4 | c/a=3 c/b=2 d/a=4
+9 names d/a c/b c/x c/b c/a | c/b=5 | c/b=5"#;

@@ -213,8 +213,8 @@ fn push_events(
     }
 }
 
-/// Feeds a shard up to a time.
-pub(crate) fn feed(rt: &impl Abort, alloc: Global, s: &mut Session, shard: u32, to: Micros) {
+// The events of the targets in a shard, up to a time.
+fn events_in(rt: &impl Abort, alloc: Global, s: &Session, shard: u32, to: Micros) -> TimedEvents {
     let mut events = TimedEvents::new(alloc);
     let mut id = s.targets.after(None);
     for _ in 0..2 {
@@ -223,8 +223,22 @@ pub(crate) fn feed(rt: &impl Abort, alloc: Global, s: &mut Session, shard: u32, 
             id = s.targets.after(id);
         }
     }
+    events
+}
+
+/// Feeds a shard up to a time.
+pub(crate) fn feed(rt: &impl Abort, alloc: Global, s: &mut Session, shard: u32, to: Micros) {
+    let events = events_in(rt, alloc, s, shard, to);
     assert!(rt; are_named(events.as_slice()));
     s.targets
         .feed(alloc, shard, &events, to)
         .expect(rt, "memory");
+}
+
+/// Makes the events of a shard ready up to a time.
+pub(crate) fn prepare(rt: &impl Abort, alloc: Global, s: &mut Session, shard: u32, to: Micros) {
+    let events = events_in(rt, alloc, s, shard, to);
+    let listed = events.as_slice();
+    assert!(rt; are_named(listed));
+    s.targets.prepare(alloc, shard, listed).expect(rt, "memory");
 }

@@ -1,15 +1,14 @@
 //! What is told of a session's targets, by the lines of the stories.
-use crate::short::{cut, moment, push_moment, push_n};
+use crate::listened::{push_cut, push_events, push_id, push_messages};
+use crate::short::{cut, moment, name_of, push_moment};
 use crate::table::{Says, holds};
-use crate::targets::session::{Session, feed, load, target_of};
-use crate::targets::stories::{CUTS, LATER, LIMITS, ONE_NAME, REFUSED, TOKENS};
+use crate::targets::session::{Session, feed, load, prepare, target_of};
+use crate::targets::stories::{
+    CUTS, GONE, LATER, LIMITS, ONE_NAME, PREPARED, READY, REFUSED, STILL, TAKEN_IN, TOKENS,
+};
 use fs_listen::listening_is_lawful;
-use fs_path::DocName;
-use fs_query::{ListenMessage, Numbers};
-use fs_target::{Cut, TargetError, TimedEvent};
+use fs_target::{Cut, TargetError};
 use fs_time::Micros;
-use fs_token::write;
-use fs_value::Document;
 use std::alloc::{AllocError, Global};
 use std::fmt::Write;
 use std::process::Abort;
@@ -19,106 +18,6 @@ fn id_of(rt: &impl Abort, text: &str) -> u32 {
 }
 
 // ---- what is told
-
-fn push_numbers(text: &mut String, numbers: &Numbers) -> Result<(), AllocError> {
-    for n in numbers.as_slice() {
-        write!(text, " {n}")?;
-    }
-    Ok(())
-}
-
-// Numbers behind a word, if there are any.
-fn push_some(text: &mut String, word: &str, numbers: &Numbers) -> Result<(), AllocError> {
-    if numbers.is_empty() {
-        return Ok(());
-    }
-    write!(text, " {word}")?;
-    push_numbers(text, numbers)
-}
-
-fn push_name(text: &mut String, name: &DocName) -> Result<(), AllocError> {
-    text.push_str(name.ids().unwrap_or("?"))
-}
-
-fn push_document(
-    text: &mut String,
-    name: &DocName,
-    document: Option<&Document>,
-) -> Result<(), AllocError> {
-    push_name(text, name)?;
-    text.push_str("=")?;
-    push_n(text, document)
-}
-
-fn push_gone(
-    text: &mut String,
-    name: &DocName,
-    time: Micros,
-    left: &Numbers,
-) -> Result<(), AllocError> {
-    push_name(text, name)?;
-    text.push_str(" gone at ")?;
-    push_moment(text, time)?;
-    push_some(text, "left", left)
-}
-
-// The time of a message, whose token has to be that of it.
-fn push_time(text: &mut String, time: Micros, token: &[u8]) -> Result<(), AllocError> {
-    push_moment(text, time)?;
-    if token != write(time).as_slice() {
-        text.push_str(" with another token")?;
-    }
-    Ok(())
-}
-
-fn push_message(text: &mut String, message: &ListenMessage) -> Result<(), AllocError> {
-    match message {
-        ListenMessage::Changed {
-            document,
-            targets,
-            left,
-        } => {
-            push_document(text, &document.name, Some(document))?;
-            push_some(text, "for", targets)?;
-            push_some(text, "left", left)
-        }
-        ListenMessage::Removed { name, time, left } => push_gone(text, name, *time, left),
-        ListenMessage::Current {
-            targets,
-            time,
-            token,
-        } => {
-            text.push_str("current")?;
-            push_numbers(text, targets)?;
-            text.push_str(" at ")?;
-            push_time(text, *time, token.as_slice())
-        }
-        ListenMessage::NoChange { time, token } => {
-            text.push_str("no change ")?;
-            push_time(text, *time, token.as_slice())
-        }
-        _ => text.push_str("?"),
-    }
-}
-
-fn push_event(text: &mut String, event: &TimedEvent) -> Result<(), AllocError> {
-    push_moment(text, event.time)?;
-    text.push_str(" ")?;
-    let after = if event.inside {
-        event.after.as_ref()
-    } else {
-        None
-    };
-    push_document(text, &event.name, after)
-}
-
-fn push_cut(text: &mut String, cut: Cut) -> Result<(), AllocError> {
-    match cut {
-        Cut::At(time) => push_moment(text, time),
-        Cut::Loading(id) => write!(text, "loading {id}"),
-        Cut::NoTarget => text.push_str("none"),
-    }
-}
 
 fn push_maybe(text: &mut String, time: Option<Micros>) -> Result<(), AllocError> {
     match time {
@@ -136,29 +35,6 @@ fn push_error(text: &mut String, error: &TargetError) -> Result<(), AllocError> 
     }
 }
 
-fn push_separated(text: &mut String) -> Result<(), AllocError> {
-    if !text.is_empty() {
-        text.push_str("; ")?;
-    }
-    Ok(())
-}
-
-fn push_messages(text: &mut String, messages: &[ListenMessage]) -> Result<(), AllocError> {
-    for message in messages {
-        push_separated(text)?;
-        push_message(text, message)?;
-    }
-    Ok(())
-}
-
-fn push_events(text: &mut String, events: &[TimedEvent]) -> Result<(), AllocError> {
-    for event in events {
-        push_separated(text)?;
-        push_event(text, event)?;
-    }
-    Ok(())
-}
-
 // ---- calls
 
 fn raise(rt: &impl Abort, alloc: Global, s: &mut Session, told: &mut String) {
@@ -167,6 +43,11 @@ fn raise(rt: &impl Abort, alloc: Global, s: &mut Session, told: &mut String) {
         return;
     };
     let messages = s.targets.raise(alloc, time).expect(rt, "memory");
+    push_messages(told, messages.as_slice()).expect(rt, "memory");
+}
+
+fn messages(rt: &impl Abort, alloc: Global, s: &mut Session, time: Micros, told: &mut String) {
+    let messages = s.targets.messages(alloc, time).expect(rt, "memory");
     push_messages(told, messages.as_slice()).expect(rt, "memory");
 }
 
@@ -210,9 +91,31 @@ fn change(
             feed(rt, alloc, s, id_of(rt, first), moment(rt, second));
             Ok(())
         }
+        "prepare" => {
+            prepare(rt, alloc, s, id_of(rt, first), moment(rt, second));
+            Ok(())
+        }
+        "take_in" => {
+            s.targets.take_in(id_of(rt, first), moment(rt, second));
+            Ok(())
+        }
+        "go_to" => {
+            s.targets.go_to(moment(rt, first));
+            Ok(())
+        }
         "remove" => s.targets.remove(id_of(rt, first)),
         _ => add(rt, alloc, s, call, rest),
     }
+}
+
+fn push_truth(text: &mut String, truth: bool) -> Result<(), AllocError> {
+    text.push_str(if truth { "true" } else { "false" })
+}
+
+// Whether a target may listen to a document of this path.
+fn may_listen(rt: &impl Abort, alloc: Global, s: &Session, path: &str, told: &mut String) {
+    let name = name_of(rt, alloc, path);
+    push_truth(told, s.targets.may_listen(&name)).expect(rt, "memory");
 }
 
 fn ask_one(
@@ -232,8 +135,7 @@ fn ask_one(
             None => told.push_str("none"),
         },
         _ => match s.targets.loaded(id) {
-            Some(true) => told.push_str("true"),
-            Some(false) => told.push_str("false"),
+            Some(loaded) => push_truth(told, loaded),
             None => told.push_str("none"),
         },
     }
@@ -249,17 +151,16 @@ fn ask(
     match call {
         "cut" => push_cut(told, s.targets.cut()),
         "base" => push_maybe(told, s.targets.base()),
-        "ready" => told.push_str(if s.targets.ready() { "true" } else { "false" }),
+        "ready" => push_truth(told, s.targets.ready()),
+        "least_in" => push_maybe(told, s.targets.least_in(id_of(rt, rest))),
+        "unloaded" => push_id(told, s.targets.unloaded()),
         "after" => {
             let id = if rest.is_empty() {
                 None
             } else {
                 Some(id_of(rt, rest))
             };
-            match s.targets.after(id) {
-                Some(id) => write!(told, "{id}"),
-                None => told.push_str("none"),
-            }
+            push_id(told, s.targets.after(id))
         }
         _ => ask_one(rt, s, call, rest, told),
     }
@@ -272,7 +173,17 @@ impl Says for Session {
         let mut told = String::new(alloc);
         match call {
             "raise" => raise(rt, alloc, self, &mut told),
-            "release" | "names" | "query" | "load" | "feed" | "remove" => {
+            "messages" => messages(rt, alloc, self, moment(rt, rest), &mut told),
+            "may_listen" => may_listen(rt, alloc, self, rest, &mut told),
+            "release"
+            | "names"
+            | "query"
+            | "load"
+            | "feed"
+            | "prepare"
+            | "take_in"
+            | "go_to"
+            | "remove" => {
                 if let Err(error) = change(rt, alloc, self, call, rest) {
                     push_error(&mut told, &error).expect(rt, "memory");
                 }
@@ -283,9 +194,12 @@ impl Says for Session {
     }
 }
 
+fn goes_on(rt: &impl Abort, alloc: Global, session: &mut Session, story: &str) {
+    holds(rt, alloc, session, story, story.lines().count());
+}
+
 fn goes(rt: &impl Abort, alloc: Global, story: &str) {
-    let rows = story.lines().count();
-    holds(rt, alloc, &mut Session::new(rt, alloc), story, rows);
+    goes_on(rt, alloc, &mut Session::new(rt, alloc), story);
 }
 
 #[test]
@@ -304,6 +218,11 @@ fn a_name_is_told_once_for_all_targets(rt: HostRuntime) {
 }
 
 #[test]
+fn targets_that_stand_still_are_told_together(rt: HostRuntime) {
+    goes(&rt, rt.alloc(), STILL);
+}
+
+#[test]
 fn a_token_resumes_what_was_there(rt: HostRuntime) {
     goes(&rt, rt.alloc(), TOKENS);
 }
@@ -311,4 +230,26 @@ fn a_token_resumes_what_was_there(rt: HostRuntime) {
 #[test]
 fn targets_are_refused_by_number_and_by_id(rt: HostRuntime) {
     goes(&rt, rt.alloc(), REFUSED);
+}
+
+#[test]
+fn sessions_take_in_what_all_of_them_were_prepared_for(rt: HostRuntime) {
+    let alloc = rt.alloc();
+    let mut one = Session::new(&rt, alloc);
+    let mut other = Session::new(&rt, alloc);
+    goes_on(&rt, alloc, &mut one, PREPARED);
+    goes_on(&rt, alloc, &mut other, PREPARED);
+    goes_on(&rt, alloc, &mut one, TAKEN_IN);
+    goes_on(&rt, alloc, &mut other, TAKEN_IN);
+}
+
+#[test]
+fn sessions_go_to_what_all_of_them_were_told(rt: HostRuntime) {
+    let alloc = rt.alloc();
+    let mut one = Session::new(&rt, alloc);
+    let mut other = Session::new(&rt, alloc);
+    goes_on(&rt, alloc, &mut one, READY);
+    goes_on(&rt, alloc, &mut other, READY);
+    goes_on(&rt, alloc, &mut one, GONE);
+    goes_on(&rt, alloc, &mut other, GONE);
 }

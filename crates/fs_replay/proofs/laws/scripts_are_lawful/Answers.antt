@@ -1,4 +1,5 @@
 use Rattle.fs_replay.proofs.Lawful.{last_newline, lines_grow, lines_keep, lines_serial, no_line, nobody_keeps, one_line, one_line_where_none_waits, past_unmoved, runs_grow, runs_serial, shows_what_stands, starts_between, stays_between, times_rise}
+use Rattle.fs_replay.proofs.Leading.{runs_cut}
 use Rattle.fs_replay.proofs.laws.scripts_are_lawful.Goals as goal
 
 pub returns : goal.returns
@@ -14,6 +15,7 @@ returns c =
       serial = lines_serial;
       runs_grow = runs_grow kept grow;
       runs_are_serial = runs_serial kept;
+      runs_cut = runs_cut c.machines_are_lawful.ensures.cuts c.machines_are_lawful.ensures.times;
       unmoved = past_unmoved;
       rise = times_rise;
       kept = lines_keep unwritten;

@@ -12,3 +12,9 @@ returns-in-Ok-clause-grows g c = λ taken rest before after. c.scripts_are_lawfu
 
 pub returns-in-Err-clause-grows : goal.returns-in-Err-clause-grows
 returns-in-Err-clause-grows g c = λ taken rest before after. c.scripts_are_lawful.ensures.runs_grow c.args.config c.args.limits (lines_of taken) c.requires.limits
+
+pub returns-in-Ok-clause-cuts : goal.returns-in-Ok-clause-cuts
+returns-in-Ok-clause-cuts g c = λ taken rest before after. c.scripts_are_lawful.ensures.runs_cut c.args.config c.args.limits (lines_of taken) c.requires.limits
+
+pub returns-in-Err-clause-cuts : goal.returns-in-Err-clause-cuts
+returns-in-Err-clause-cuts g c = λ taken rest before after. c.scripts_are_lawful.ensures.runs_cut c.args.config c.args.limits (lines_of taken) c.requires.limits

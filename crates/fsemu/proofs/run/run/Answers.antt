@@ -34,6 +34,18 @@ returns-in-Ok-clause-unasked g c = λ options is.
     transcript config limits taken ≡ [] → c.replay.new.sink ≡ c.args.sink.now)) _ _ _
     (ap config_of (only options is) ∙ sym c.in-Ok.ensures) c.greatest.ensures c.replay.ensures.unasked
 
+pub returns-in-Err-clause-serial : goal.returns-in-Err-clause-serial
+returns-in-Err-clause-serial g c = λ options is taken rest before after. c.scripts_are_lawful.ensures.runs_are_serial (config_of options) greatest (lines_of taken) greatest_allowed
+
+pub returns-then-not-is_agreed-clause-serial : goal.returns-then-not-is_agreed-clause-serial
+returns-then-not-is_agreed-clause-serial g c = λ options is taken rest before after. c.scripts_are_lawful.ensures.runs_are_serial (config_of options) greatest (lines_of taken) greatest_allowed
+
+pub returns-in-Ok-clause-serial : goal.returns-in-Ok-clause-serial
+returns-in-Ok-clause-serial g c = λ options is taken rest before after. c.scripts_are_lawful.ensures.runs_are_serial (config_of options) greatest (lines_of taken) greatest_allowed
+
+pub returns-in-Err-config-clause-serial : goal.returns-in-Err-config-clause-serial
+returns-in-Err-config-clause-serial g c = λ options is taken rest before after. c.scripts_are_lawful.ensures.runs_are_serial (config_of options) greatest (lines_of taken) greatest_allowed
+
 pub returns-in-Err-clause-grows : goal.returns-in-Err-clause-grows
 returns-in-Err-clause-grows g c = λ options is taken rest before after. c.scripts_are_lawful.ensures.runs_grow (config_of options) greatest (lines_of taken) greatest_allowed
 
@@ -45,3 +57,15 @@ returns-in-Ok-clause-grows g c = λ options is taken rest before after. c.script
 
 pub returns-in-Err-config-clause-grows : goal.returns-in-Err-config-clause-grows
 returns-in-Err-config-clause-grows g c = λ options is taken rest before after. c.scripts_are_lawful.ensures.runs_grow (config_of options) greatest (lines_of taken) greatest_allowed
+
+pub returns-in-Err-clause-cuts : goal.returns-in-Err-clause-cuts
+returns-in-Err-clause-cuts g c = λ options is taken rest before after. c.scripts_are_lawful.ensures.runs_cut (config_of options) greatest (lines_of taken) greatest_allowed
+
+pub returns-then-not-is_agreed-clause-cuts : goal.returns-then-not-is_agreed-clause-cuts
+returns-then-not-is_agreed-clause-cuts g c = λ options is taken rest before after. c.scripts_are_lawful.ensures.runs_cut (config_of options) greatest (lines_of taken) greatest_allowed
+
+pub returns-in-Ok-clause-cuts : goal.returns-in-Ok-clause-cuts
+returns-in-Ok-clause-cuts g c = λ options is taken rest before after. c.scripts_are_lawful.ensures.runs_cut (config_of options) greatest (lines_of taken) greatest_allowed
+
+pub returns-in-Err-config-clause-cuts : goal.returns-in-Err-config-clause-cuts
+returns-in-Err-config-clause-cuts g c = λ options is taken rest before after. c.scripts_are_lawful.ensures.runs_cut (config_of options) greatest (lines_of taken) greatest_allowed
