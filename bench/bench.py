@@ -19,6 +19,8 @@ Python loop over as many dicts, with the requests parsed and the replies printed
 Then transactions: what a begin, a read of one document and a commit of it take together, beside plain commits of one document, and what
 those take while 1,000 transactions are open that have read 100 other documents each.
 
+Then listening: what a plain commit takes while nobody listens, while sessions listen to other collections, and while one listens to its own.
+
 Then the memory of a document is measured: what a run that commits five times so many documents takes at its peak, the bytes
 of the script and those of a run without lines apart, for each; and what fifty times so many commits to 1,000 names take,
 without compactions and with one at every 10,000. At last lines of 10 MB are carried out: how long each takes, and what the
@@ -239,6 +241,29 @@ def measure_transactions(lines, seed):
         print("%s: %.1f µs" % (name, seconds / lines * 1e6))
 
 
+def listeners(sessions, targets, collection):
+    """Sessions that listen to so many targets each, the query of one collection."""
+    for session in range(sessions):
+        for target in range(1, targets + 1):
+            query = {"parent": DOCUMENTS, "structuredQuery": {"from": [{"collectionId": collection}]}}
+            yield {"session": "l%d" % session, "listen": {"database": ROOT, "addTarget": {"targetId": target, "query": query}}}
+
+
+def measure_listening(lines, seed):
+    def took(requests):
+        return best_of(script_of(requests), RUNS)[0]
+
+    rand = random.Random(seed)
+    making = list(documents(1000, rand, one_field, 1000))
+    plain = list(documents(lines, rand, one_field, 1000))
+    for name, listening in (
+            ("nobody listens", []),
+            ("a session listens to 10 targets of another collection", list(listeners(1, 10, "other"))),
+            ("ten sessions listen to 100 targets of another collection each", list(listeners(10, 100, "other"))),
+            ("a session listens to 10 targets of that collection", list(listeners(1, 10, "c")))):
+        print("a plain commit while %s: %.1f µs" % (name, (took(making + listening + plain) - took(making + listening)) / lines * 1e6))
+
+
 MANY = 10000
 
 
@@ -436,6 +461,7 @@ def main():
         measure(name, requests(lines, random.Random(seed)))
     measure_requests(seed)
     measure_transactions(lines, seed)
+    measure_listening(lines, seed)
     measure_memory("one integer", 5 * lines, seed, one_field)
     measure_memory("ten fields", 5 * lines, seed, ten_fields)
     measure_history(50 * lines, seed)
