@@ -249,6 +249,12 @@ def listeners(sessions, targets, collection):
             yield {"session": "l%d" % session, "listen": {"database": ROOT, "addTarget": {"targetId": target, "query": query}}}
 
 
+def sessions(count):
+    """Sessions that are open, and listen to nothing."""
+    for session in range(count):
+        yield {"session": "l%d" % session, "getDocument": {"name": DOCUMENTS + "/c/none"}}
+
+
 def measure_listening(lines, seed):
     def took(requests):
         return best_of(script_of(requests), RUNS)[0]
@@ -259,8 +265,12 @@ def measure_listening(lines, seed):
     for name, listening in (
             ("nobody listens", []),
             ("a session listens to 10 targets of another collection", list(listeners(1, 10, "other"))),
+            ("a session listens to 100 targets of another collection", list(listeners(1, 100, "other"))),
+            ("ten sessions listen to 10 targets of another collection each", list(listeners(10, 10, "other"))),
             ("ten sessions listen to 100 targets of another collection each", list(listeners(10, 100, "other"))),
-            ("a session listens to 10 targets of that collection", list(listeners(1, 10, "c")))):
+            ("a session listens to 10 targets of that collection", list(listeners(1, 10, "c"))),
+            ("ten more sessions are open", list(sessions(10))),
+            ("sixty more sessions are open", list(sessions(60)))):
         print("a plain commit while %s: %.1f µs" % (name, (took(making + listening + plain) - took(making + listening)) / lines * 1e6))
 
 
