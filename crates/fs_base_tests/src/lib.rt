@@ -1,4 +1,4 @@
-//! Tests of names, times, resume tokens, refusals, the edge, values, changes of fields, commit times and holds, by the public calls of
+//! Tests of names, times, resume tokens, refusals, the edge, values, changes of fields, commit times, holds and write streams, by the public calls of
 //! their libraries.
 #![tactic(auto)]
 
@@ -16,6 +16,8 @@ mod path;
 mod short;
 #[cfg(test)]
 mod status;
+#[cfg(test)]
+mod streams;
 #[cfg(test)]
 mod table;
 #[cfg(test)]

@@ -2,7 +2,6 @@
 use Rattle.std.proofs.Common.{◌≡◌, ℕ, Bool, false, cond, List, [], ◌∷◌, ◌++◌, Option, Some, None, length, refl, sym, ap, ◌∙◌, subst}
 use Rattle.std.specs.Prelude.{nat_le, codes}
 use Rattle.fs_rpc.specs.declared.request.Envelope.{Envelope}
-use Rattle.fs_rpc.specs.declared.request.Request.{Request}
 use Rattle.fs_status.specs.Refusal.{at_limit}
 use Rattle.fs_status.specs.declared.refusal.Refusal.{Refusal}
 use Rattle.fs_txn.specs.Transactions.{Transactions}
@@ -22,7 +21,7 @@ use Rattle.fs_machine.proofs.Runs.{keeps}
 use Rattle.fs_machine.specs.declared.config.Config.{Config}
 use Rattle.fs_machine.specs.declared.limits.Limits.{Limits}
 use Rattle.fs_server.specs.Changes.{Does, asking, changed, past_changed, txns_changed}
-use Rattle.fs_server.specs.Heard.{AreHeard, Heard, listeners_of}
+use Rattle.fs_sessions.specs.Heard.{AreHeard, Heard, listeners_of}
 use Rattle.fs_server.specs.Kept.{IsKept}
 use Rattle.fs_server.specs.Noted.{ids_after, listens, own_number}
 use Rattle.fs_server.specs.declared.changes.Change.{Change}

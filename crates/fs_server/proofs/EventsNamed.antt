@@ -27,8 +27,8 @@ use Rattle.fs_target.specs.Held.{position_in}
 use Rattle.fs_target.specs.Keeps.{told_as}
 use Rattle.fs_target.specs.Staged.{IsNamed as IsNamedEvent}
 use Rattle.fs_target.specs.declared.event.TimedEvent.{TimedEvent}
-use Rattle.fs_server.specs.Heard.{Heard}
-use Rattle.fs_server.specs.Matched.{ear_events, events_from, events_to, numbered_events}
+use Rattle.fs_sessions.specs.Heard.{Heard}
+use Rattle.fs_sessions.specs.Matched.{ear_events, events_from, events_to, numbered_events}
 use Rattle.fs_server.proofs.EventsOf.{target_all}
 use Rattle.fs_server.proofs.Every.{all_any, all_flat, all_passing}
 

@@ -16,7 +16,7 @@ use Rattle.fs_target.specs.declared.event.TimedEvent.{TimedEvent}
 use Rattle.fs_write.specs.declared.change.Change.{Change}
 use Rattle.fs_write.specs.declared.timed_change.TimedChange.{TimedChange}
 use Rattle.fs_server.specs.Events.{events_for}
-use Rattle.fs_server.specs.Matched.{commit_events, target_events}
+use Rattle.fs_sessions.specs.Matched.{commit_events, target_events}
 use Rattle.fs_server.proofs.Every.{all_any, all_cons, all_flat}
 
 -- ---- the events of a target

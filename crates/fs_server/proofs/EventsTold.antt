@@ -24,8 +24,8 @@ use Rattle.fs_write.specs.declared.timed_change.TimedChange.{TimedChange}
 use Rattle.fs_machine.specs.Listeners.{Listener}
 use Rattle.fs_machine.specs.ListenersHold.{AllDiffer, NumbersDiffer, NumbersHold}
 use Rattle.fs_server.specs.Events.{AreEventsOf, events_for}
-use Rattle.fs_server.specs.Heard.{Heard, listener_of, listeners_of}
-use Rattle.fs_server.specs.Matched.{ear_events, events_from, events_to, least_in, numbered_events}
+use Rattle.fs_sessions.specs.Heard.{Heard, listener_of, listeners_of}
+use Rattle.fs_sessions.specs.Matched.{ear_events, events_from, events_to, least_in, numbered_events}
 use Rattle.fs_server.proofs.EventsOf.{for_both, none_for, target_own, target_same}
 use Rattle.fs_server.proofs.Positions.{IsFrom, IsLeast, are_least}
 

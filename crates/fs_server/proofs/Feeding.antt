@@ -26,8 +26,8 @@ use Rattle.fs_machine.specs.Past.{Past}
 use Rattle.fs_machine.specs.declared.config.Config.{Config}
 use Rattle.fs_machine.specs.declared.limits.Limits.{Limits}
 use Rattle.fs_server.specs.Events.{AreEventsFor, AreEventsOf, events_for}
-use Rattle.fs_server.specs.Heard.{AreHeard, Heard, heard_fed, IsHeard, listener_of, listeners_of, picked, picked_as}
-use Rattle.fs_server.specs.TargetNumbers.{id_of}
+use Rattle.fs_sessions.specs.Heard.{AreHeard, Heard, heard_fed, IsHeard, listener_of, listeners_of, picked, picked_as}
+use Rattle.fs_pairs.specs.Pairs.{key_of}
 use Rattle.fs_server.proofs.EventsOf.{renamed, renamed_events}
 use Rattle.fs_server.proofs.EventsTold.{behind_first, first_found}
 use Rattle.fs_server.proofs.Unnumbered.{matching_numbered}
@@ -35,17 +35,17 @@ use Rattle.fs_server.proofs.Unnumbered.{matching_numbered}
 -- ---- whose a number is
 
 module _ (number : ℕ) where
-  id_found : (es : List (ℕ × ℕ)) → IsTrue (is_sorted nat_cmp es) → (id : ℕ) → id_of number es ≡ Some id → find nat_cmp id es ≡ Some number
+  id_found : (es : List (ℕ × ℕ)) → IsTrue (is_sorted nat_cmp es) → (id : ℕ) → key_of number es ≡ Some id → find nat_cmp id es ≡ Some number
   id_found [] rise id is = absurd (cc)
   id_found (e ∷ es) rise id is = by_test (id_found es (second_so (below_all nat_cmp e.0 es) _ rise) id) (e.1 == number) refl where
-    by_test : (id_of number es ≡ Some id → find nat_cmp id es ≡ Some number) → (same : Bool) → (e.1 == number) ≡ same → find nat_cmp id (e ∷ es) ≡ Some number
+    by_test : (key_of number es ≡ Some id → find nat_cmp id es ≡ Some number) → (same : Bool) → (e.1 == number) ≡ same → find nat_cmp id (e ∷ es) ≡ Some number
     by_test rest true same =
-        let one : Some e.0 ≡ Some id = ap (λ b. cond b (Some e.0) (id_of number es)) (sym same) ∙ is in
+        let one : Some e.0 ≡ Some id = ap (λ b. cond b (Some e.0) (key_of number es)) (sym same) ∙ is in
         let key : e.0 ≡ id = cc in
         subst (λ k. find nat_cmp k (e ∷ es) ≡ Some number) key (first_found e es rise ∙ ap Some (eqb-true e.1 number same))
-    by_test rest false same = behind_first e es rise id number (rest (ap (λ b. cond b (Some e.0) (id_of number es)) (sym same) ∙ is))
+    by_test rest false same = behind_first e es rise id number (rest (ap (λ b. cond b (Some e.0) (key_of number es)) (sym same) ∙ is))
 
-  found_id : (id : ℕ) (es : List (ℕ × ℕ)) → IsTrue (is_sorted nat_cmp es) → find nat_cmp id es ≡ Some number → ((k : ℕ) → find nat_cmp k es ≡ Some number → k ≡ id) → id_of number es ≡ Some id
+  found_id : (id : ℕ) (es : List (ℕ × ℕ)) → IsTrue (is_sorted nat_cmp es) → find nat_cmp id es ≡ Some number → ((k : ℕ) → find nat_cmp k es ≡ Some number → k ≡ id) → key_of number es ≡ Some id
   found_id id [] rise found one = absurd (cc)
   found_id id (e ∷ es) rise found one =
       by_test (λ there. found_id id es (second_so (below_all nat_cmp e.0 es) _ rise) there (λ k is. one k (behind_first e es rise k number is))) (e.1 == number) refl
@@ -57,15 +57,15 @@ module _ (number : ℕ) where
           let value : e.1 ≡ number = cc in
           absurd (let both : true ≡ false = sym (eq-eqb e.1 number value) ∙ other in cc)
 
-      by_test : (find nat_cmp id es ≡ Some number → id_of number es ≡ Some id) → (same : Bool) → (e.1 == number) ≡ same → id_of number (e ∷ es) ≡ Some id
+      by_test : (find nat_cmp id es ≡ Some number → key_of number es ≡ Some id) → (same : Bool) → (e.1 == number) ≡ same → key_of number (e ∷ es) ≡ Some id
       by_test rest true same =
-          ap (λ b. cond b (Some e.0) (id_of number es)) same ∙ ap Some (one e.0 (first_found e es rise ∙ ap Some (eqb-true e.1 number same)))
+          ap (λ b. cond b (Some e.0) (key_of number es)) same ∙ ap Some (one e.0 (first_found e es rise ∙ ap Some (eqb-true e.1 number same)))
       by_test rest false same =
-          ap (λ b. cond b (Some e.0) (id_of number es)) same ∙ rest (behind same (eq_by_cmp nat_cmp id e.0) refl)
+          ap (λ b. cond b (Some e.0) (key_of number es)) same ∙ rest (behind same (eq_by_cmp nat_cmp id e.0) refl)
 
 -- ---- what a target takes of the events
 
-module _ (shard : ℕ) (h : Heard) (id number : ℕ) (from : ℤ) (mine : id_of number (entries h.numbers) ≡ Some id) (only : (n : ℕ) → id_of n (entries h.numbers) ≡ Some id → n ≡ number)
+module _ (shard : ℕ) (h : Heard) (id number : ℕ) (from : ℤ) (mine : key_of number (entries h.numbers) ≡ Some id) (only : (n : ℕ) → key_of n (entries h.numbers) ≡ Some id → n ≡ number)
     (at : position_in shard (get h.held.listening.targets id) ≡ Some from) where
   abbrev Taken : List TimedEvent → List TimedEvent
   Taken es = events_behind id (Some from) es
@@ -86,7 +86,7 @@ module _ (shard : ℕ) (h : Heard) (id number : ℕ) (from : ℤ) (mine : id_of 
     by_test false = refl
 
   -- of another number
-  taken_none : (e : TimedEvent) → (e.target == number) ≡ false → (xs : List TimedEvent) (o : Option ℕ) → id_of e.target (entries h.numbers) ≡ o → Taken (cons_option (option_and_then (picked_at e) o) xs) ≡ Taken xs
+  taken_none : (e : TimedEvent) → (e.target == number) ≡ false → (xs : List TimedEvent) (o : Option ℕ) → key_of e.target (entries h.numbers) ≡ o → Taken (cons_option (option_and_then (picked_at e) o) xs) ≡ Taken xs
   taken_none e other xs None is = refl
   taken_none e other xs (Some k) is = taken_other k (by_test (k == id) refl) (position_in shard (get h.held.listening.targets k)) e xs where
     by_test : (same : Bool) → (k == id) ≡ same → (k == id) ≡ false
@@ -98,11 +98,11 @@ module _ (shard : ℕ) (h : Heard) (id number : ℕ) (from : ℤ) (mine : id_of 
   taken_one : (e : TimedEvent) (xs ys : List TimedEvent) → Taken xs ≡ map (renamed id) ys → (a : Bool) → (e.target == number) ≡ a
       → Taken (cons_option (picked shard h e) xs) ≡ map (renamed id) (cond (a && int_lt from e.time) (e ∷ ys) ys)
   taken_one e xs ys same true is =
-      let own = ap (λ n. id_of n (entries h.numbers)) (eqb-true e.target number is) ∙ mine in
+      let own = ap (λ n. key_of n (entries h.numbers)) (eqb-true e.target number is) ∙ mine in
       ap (λ o. Taken (cons_option (option_and_then (picked_at e) o) xs)) own
       ∙ ap (λ o. Taken (cons_option (picked_as id o e) xs)) at
       ∙ taken_own e (int_lt from e.time) refl xs ys same
-  taken_one e xs ys same false is = taken_none e is xs (id_of e.target (entries h.numbers)) refl ∙ same
+  taken_one e xs ys same false is = taken_none e is xs (key_of e.target (entries h.numbers)) refl ∙ same
 
   taken_all : (es : List TimedEvent) → Taken (filter_map (picked shard h) es) ≡ map (renamed id) (events_for number from es)
   taken_all [] = refl
@@ -134,10 +134,10 @@ module _ (law : FeedingKeeps) (config : Config) (limits : Limits) (p : Past) (sh
     rise : IsTrue (is_sorted nat_cmp (entries h.numbers))
     rise = to_true _ (entries_sorted h.numbers)
 
-    mine : id_of number (entries h.numbers) ≡ Some id
+    mine : key_of number (entries h.numbers) ≡ Some id
     mine = found_id number id (entries h.numbers) rise (sym (get-entries h.numbers id) ∙ own) (λ k there. holds.one k id number (get-entries h.numbers k ∙ there) own)
 
-    only : (n : ℕ) → id_of n (entries h.numbers) ≡ Some id → n ≡ number
+    only : (n : ℕ) → key_of n (entries h.numbers) ≡ Some id → n ≡ number
     only n is = let there = get-entries h.numbers id ∙ id_found n (entries h.numbers) rise id is in let both : Some n ≡ Some number = sym there ∙ own in cc
 
     taken : events_behind id (Some position) (filter_map (picked shard h) es) ≡ map (renamed id) (events_for number position es)

@@ -12,7 +12,7 @@ use Rattle.fs_machine.specs.declared.answer.Outcome.TheVariants as outcome
 use Rattle.fs_machine.specs.declared.limits.Limits.{Limits}
 use Rattle.fs_machine.specs.declared.session.Session.{Session}
 use Rattle.fs_past.specs.Bringing.{BringsMore, IsBrought}
-use Rattle.fs_server.specs.Heard.{AreHeard, Heard, opened_ear}
+use Rattle.fs_sessions.specs.Heard.{AreHeard, Heard, opened_ear}
 use Rattle.fs_server.specs.Settling.{Decides}
 use Rattle.fs_server.proofs.Unnumbered.{none_numbered}
 

@@ -1,4 +1,3 @@
-mod Places
 mod Settling
 mod Noted
 mod Within
@@ -9,19 +8,9 @@ mod Beside
 mod Asking
 mod Retrying
 mod Refusing
-mod Ears
 mod Heard
 mod Opening
 mod Unnumbered
-mod EarPlaces
-mod Listened
-mod Numbering
-mod Gone
-mod Joined
-mod LeastTold
-mod Unconcerned
-mod InPlace
-mod Picking
 mod Outcomes
 mod EventsOf
 mod Positions

@@ -25,7 +25,6 @@ use Rattle.fs_machine.specs.Listeners.{Listener, listening_in, with_listening}
 use Rattle.fs_machine.specs.ListenersHold.{ListenersHold}
 use Rattle.fs_machine.specs.Load.{load_refusal, loaded, refusal_at, time_refusal, with_reset}
 use Rattle.fs_machine.specs.Past.{Past}
-use Rattle.fs_machine.specs.SessionsNumbered.{SessionsNumbered}
 use Rattle.fs_machine.specs.State.{Machine}
 use Rattle.fs_machine.specs.declared.config.Config.{Config}
 use Rattle.fs_machine.specs.declared.limits.Limits.{Limits}
@@ -33,12 +32,12 @@ use Rattle.fs_machine.specs.declared.session.Session.{Session}
 use Rattle.fs_machine.proofs.Listening.{listening_holds, loads_at}
 use Rattle.fs_machine.proofs.ListenersHold.{listeners_loaded, listeners_told}
 use Rattle.fs_machine.proofs.SessionsNumbered.{numbers_of, same_numbers, sessions_same}
-use Rattle.fs_server.specs.Heard.{AreHeard, Heard, IsHeard, heard_loading, listener_of, listeners_of, with_heard}
+use Rattle.fs_sessions.specs.Heard.{AreHeard, Heard, IsHeard, heard_loading, listener_of, listeners_of, with_heard}
 use Rattle.fs_server.specs.Kept.{IsKept}
 use Rattle.fs_server.specs.Loading.{IsFree, IsFreeAt}
-use Rattle.fs_server.specs.Place.{taken_back}
-use Rattle.fs_server.proofs.Ears.{all_with, listeners_with, listening_found}
-use Rattle.fs_server.proofs.Places.{delivered_and_taken_back}
+use Rattle.fs_sessions.specs.Place.{taken_back}
+use Rattle.fs_sessions.proofs.Ears.{all_with, listeners_with, listening_found}
+use Rattle.fs_sessions.proofs.Places.{delivered_and_taken_back}
 use Rattle.fs_server.proofs.Unnumbered.{loading_numbered}
 
 -- ---- why one isn't loaded, by whether it is

@@ -15,8 +15,8 @@ use Rattle.fs_machine.specs.Listeners.{Listener}
 use Rattle.fs_machine.specs.ListenersHold.{IsPosition, ListeningHolds, LoadHolds, TargetHolds}
 use Rattle.fs_machine.specs.Past.{Past}
 use Rattle.fs_target.specs.Held.{position_in, position_of, positions_in}
-use Rattle.fs_server.specs.Heard.{Heard, listeners_of}
-use Rattle.fs_server.specs.Matched.{least_in}
+use Rattle.fs_sessions.specs.Heard.{Heard, listeners_of}
+use Rattle.fs_sessions.specs.Matched.{least_in}
 use Rattle.fs_server.proofs.Every.{all_both, all_flat, all_unflat, all_unmapped}
 
 -- ---- the least of times that may be there

@@ -1,11 +1,10 @@
 -- A session is raised: what it is told then, and what is kept of its targets.
-use Rattle.std.proofs.Common.{◌≡◌, ℕ, ℤ, Bool, true, false, cond, List, [], ◌∷◌, ◌++◌, map, Option, Some, None, refl, sym, ap, ◌∙◌, subst}
-use Rattle.std.specs.Prelude.{IfSome, ◌==◌}
+use Rattle.std.proofs.Common.{◌≡◌, ℕ, ℤ, Bool, true, false, cond, List, ◌++◌, map, Option, Some, None, refl, sym, ap, ◌∙◌, subst}
+use Rattle.std.specs.Prelude.{IfSome}
 use Rattle.std.specs.FinMap.{get, get-empty}
 use Rattle.std.specs.List.{filter}
 use Rattle.std.specs.Option.{option_and_then, option_map}
 use Rattle.std.specs.Ordering.{nat_cmp}
-use Rattle.std.proofs.lemmas.Bool.{eqb-true}
 use Rattle.fs_history.specs.declared.batch.Batch.{Batch}
 use Rattle.fs_listen.specs.Cuts.{cut, is_loaded, is_ready}
 use Rattle.fs_listen.specs.Listening.{Listened, Listening, Loaded, raised_to}
@@ -31,14 +30,14 @@ use Rattle.fs_machine.specs.declared.limits.Limits.{Limits}
 use Rattle.fs_machine.specs.declared.session.Session.{Session}
 use Rattle.fs_machine.proofs.Runs.{keeps}
 use Rattle.fs_server.specs.Events.{IsStagedFor, IsStagedIn, IsStagedOf}
-use Rattle.fs_server.specs.Heard.{AreHeard, Heard, heard_in, heard_raised, IsHeard, listener_of, listeners_of, with_heard}
-use Rattle.fs_server.proofs.Ears.{all_with, listeners_with, listening_found, listening_none, of_found}
+use Rattle.fs_sessions.specs.Heard.{AreHeard, Heard, heard_in, heard_raised, IsHeard, listener_of, listeners_of, with_heard}
+use Rattle.fs_sessions.proofs.Ears.{all_with, listeners_with, listening_found, listening_none, of_found}
 use Rattle.fs_server.proofs.Every.{all_any}
-use Rattle.fs_server.proofs.Listened.{none_cut}
+use Rattle.fs_sessions.proofs.Listened.{none_cut}
 use Rattle.fs_server.proofs.Unnumbered.{raising_numbered}
 
 -- what a session was told, of sessions before and then
-abbrev pub IsTold : List Batch → ℤ → ℕ → List Session → List Session → Heard → Type 0
+abbrev IsTold : List Batch → ℤ → ℕ → List Session → List Session → Heard → Type 0
 IsTold h time session ss new heard = new ≡ with_outbox session (λ ms. ms ++ map message.Listen (map (with_deleted (stands_at h time)) (kept_told time heard.held))) ss
 
 -- ---- who is together at a time is open
@@ -92,26 +91,6 @@ module _ (m : Machine) (hs : List Heard) (listened : m.listeners ≡ listeners_o
       listeners_with session (heard_raised time) (λ (l : Listener). record l { listening = raised_to time l.listening }) hs
       (all_any (λ (h : Heard). listener_of (heard_raised time h) ≡ record (listener_of h) { listening = raised_to time (listener_of h).listening }) (λ h. refl) hs)
       ∙ ap (with_listening session (raised_to time)) (sym listened)
-
--- ---- as sessions are raised
-
-session_one : (session : ℕ) (h : Heard) (hs : List Heard) (found : Heard) (same : Bool) → (h.session == session) ≡ same → (heard_in session hs ≡ Some found → found.session ≡ session)
-    → cond same (Some h) (heard_in session hs) ≡ Some found → found.session ≡ session
-session_one session h hs found true is rest there = let one : h ≡ found = cc in subst (λ (k : Heard). k.session ≡ session) one (eqb-true h.session session is)
-session_one session h hs found false is rest there = rest there
-
--- the one that is found is the session's
-session_found : (session : ℕ) (hs : List Heard) (found : Heard) → heard_in session hs ≡ Some found → found.session ≡ session
-session_found session [] found is = absurd (cc)
-session_found session (h ∷ hs) found is = session_one session h hs found (h.session == session) refl (session_found session hs found) is
-
-module _ (h : List Batch) (time : ℤ) (session : ℕ) (ss new : List Session) (hs : List Heard) where
-  pub told_found : (one : Heard) → Some one ≡ heard_in session hs → IsTold h time one.session ss new one → IfSome (heard_in session hs) (IsTold h time session ss new)
-  told_found one found told =
-      subst (λ o. IfSome o (IsTold h time session ss new)) found (subst (λ k. IsTold h time k ss new one) (session_found session hs one (sym found)) told)
-
-  pub told_nobody : None ≡ heard_in session hs → IfSome (heard_in session hs) (IsTold h time session ss new)
-  told_nobody none = subst (λ o. IfSome o (IsTold h time session ss new)) none tt
 
 -- ---- what is staged
 

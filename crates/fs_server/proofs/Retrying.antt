@@ -20,7 +20,7 @@ use Rattle.fs_machine.proofs.Holding.{beside}
 use Rattle.fs_machine.proofs.Runs.{keeps}
 use Rattle.fs_server.specs.Changes.{Does, asking, changed, past_changed, txns_changed}
 use Rattle.fs_server.specs.declared.changes.Change.{Change}
-use Rattle.fs_server.specs.Heard.{AreHeard, Heard, listeners_of}
+use Rattle.fs_sessions.specs.Heard.{AreHeard, Heard, listeners_of}
 use Rattle.fs_server.specs.Kept.{IsKept}
 use Rattle.fs_server.specs.Noted.{listens}
 use Rattle.fs_server.proofs.Asking.{heard_changed, kept_of, shards_changed}

@@ -1,14 +1,11 @@
 -- What settling a commit does: it is accepted or dropped, and then what can be is released.
-use Rattle.std.proofs.Common.{◌≡◌, ℕ, ℤ, Bool, true, false, List, [], ◌∷◌, ◌++◌, Option, Some, None, Ok, refl, sym, ap, ◌∙◌, subst, cond, arith, suc, take, get_or, length, ◌-◌, ◌<◌}
-use Rattle.std.specs.Prelude.{IsSome, int_lt, map}
-use Rattle.std.proofs.Math.Seq.{take-length, take-suc}
-use Rattle.std.proofs.lemmas.Option.{same_Some}
+use Rattle.std.proofs.Common.{◌≡◌, ℕ, ℤ, Bool, true, false, List, [], ◌∷◌, Option, Some, None, Ok, refl, sym, ap, ◌∙◌, subst, cond}
+use Rattle.std.specs.Prelude.{IsSome, int_lt}
 use Rattle.fs_rpc.specs.MessageJson.{refused}
 use Rattle.fs_machine.specs.declared.answer.Outcome.{Outcome}
 use Rattle.fs_machine.specs.declared.answer.Outcome.TheVariants as outcome
 use Rattle.fs_machine.specs.declared.answer.Settled.{Settled}
 use Rattle.fs_machine.specs.declared.answer.Settled.TheVariants.{Released, Waiting, Dropped, Memory}
-use Rattle.fs_machine.specs.declared.reply.Reply.{Reply}
 use Rattle.fs_machine.specs.declared.session.Session.{Session}
 use Rattle.fs_machine.specs.declared.unreleased.Unreleased.{Unreleased}
 use Rattle.fs_machine.specs.Event.{Event}
@@ -21,34 +18,7 @@ use Rattle.fs_machine.specs.Sessions.{delivered}
 use Rattle.fs_machine.specs.Settle.{ComesTo, IsOutcomeOfPending, accepted_in, decided, decided_if, decided_with, dropped_from, outcome_of, pending_of, settled, settled_answer, settled_answer_if, settled_as, HasTime, Settles}
 use Rattle.fs_machine.specs.State.{Machine}
 use Rattle.fs_machine.proofs.Pending.{number_found}
-use Rattle.fs_server.specs.Place.{all_taken_back, taken_back}
 use Rattle.fs_server.specs.Settling.{Decides, is_refused, settled_so}
-use Rattle.fs_server.proofs.Places.{delivered_and_taken_back}
-
--- ---- replies
-
-pub delivered_last : (rs : List Reply) (r : Reply) (ss : List Session) → all_delivered (rs ++ r ∷ []) ss ≡ delivered r.session r.message (all_delivered rs ss)
-delivered_last [] r ss = refl
-delivered_last (x ∷ rs) r ss = delivered_last rs r (delivered x.session x.message ss)
-
-pub taken_back_last : (ns : List ℕ) (n : ℕ) (ss : List Session) → all_taken_back (ns ++ n ∷ []) ss ≡ all_taken_back ns (taken_back n ss)
-taken_back_last [] n ss = refl
-taken_back_last (x ∷ ns) n ss = ap (taken_back x) (taken_back_last ns n ss)
-
--- a list is what is left of it and its last
-pub popped : (xs : List ℕ) (len x : ℕ) → length xs ≡ len → 0 < len → Some x ≡ Some (get_or xs (len - 1) 0) → take (len - 1) xs ++ x ∷ [] ≡ xs
-popped xs len x is some last =
-    let within : len - 1 < length xs = omega (arith, is, some) in
-    let whole : suc (len - 1) ≡ length xs = omega (arith, is, some) in
-    ap (λ y. take (len - 1) xs ++ y ∷ []) (same_Some x (get_or xs (len - 1) 0) last)
-    ∙ sym (take-suc xs (len - 1) 0 within)
-    ∙ ap (λ n. take n xs) whole
-    ∙ take-length xs
-
--- replies that are taken back are as if they hadn't been delivered
-pub all_back : (rs : List Reply) (ss : List Session) → all_taken_back (map (λ r. r.session) rs) (all_delivered rs ss) ≡ ss
-all_back [] ss = refl
-all_back (r ∷ rs) ss = ap (taken_back r.session) (all_back rs (delivered r.session r.message ss)) ∙ delivered_and_taken_back r.session r.message ss
 
 -- ---- what its writes come to
 

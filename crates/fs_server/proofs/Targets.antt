@@ -1,5 +1,5 @@
 -- A target is added to a session, or removed: which limits it passes, and what is kept then.
-use Rattle.std.proofs.Common.{◌≡◌, ◌≢◌, ℕ, ◌+◌, ◌<◌, ◌≤◌, ℤ, ◌≤ℤ◌, Bool, false, cond, List, [], ◌∷◌, Option, Some, None, refl, sym, ap, ◌∙◌, subst, arith}
+use Rattle.std.proofs.Common.{◌≡◌, ◌≢◌, ℕ, ◌+◌, ◌<◌, ◌≤◌, ℤ, ◌≤ℤ◌, false, cond, List, [], ◌∷◌, Option, Some, None, refl, sym, ap, ◌∙◌, subst, arith}
 use Rattle.std.specs.Prelude.{IfSome, codes, is_some, nat_le}
 use Rattle.std.specs.FinMap.{get, insert, len, remove}
 use Rattle.std.specs.List.{AllByRecursion}
@@ -24,10 +24,10 @@ use Rattle.fs_machine.specs.declared.parked_request.ParkedRequest.{ParkedRequest
 use Rattle.fs_machine.specs.declared.session.Session.{Session}
 use Rattle.fs_machine.proofs.Asking.{adding_passes, outbox_none}
 use Rattle.fs_machine.proofs.ListenersHold.{listeners_added, listeners_removed}
-use Rattle.fs_server.specs.Heard.{AreHeard, Heard, IsHeard, heard_adding, heard_in, heard_removing, listener_of, listeners_of, with_heard}
+use Rattle.fs_sessions.specs.Heard.{AreHeard, Heard, IsHeard, heard_adding, heard_in, heard_removing, listener_of, listeners_of, with_heard}
 use Rattle.fs_server.specs.Kept.{IsKept}
 use Rattle.fs_server.proofs.Every.{all_unmapped}
-use Rattle.fs_server.proofs.Ears.{all_with, listeners_with, listening_found, of_found}
+use Rattle.fs_sessions.proofs.Ears.{all_with, listeners_with, listening_found, of_found}
 use Rattle.fs_server.proofs.Unnumbered.{adding_numbered, removing_numbered}
 use Rattle.fs_server.proofs.Within.{behind_closed, behind_passed, not_passed}
 

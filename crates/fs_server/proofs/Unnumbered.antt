@@ -7,7 +7,7 @@ use Rattle.std.proofs.lemmas.Cmp.{nat_cmp_total}
 use Rattle.fs_listen.specs.Listening.{Listened, Listening, added, each, loaded, loaded_at, loaded_one, made_current, matched, moved, raised_to, removed, with_loaded}
 use Rattle.fs_listen.proofs.Targets.{get_each}
 use Rattle.fs_query.specs.declared.target.Target.{Target}
-use Rattle.fs_server.specs.Heard.{AreNumbered}
+use Rattle.fs_sessions.specs.Heard.{AreNumbered}
 
 -- where others are the targets, and none of those is gone
 alike : (s other : Listening) (ns : FinMap nat_cmp ℕ) → ((id : ℕ) → get other.targets id ≡ None → get s.targets id ≡ None) → AreNumbered s ns → AreNumbered other ns

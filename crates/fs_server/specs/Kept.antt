@@ -14,7 +14,7 @@ use Rattle.fs_machine.specs.declared.limits.Limits.{Limits}
 use Rattle.fs_machine.specs.declared.numbers.Numbers.{Numbers}
 use Rattle.fs_machine.specs.declared.parked_request.ParkedRequest.{ParkedRequest}
 use Rattle.fs_machine.specs.declared.session.Session.{Session}
-use Rattle.fs_server.specs.Heard.{AreHeard, Heard, listeners_of}
+use Rattle.fs_sessions.specs.Heard.{AreHeard, Heard, listeners_of}
 
 pub record IsKept (config : Config) (limits : Limits) (past : Past) (txns : Transactions) (sessions : List Session) (listeners : List Heard) (parked : List ParkedRequest) (numbers : Numbers) : Type 0 where
   pub configured : IsAllowed config

@@ -1,12 +1,7 @@
-pub mod Place
 pub mod Settling
 pub mod Noted
 pub mod Changes
 pub mod Kept
-pub mod TargetNumbers
-pub mod Heard
 pub mod Events
 pub mod Listening
 pub mod Loading
-pub mod Matched
-pub mod Matching

@@ -4,14 +4,14 @@ ghost use Rattle.fs_query.specs.declared.listen.ListenMessage.TheVariants as lis
 ghost use Rattle.fs_rpc.specs.declared.message.Message.TheVariants as message;
 ghost use Rattle.fs_listen.specs.Runs.{is_lost as is_lost_before};
 ghost use Rattle.fs_machine.specs.Load.{load_floor, with_reset};
-ghost use Rattle.fs_server.specs.Place.{taken_back};
+ghost use Rattle.fs_sessions.specs.Place.{taken_back};
 
 use crate::listen::one;
 use crate::read::refusal_from;
 use crate::server::Server;
-use crate::sessions::Sessions;
 use fs_query::ListenMessage;
 use fs_rpc::Message;
+use fs_sessions::Sessions;
 use fs_status::{Reason, Refusal};
 use fs_target::targets_are_lawful;
 use fs_time::Micros;

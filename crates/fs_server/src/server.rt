@@ -1,14 +1,12 @@
 //! The server.
 ghost use Rattle.std.specs.Prelude.{◌≡◌};
 
-use crate::listeners::Listeners;
-use crate::matched::lesser;
-use crate::sessions::Sessions;
 use crate::settle::release;
 use crate::waiting::Waiting;
 use fs_machine::{Config, Limits, Messages, Numbers, machines_are_lawful};
 use fs_past::{Past, Version};
 use fs_path::{DocName, Root};
+use fs_sessions::{Listeners, Sessions, lesser};
 use fs_status::Id;
 use fs_target::targets_are_lawful;
 use fs_time::Micros;
@@ -58,7 +56,7 @@ impl Model for Server {
 
     ghost coded = { machine_code };
 
-    ghost use Rattle.fs_server.specs.Heard.{listeners_of};
+    ghost use Rattle.fs_sessions.specs.Heard.{listeners_of};
     ghost use Rattle.fs_server.specs.Kept.{IsKept};
 
     ghost view = { λ s. record {

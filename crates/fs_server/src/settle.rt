@@ -9,10 +9,10 @@ ghost use Rattle.fs_past.specs.Bringing.{BringsMore};
 ghost use Rattle.fs_server.specs.Settling.{is_refused, settled_so, Decides};
 
 use crate::server::Server;
-use crate::sessions::Sessions;
 use fs_machine::{Outcome, Settled, Unreleased};
 use fs_past::Past;
 use fs_rpc::{Message, copy_id};
+use fs_sessions::Sessions;
 use fs_status::{Id, Refusal};
 use fs_target::targets_are_lawful;
 use fs_time::Micros;

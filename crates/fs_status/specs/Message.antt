@@ -43,6 +43,10 @@ read_time_text time side bound = codes "read time " ++ time_text time ++ (codes 
 abbrev pub token_ahead_text : ℤ → ℤ → List ℕ
 token_ahead_text time released = codes "token time " ++ time_text time ++ (codes " is after " ++ time_text released)
 
+-- a stream token, how it stands to the stream, and the token of the next batch
+abbrev pub stream_token_text : ℕ → List ℕ → ℕ → List ℕ
+stream_token_text token how next = codes "stream token " ++ decimal token ++ (codes " " ++ (how ++ (codes ", next " ++ decimal next)))
+
 -- what is told of a transaction, which is named by its number
 abbrev pub transaction_text : ℕ → List ℕ → List ℕ
 transaction_text n what = codes "transaction " ++ decimal n ++ (codes " " ++ what)
@@ -71,6 +75,12 @@ message_text reasons.TokenTime = codes "token time"
 message_text (reasons.TokenAhead time released) = token_ahead_text time released
 message_text (reasons.TargetInUse n) = codes "target " ++ decimal n ++ codes " in use"
 message_text (reasons.TargetUnknown n) = codes "target " ++ signed_decimal n ++ codes " unknown"
+message_text reasons.NoStream = codes "no stream"
+message_text (reasons.StreamUnknown n) = codes "stream " ++ decimal n ++ codes " unknown"
+message_text reasons.NotOwner = codes "stream not owned"
+message_text reasons.SecondStream = codes "second stream"
+message_text (reasons.Stale token next) = stream_token_text token (codes "stale") next
+message_text (reasons.Ahead token next) = stream_token_text token (codes "ahead") next
 message_text (reasons.AtLimit name number) = codes "limit " ++ name ++ (codes " " ++ decimal number)
 message_text (reasons.Method name) = codes "method " ++ name
 message_text (reasons.Line line) = line_text line

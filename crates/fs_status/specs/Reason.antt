@@ -3,7 +3,7 @@ use Rattle.std.specs.Prelude.{ℕ, Option, Some, None}
 use Rattle.fs_status.specs.declared.code.Code.{Code}
 use Rattle.fs_status.specs.declared.code.Code.TheVariants.{InvalidArgument, FailedPrecondition, NotFound, AlreadyExists, Aborted, ResourceExhausted, Unimplemented, OutOfMemory}
 use Rattle.fs_status.specs.declared.reason.Reason.{Reason}
-use Rattle.fs_status.specs.declared.reason.Reason.TheVariants.{Rule, Missing, Exists, OtherTime, DeepAfter, LargeAfter, NoDocument, TooOld, TooNew, NotOpen, Expired, ReadOnly, Conflict, TokenLength, TokenMark, TokenTime, TokenAhead, TargetInUse, TargetUnknown, AtLimit, Method, Line, Memory}
+use Rattle.fs_status.specs.declared.reason.Reason.TheVariants.{Rule, Missing, Exists, OtherTime, DeepAfter, LargeAfter, NoDocument, TooOld, TooNew, NotOpen, Expired, ReadOnly, Conflict, TokenLength, TokenMark, TokenTime, TokenAhead, TargetInUse, TargetUnknown, NoStream, StreamUnknown, NotOwner, SecondStream, Stale, Ahead, AtLimit, Method, Line, Memory}
 
 abbrev pub code_of : Reason → Code
 code_of (Rule rule place) = InvalidArgument
@@ -25,6 +25,12 @@ code_of TokenTime = InvalidArgument
 code_of (TokenAhead time released) = InvalidArgument
 code_of (TargetInUse n) = InvalidArgument
 code_of (TargetUnknown n) = InvalidArgument
+code_of NoStream = InvalidArgument
+code_of (StreamUnknown n) = InvalidArgument
+code_of NotOwner = InvalidArgument
+code_of SecondStream = InvalidArgument
+code_of (Stale token next) = InvalidArgument
+code_of (Ahead token next) = InvalidArgument
 code_of (AtLimit name number) = ResourceExhausted
 code_of (Method name) = Unimplemented
 code_of (Line line) = InvalidArgument

@@ -1,6 +1,6 @@
 //! The messages of refusals.
 ghost use Rattle.std.specs.Prelude.{◌≡◌, IfOk, string_bytes};
-ghost use Rattle.fs_status.specs.Message.{message_text, expired_text, line_text, numbered_text, read_time_text, rule_text, token_ahead_text, transaction_text, update_time_text, write_text};
+ghost use Rattle.fs_status.specs.Message.{message_text, expired_text, line_text, numbered_text, read_time_text, rule_text, stream_token_text, token_ahead_text, transaction_text, update_time_text, write_text};
 
 use crate::id::Id;
 use crate::reason::{LineFault, Reason};
@@ -55,6 +55,12 @@ fn reason_text(alloc: Global, reason: &Reason) -> Result<String, AllocError>
         Reason::TokenAhead(time, released) => token_ahead_text(alloc, *time, *released),
         Reason::TargetInUse(target) => format!(in alloc; "target {target} in use"),
         Reason::TargetUnknown(target) => format!(in alloc; "target {target} unknown"),
+        Reason::NoStream => String::from_str(alloc, "no stream"),
+        Reason::StreamUnknown(stream) => format!(in alloc; "stream {stream} unknown"),
+        Reason::NotOwner => String::from_str(alloc, "stream not owned"),
+        Reason::SecondStream => String::from_str(alloc, "second stream"),
+        Reason::Stale(token, next) => stream_token_text(alloc, *token, "stale", *next),
+        Reason::Ahead(token, next) => stream_token_text(alloc, *token, "ahead", *next),
         Reason::AtLimit(name, number) => {
             let name = name.as_str();
             format!(in alloc; "limit {name} {number}")
@@ -112,6 +118,13 @@ fn token_ahead_text(alloc: Global, time: Micros, released: Micros) -> Result<Str
     let released = print(alloc, released)?;
     let (time, released) = (time.as_str(), released.as_str());
     format!(in alloc; "token time {time} is after {released}")
+}
+
+// A stream token, how it stands to the stream, and the token of the next batch.
+fn stream_token_text(alloc: Global, token: u64, how: &str, next: u64) -> Result<String, AllocError>
+    ensures { IfOk result (λ s. string_bytes s ≡ stream_token_text token how.now next) }
+{
+    format!(in alloc; "stream token {token} {how}, next {next}")
 }
 
 // What is told of a transaction, which is named by its number.

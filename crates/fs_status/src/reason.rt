@@ -49,6 +49,18 @@ pub enum Reason {
     TargetInUse(u32),
     /// The session has no target of this number, which may be no id.
     TargetUnknown(i64),
+    /// The session never owned a write stream.
+    NoStream,
+    /// No write stream of this number was opened.
+    StreamUnknown(u64),
+    /// The session owns its write stream no longer: another one resumed it.
+    NotOwner,
+    /// The session owns a write stream, and can't have another.
+    SecondStream,
+    /// The stream token, which is more than one batch behind, and the token of the next batch.
+    Stale(u64, u64),
+    /// The stream token, which no response had yet, and the token of the next batch.
+    Ahead(u64, u64),
     /// A limit by its name, with the number that it allows.
     AtLimit(Text, u64),
     /// A method or a member that isn't served, by its name.
@@ -93,6 +105,12 @@ impl Reason {
             Reason::TokenAhead(_, _) => Code::InvalidArgument,
             Reason::TargetInUse(_) => Code::InvalidArgument,
             Reason::TargetUnknown(_) => Code::InvalidArgument,
+            Reason::NoStream => Code::InvalidArgument,
+            Reason::StreamUnknown(_) => Code::InvalidArgument,
+            Reason::NotOwner => Code::InvalidArgument,
+            Reason::SecondStream => Code::InvalidArgument,
+            Reason::Stale(_, _) => Code::InvalidArgument,
+            Reason::Ahead(_, _) => Code::InvalidArgument,
             Reason::AtLimit(_, _) => Code::ResourceExhausted,
             Reason::Method(_) => Code::Unimplemented,
             Reason::Line(_) => Code::InvalidArgument,
@@ -137,6 +155,12 @@ impl Reason {
             Reason::TokenAhead(time, released) => Reason::TokenAhead(*time, *released),
             Reason::TargetInUse(target) => Reason::TargetInUse(*target),
             Reason::TargetUnknown(target) => Reason::TargetUnknown(*target),
+            Reason::NoStream => Reason::NoStream,
+            Reason::StreamUnknown(stream) => Reason::StreamUnknown(*stream),
+            Reason::NotOwner => Reason::NotOwner,
+            Reason::SecondStream => Reason::SecondStream,
+            Reason::Stale(token, next) => Reason::Stale(*token, *next),
+            Reason::Ahead(token, next) => Reason::Ahead(*token, *next),
             Reason::AtLimit(name, number) => Reason::AtLimit(name.copy(alloc)?, *number),
             Reason::Method(name) => Reason::Method(name.copy(alloc)?),
             Reason::Line(line) => Reason::Line(*line),

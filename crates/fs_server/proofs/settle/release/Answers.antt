@@ -1,6 +1,6 @@
 use Rattle.std.proofs.Common.{◌∙◌}
-use Rattle.fs_server.specs.Place.{all_taken_back}
-use Rattle.fs_server.proofs.Settling.{all_back}
+use Rattle.fs_sessions.specs.Place.{all_taken_back}
+use Rattle.fs_sessions.proofs.Replies.{all_back}
 use Rattle.fs_server.proofs.settle.release.Goals as goal
 
 pub returns-in-Err-clause-err_told : goal.returns-in-Err-clause-err_told

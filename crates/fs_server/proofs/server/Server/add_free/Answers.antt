@@ -3,7 +3,7 @@ use Rattle.std.specs.Prelude.{IfSome}
 use Rattle.fs_machine.specs.Listen.{adding_refusal, with_target}
 use Rattle.fs_machine.specs.State.{Machine}
 use Rattle.fs_machine.proofs.Asking.{adding_passes, token_shown}
-use Rattle.fs_server.specs.Heard.{listeners_of}
+use Rattle.fs_sessions.specs.Heard.{listeners_of}
 use Rattle.fs_server.proofs.Targets.{kept_adding, listeners_adding, may_add, may_number, may_use, number_left}
 use Rattle.fs_server.proofs.server.Server.add_free.Goals as goal
 

@@ -6,7 +6,7 @@ use Rattle.fs_machine.specs.Facts.{Facts}
 use Rattle.fs_machine.specs.Past.{Past}
 use Rattle.fs_machine.specs.State.{Machine}
 use Rattle.fs_machine.proofs.Runs.{keeps}
-use Rattle.fs_server.specs.Heard.{listeners_of}
+use Rattle.fs_sessions.specs.Heard.{listeners_of}
 use Rattle.fs_server.proofs.Asking.{kept_of}
 use Rattle.fs_server.proofs.Heard.{heard_same}
 use Rattle.fs_server.proofs.server.Server.compact.Goals as goal

@@ -8,7 +8,7 @@ use Rattle.fs_history.specs.Brings.{AreChangesIn}
 use Rattle.fs_path.specs.Scope.{in_shard}
 use Rattle.fs_machine.specs.State.{Machine}
 use Rattle.fs_server.specs.Events.{AreEvents}
-use Rattle.fs_server.specs.Matched.{ear_events, least_in}
+use Rattle.fs_sessions.specs.Matched.{ear_events, least_in}
 use Rattle.fs_server.proofs.EventsNamed.{IsEvent, all_named, all_until, are_events, changes_told}
 use Rattle.fs_server.proofs.EventsTold.{are_none, are_told}
 use Rattle.fs_server.proofs.Positions.{least_readable}

@@ -6,7 +6,7 @@ use Rattle.fs_machine.specs.Match.{matched}
 use Rattle.fs_machine.specs.State.{Machine}
 use Rattle.fs_machine.proofs.Runs.{keeps}
 use Rattle.fs_server.specs.Events.{AreEvents}
-use Rattle.fs_server.specs.Heard.{AreHeard, heard_fed, listeners_of}
+use Rattle.fs_sessions.specs.Heard.{AreHeard, heard_fed, listeners_of}
 use Rattle.fs_server.specs.Kept.{IsKept}
 use Rattle.fs_server.proofs.Asking.{kept_of}
 use Rattle.fs_server.proofs.Feeding.{all_fed, listeners_matched}

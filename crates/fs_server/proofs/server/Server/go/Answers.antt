@@ -2,7 +2,7 @@ use Rattle.std.proofs.Common.{refl, sym, ap, ◌∙◌, subst}
 use Rattle.fs_machine.specs.State.{Machine}
 use Rattle.fs_server.specs.Changes.{IsFresh}
 use Rattle.fs_server.specs.Noted.{own_number}
-use Rattle.fs_server.specs.Heard.{listeners_of}
+use Rattle.fs_sessions.specs.Heard.{listeners_of}
 use Rattle.fs_server.proofs.Asking.{went, went_kept}
 use Rattle.fs_server.proofs.Fresh.{fresh_asked}
 use Rattle.fs_server.proofs.Within.{retried_within}

@@ -1,7 +1,7 @@
 use Rattle.std.proofs.Common.{refl, sym, ap, ◌∙◌}
 use Rattle.std.specs.Prelude.{slice_get}
 use Rattle.fs_machine.specs.State.{Machine}
-use Rattle.fs_server.specs.Heard.{listeners_of}
+use Rattle.fs_sessions.specs.Heard.{listeners_of}
 use Rattle.fs_server.proofs.Fresh.{fresh_parked}
 use Rattle.fs_server.proofs.Listens.{plain_parked}
 use Rattle.fs_server.proofs.Retrying.{went_on, went_on_kept}

@@ -4,9 +4,9 @@ use Rattle.fs_machine.specs.Facts.{Facts}
 use Rattle.fs_machine.specs.Leave.{departed}
 use Rattle.fs_machine.specs.State.{Machine}
 use Rattle.fs_machine.proofs.Runs.{keeps}
-use Rattle.fs_server.specs.Heard.{AreHeard, IsHeard, listeners_of}
+use Rattle.fs_sessions.specs.Heard.{AreHeard, IsHeard, listeners_of}
 use Rattle.fs_server.proofs.Asking.{kept_of}
-use Rattle.fs_server.proofs.Ears.{all_without, listeners_without}
+use Rattle.fs_sessions.proofs.Ears.{all_without, listeners_without}
 use Rattle.fs_server.proofs.server.Server.leave.Goals as goal
 
 pub invariant_of-self : goal.invariant_of-self

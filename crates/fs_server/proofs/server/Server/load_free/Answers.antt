@@ -10,10 +10,10 @@ use Rattle.fs_machine.specs.Listen.{listening_of}
 use Rattle.fs_machine.specs.Load.{loaded_with}
 use Rattle.fs_machine.specs.State.{Machine}
 use Rattle.fs_machine.specs.declared.session.Session.{Session}
-use Rattle.fs_server.specs.Heard.{Heard, listeners_of}
+use Rattle.fs_sessions.specs.Heard.{Heard, listeners_of}
 use Rattle.fs_server.specs.Kept.{IsKept}
 use Rattle.fs_server.specs.Loading.{IsFree}
-use Rattle.fs_server.specs.Place.{taken_back}
+use Rattle.fs_sessions.specs.Place.{taken_back}
 use Rattle.fs_server.proofs.Loads.{HasDocuments, kept_loading, listeners_loading, reset_back, resumed_within, token_in}
 use Rattle.fs_server.proofs.server.Server.load_free.Goals as goal
 

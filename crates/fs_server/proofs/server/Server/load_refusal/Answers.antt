@@ -5,7 +5,7 @@ use Rattle.fs_machine.specs.Listen.{listening_of}
 use Rattle.fs_machine.specs.Load.{load_floor, load_refusal, time_refusal}
 use Rattle.fs_machine.specs.Read.{refusal_from}
 use Rattle.fs_machine.specs.State.{Machine}
-use Rattle.fs_server.specs.Heard.{listeners_of}
+use Rattle.fs_sessions.specs.Heard.{listeners_of}
 use Rattle.fs_server.proofs.Loads.{refused_loading, token_in}
 use Rattle.fs_server.proofs.server.Server.load_refusal.Goals as goal
 

@@ -5,9 +5,9 @@ use Rattle.fs_machine.specs.Open.{is_full, with_session}
 use Rattle.fs_machine.specs.State.{Machine}
 use Rattle.fs_past.specs.Bringing.{IsBrought}
 use Rattle.fs_machine.proofs.Runs.{keeps}
-use Rattle.fs_server.specs.Heard.{AreHeard, listeners_of, opened_ear}
+use Rattle.fs_sessions.specs.Heard.{AreHeard, listeners_of, opened_ear}
 use Rattle.fs_server.proofs.Asking.{kept_of}
-use Rattle.fs_server.proofs.Ears.{listeners_more}
+use Rattle.fs_sessions.proofs.Ears.{listeners_more}
 use Rattle.fs_server.proofs.Heard.{heard_more}
 use Rattle.fs_server.proofs.Opening.{not_full}
 use Rattle.fs_server.proofs.server.Server.opened.Goals as goal

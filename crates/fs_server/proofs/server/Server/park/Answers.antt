@@ -2,7 +2,7 @@ use Rattle.std.proofs.Common.{rules, ◌≡◌, false, [], ◌∷◌, ◌++◌, 
 use Rattle.std.specs.Prelude.{nat_le}
 use Rattle.fs_machine.specs.State.{Machine}
 use Rattle.fs_server.specs.Changes.{asking}
-use Rattle.fs_server.specs.Heard.{listeners_of}
+use Rattle.fs_sessions.specs.Heard.{listeners_of}
 use Rattle.fs_server.proofs.Asking.{waits_kept}
 use Rattle.fs_server.proofs.server.Server.park.Goals as goal
 

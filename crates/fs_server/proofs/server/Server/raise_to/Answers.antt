@@ -8,7 +8,7 @@ use Rattle.fs_machine.specs.State.{Machine}
 use Rattle.fs_machine.proofs.ListenersHold.{cut_released}
 use Rattle.fs_machine.proofs.Listening.{listening_holds}
 use Rattle.fs_listen.specs.Cuts.{is_ready}
-use Rattle.fs_server.specs.Heard.{AreHeard, listeners_of}
+use Rattle.fs_sessions.specs.Heard.{AreHeard, listeners_of}
 use Rattle.fs_server.specs.Kept.{IsKept}
 use Rattle.fs_server.proofs.Asking.{kept_of}
 use Rattle.fs_server.proofs.Outcomes.{by_both, of_both}

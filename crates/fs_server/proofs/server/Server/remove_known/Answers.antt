@@ -1,7 +1,7 @@
 use Rattle.std.proofs.Common.{ap, ◌∙◌}
 use Rattle.fs_machine.specs.Listen.{without_id}
 use Rattle.fs_machine.specs.State.{Machine}
-use Rattle.fs_server.specs.Heard.{listeners_of}
+use Rattle.fs_sessions.specs.Heard.{listeners_of}
 use Rattle.fs_server.proofs.Targets.{kept_removing, listeners_removing}
 use Rattle.fs_server.proofs.server.Server.remove_known.Goals as goal
 

@@ -6,7 +6,7 @@ use Rattle.fs_machine.specs.Settle.{ComesTo, Settles}
 use Rattle.fs_machine.specs.State.{Machine}
 use Rattle.fs_machine.proofs.Runs.{keeps}
 use Rattle.fs_server.specs.Settling.{is_refused, settled_so}
-use Rattle.fs_server.specs.Heard.{listeners_of}
+use Rattle.fs_sessions.specs.Heard.{listeners_of}
 use Rattle.fs_server.proofs.Asking.{kept_of}
 use Rattle.fs_server.proofs.Heard.{decided_shards, heard_decided, heard_grown, heard_same}
 use Rattle.fs_server.proofs.Settling.{has_time, is_decided, is_settled, settles, settles_grows, settles_owed}

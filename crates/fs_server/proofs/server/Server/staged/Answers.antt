@@ -1,7 +1,7 @@
 use Rattle.std.proofs.Common.{refl, subst}
 use Rattle.fs_machine.specs.State.{Machine}
 use Rattle.fs_server.specs.Events.{IsStagedOf}
-use Rattle.fs_server.specs.Heard.{listeners_of}
+use Rattle.fs_sessions.specs.Heard.{listeners_of}
 use Rattle.fs_server.proofs.Raising.{are_staged}
 use Rattle.std.specs.Prelude.{option_copied}
 use Rattle.fs_server.proofs.server.Server.staged.Goals as goal

@@ -4,7 +4,7 @@ use Rattle.fs_machine.specs.Sessions.{emptied}
 use Rattle.fs_machine.specs.SessionsNumbered.{SessionsNumbered}
 use Rattle.fs_machine.proofs.ListenersHold.{listeners_told}
 use Rattle.fs_machine.proofs.SessionsNumbered.{same_numbers, sessions_changed}
-use Rattle.fs_server.specs.Heard.{listeners_of}
+use Rattle.fs_sessions.specs.Heard.{listeners_of}
 use Rattle.fs_server.proofs.server.Server.take_outbox.Goals as goal
 
 pub invariant_of-self : goal.invariant_of-self

@@ -7,7 +7,7 @@ use Rattle.fs_machine.specs.Release.{all_delivered, past_released, replies_out}
 use Rattle.fs_machine.specs.State.{Machine}
 use Rattle.fs_machine.specs.Tick.{past_advanced}
 use Rattle.fs_machine.proofs.Runs.{keeps}
-use Rattle.fs_server.specs.Heard.{listeners_of}
+use Rattle.fs_sessions.specs.Heard.{listeners_of}
 use Rattle.fs_server.proofs.Asking.{kept_of}
 use Rattle.fs_server.proofs.Heard.{heard_grown, heard_same}
 use Rattle.fs_server.proofs.server.Server.tick.Goals as goal

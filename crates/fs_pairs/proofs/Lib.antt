@@ -1,0 +1,3 @@
+pub mod Entries
+mod Pairing
+pub mod Laws

@@ -1,4 +1,0 @@
-use Rattle.fs_server.proofs.listeners.remove_from.Goals as goal
-
-pub returns : goal.returns
-returns c = λ i. record { session = c.args.ear.now.session; held = c.forget.ensures i; numbers = c.remove.ensures i }

@@ -1,0 +1,4 @@
+pub mod Place
+pub mod Heard
+pub mod Matched
+pub mod Matching
