@@ -4,7 +4,7 @@ use crate::matching::tests::{of_names, of_query};
 use crate::query::tests::kept;
 use crate::queryjson::tests::{Ask, filtered_again, query_told};
 use crate::rpc::messages::{error, message_again, missing, refused};
-use crate::rpc::requests::{request_again, request_on, transaction};
+use crate::rpc::requests::{request_again, request_on, stream_token, transaction};
 use crate::valjson::{array_len, document_again, value_again};
 use crate::writejson::tests::{draft_told, list_again, mask_again, result_written, write_again};
 use fs_json::{Bad, read_time};
@@ -39,6 +39,8 @@ pub(crate) enum Make {
     RequestOn,
     /// The number of a transaction is written.
     Transaction,
+    /// The token of a write stream is written.
+    StreamToken,
     /// A refusal of this name is written with the id 7.
     Refusal,
     /// An error of this message is written.
@@ -88,6 +90,7 @@ pub(crate) fn made(rt: &impl Abort, alloc: Global, make: Make, text: &str) -> Re
         Make::Request => request_again(rt, alloc, text),
         Make::RequestOn => Ok(request_on(rt, alloc, text)),
         Make::Transaction => Ok(transaction(rt, alloc, text)),
+        Make::StreamToken => Ok(stream_token(rt, alloc, text)),
         Make::Refusal => Ok(refused(rt, alloc, text)),
         Make::Error => Ok(error(rt, alloc, text)),
         Make::Missing => Ok(missing(rt, alloc, text)),

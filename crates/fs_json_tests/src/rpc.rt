@@ -5,5 +5,6 @@ mod message_tables;
 pub(crate) mod messages;
 mod request_tables;
 pub(crate) mod requests;
+mod stream_tables;
 mod target_tables;
 mod tests;

@@ -8,7 +8,6 @@ use Rattle.std.proofs.lemmas.Int.{ints}
 use Rattle.std.proofs.lemmas.List.{append_assoc, append-nil}
 use Rattle.fs_query.specs.declared.listen.ListenMessage.{ListenMessage}
 use Rattle.fs_query.specs.declared.listen.ListenMessage.TheVariants as listen
-use Rattle.fs_rpc.specs.MessageJson.{refused}
 use Rattle.fs_rpc.specs.declared.message.Message.TheVariants as message
 use Rattle.fs_rpc.specs.declared.request.Envelope.{Envelope}
 use Rattle.fs_status.specs.declared.refusal.Refusal.{Refusal}
@@ -37,12 +36,12 @@ use Rattle.fs_machine.specs.Outbox.{outbox_of}
 use Rattle.fs_machine.specs.Past.{Past}
 use Rattle.fs_machine.specs.Raise.{cut_of, raised, raised_at, raised_to_time}
 use Rattle.fs_machine.specs.Refusing.{outbox_is_full}
-use Rattle.fs_machine.specs.Release.{let_out, replies_out}
+use Rattle.fs_machine.specs.Release.{committed_out}
 use Rattle.fs_machine.specs.Request.{answered, arrival_refusal, arrived, asked}
 use Rattle.fs_machine.specs.Retry.{retried_if, tried_answer}
-use Rattle.fs_machine.specs.Sessions.{outbox_in}
 use Rattle.fs_machine.specs.Settle.{decided_if, decided_with, outcome_of, pending_of}
 use Rattle.fs_machine.specs.State.{Machine, started}
+use Rattle.fs_machine.specs.Stream.{desk_of}
 use Rattle.fs_machine.specs.Tick.{later}
 use Rattle.fs_machine.specs.Told.{all_said, is_open, retry_said, said_by, told_by, told_in, world_of}
 use Rattle.fs_machine.specs.declared.config.Config.{Config}
@@ -50,13 +49,15 @@ use Rattle.fs_machine.specs.declared.limits.Limits.{Limits}
 use Rattle.fs_machine.specs.declared.parked_request.ParkedRequest.{ParkedRequest}
 use Rattle.fs_machine.specs.declared.unreleased.Unreleased.{Unreleased}
 use Rattle.fs_machine.proofs.Asking.{waiter_asks}
-use Rattle.fs_machine.proofs.Carried.{AtMostPrepares, asked_alone, asked_follows, retried_alone, retried_follows}
+use Rattle.fs_machine.proofs.Carried.{AtMostPrepares, asked_alone, asked_follows, asked_sessions, retried_alone, retried_follows, retried_said}
+use Rattle.fs_machine.proofs.Desks.{numbers_answered, numbers_refused}
+use Rattle.fs_machine.proofs.DesksSaid.{SaysNothing, all_answered_said, refused_said}
 use Rattle.fs_machine.proofs.FloorIsReleased.{floor_compacted}
-use Rattle.fs_machine.proofs.Heard.{among_open, delivered_quiet, heard_matched, heard_more, heard_none, heard_others, heard_own, heard_without, is_among, left_closed, listened_said, open_given, open_more, open_same, open_without, outbox_more, outbox_with, outbox_without, said_behind, said_same, said_taken, said_to}
+use Rattle.fs_machine.proofs.Heard.{among_open, heard_matched, heard_more, heard_none, heard_others, heard_own, heard_without, is_among, left_closed, listened_said, open_given, open_more, open_same, open_without, outbox_more, outbox_with, outbox_without, said_behind, said_same, said_taken, said_to}
 use Rattle.fs_machine.proofs.Listening.{beside_listening, loaded_numbers, loaded_rest, loads_at, raised_numbers, raised_rest}
 use Rattle.fs_machine.proofs.ListenersHold.{listed_in}
 use Rattle.fs_machine.proofs.Runs.{begins, earlier_released, grows, keeps}
-use Rattle.fs_machine.proofs.SessionsNumbered.{numbers_of, same_numbers, same_told}
+use Rattle.fs_machine.proofs.SessionsNumbered.{numbers_of, same_numbers}
 use Rattle.fs_machine.proofs.Told.{IsLed, Tells, asked_tells, led_on, retried_quiet, tells_none, tells_nothing}
 
 -- ---- what a session that may be open was told
@@ -278,13 +279,13 @@ module _ (shards k : ℕ) (m : Machine) (facts : Facts m) (said : List ListenMes
   opened_one true is = record {
     config = followed.config;
     led = λ now. still_led shards k m (with_session m) said (comes (with_session m)) (alike m.past) (heard_more m.listeners m.numbers.sessions k)
-        (said_same (outbox_of m k) (outbox_of (with_session m) k) (outbox_more m.sessions (record { number = m.numbers.sessions; outbox = [] }) k is)) (followed.led is);
+        (said_same (outbox_of m k) (outbox_of (with_session m) k) (outbox_more m.sessions (record { number = m.numbers.sessions; outbox = []; has_owned = false }) k is)) (followed.led is);
     fresh = λ above. absurd (not_after k m.numbers.sessions (open_given m.sessions m.numbers.sessions k facts.sessions is) above);
   }
   opened_one false is = record {
     config = followed.config;
     led = λ now.
-        let same = open_more m.sessions (record { number = m.numbers.sessions; outbox = [] }) k is now in
+        let same = open_more m.sessions (record { number = m.numbers.sessions; outbox = []; has_owned = false }) k is now in
         let one = eqb-true m.numbers.sessions k same in
         let none = followed.fresh (at_least m.numbers.sessions k one) in
         let heard = heard_more m.listeners m.numbers.sessions k ∙ heard_none m.listeners k (listed_open m k false facts is) in
@@ -323,6 +324,9 @@ module _ (shards k : ℕ) (m : Machine) (facts : Facts m) (said : List ListenMes
     fresh = λ above. append-nil said ∙ followed.fresh above;
   }
 
+  says_nothing : (n : Machine) → SaysNothing k m.sessions n.sessions → comes n ≡ []
+  says_nothing n nothing = said_behind (outbox_of m k) (outbox_of n k) nothing.0 nothing.1 ∙ nothing.2
+
   asked_followed : (session : ℕ) (e : Envelope) → IsFollowed shards k (asked m session e) (said ++ told_by m (Event.asking session e) k)
   asked_followed session e =
       let refusal = arrival_refusal m session e.request in
@@ -330,9 +334,9 @@ module _ (shards k : ℕ) (m : Machine) (facts : Facts m) (said : List ListenMes
       let n = asked m session e in
       let alone = asked_alone m r refusal in
       let past = prepares_alike m.past n.past (asked_follows m r refusal) in
-      follows shards k m n facts said (cond (session == k) (said_by (answered m session e)) [] ++ comes n) followed alone.config (ap numbers_of alone.sessions) alone.given
-      (λ is led. answer_led shards session k m n said (said_by (answered m session e)) (comes n) (listed is) past (asked_tells shards m session r.id e.id e.request refusal refl)
-      (said_same (outbox_of m k) (outbox_of n k) (ap (outbox_in k) alone.sessions)) led)
+      follows shards k m n facts said (cond (session == k) (said_by (answered m session e)) [] ++ comes n) followed alone.config alone.sessions alone.given
+      (λ is led. answer_led shards session k m n said (said_by (answered m session e)) (comes n) (listed is) past (asked_tells shards m session e refusal refl)
+      (said_same (outbox_of m k) (outbox_of n k) ((asked_sessions m r refusal).outboxes k)) led)
 
   retried_followed : (place : ℕ) (found : Option ParkedRequest) → slice_get m.parked place ≡ found
       → IsFollowed shards k (retried_if m place found) (said ++ cond (is_open k m.sessions) (retry_said m found k ++ comes (retried_if m place found)) [])
@@ -341,10 +345,10 @@ module _ (shards k : ℕ) (m : Machine) (facts : Facts m) (said : List ListenMes
       let n = retried_if m place (Some r) in
       let alone = retried_alone m place (Some r) in
       let past = prepares_alike m.past n.past (retried_follows m place (Some r)) in
-      let both = retried_quiet m place r (waiter_asks m.parked place r is facts.waiters) in
-      follows shards k m n facts said (retry_said m (Some r) k ++ comes n) followed alone.config (ap numbers_of alone.sessions) alone.given
+      let both = retried_quiet m place r (waiter_asks m.parked place r is facts.waiters).waits in
+      follows shards k m n facts said (retry_said m (Some r) k ++ comes n) followed alone.config alone.sessions alone.given
       (λ here led. answer_led shards r.session k m n said (said_by (tried_answer m r)) (comes n) (listed here) past (tells_none shards m n r.session (said_by (tried_answer m r)) both.0 both.1)
-      (said_same (outbox_of m k) (outbox_of n k) (ap (outbox_in k) alone.sessions)) led)
+      (says_nothing n (retried_said m place (Some r) k here)) led)
 
   decided_with_followed : (u : Unreleased) (r : Result (Docs × List WriteResult) Refusal) → IsFollowed shards k (decided_with m u r) (said ++ cond (is_open k m.sessions) (comes (decided_with m u r)) [])
   decided_with_followed u (Ok done) =
@@ -352,9 +356,8 @@ module _ (shards k : ℕ) (m : Machine) (facts : Facts m) (said : List ListenMes
       still_followed n (comes n) refl refl refl (record { history = refl; released = refl; floor = refl }) refl (λ is. said_same (outbox_of m k) (outbox_of m k) refl)
   decided_with_followed u (Err refusal) =
       let n = decided_with m u (Err refusal) in
-      let reply = refused u.request refusal in
-      still_followed n (comes n) refl (same_numbers m.sessions u.session (λ ms. ms ++ reply ∷ [])) refl (record { history = refl; released = refl; floor = refl }) refl
-      (λ is. said_to (outbox_of m k) (outbox_of n k) (reply ∷ []) (u.session == k) (outbox_with m.sessions u.session k (λ ms. ms ++ reply ∷ []) is) ∙ none_either (u.session == k))
+      still_followed n (comes n) refl (numbers_refused u.asker refusal (desk_of m)) refl (record { history = refl; released = refl; floor = refl }) refl
+      (λ is. says_nothing n (refused_said k u.asker refusal (desk_of m) is))
 
   decided_followed : (found : Option Unreleased) → IsFollowed shards k (decided_if m found) (said ++ cond (is_open k m.sessions) (comes (decided_if m found)) [])
   decided_followed None = still_followed m (comes m) refl refl refl (alike m.past) refl (λ is. said_same (outbox_of m k) (outbox_of m k) refl)
@@ -364,8 +367,7 @@ module _ (shards k : ℕ) (m : Machine) (facts : Facts m) (said : List ListenMes
   released_led is led =
       let n = step m Event.releasing in
       let more = grows m Event.releasing facts in
-      let replies = delivered_quiet (let_out m.past) m.sessions k is in
-      let none = said_behind (outbox_of m k) (outbox_of n k) replies.0 replies.1 ∙ replies.2 in
+      let none = says_nothing n (all_answered_said k (committed_out m.past) (desk_of m) is) in
       let w = world_of m k said in
       subst (IsLed shards) (λ i. record w { history = sym more.history i; released = n.past.released; said = sym (ap (λ ms. said ++ ms) none ∙ append-nil said) i })
       (led_on shards w (run.releases more.more n.past.released) (more.later, more.released) led)
@@ -407,7 +409,7 @@ module _ (shards k : ℕ) (m : Machine) (facts : Facts m) (said : List ListenMes
   follows_step (Event.advancing now) =
       let n = step m (Event.advancing now) in
       still_followed n (comes n) refl refl refl (record { history = refl; released = refl; floor = refl }) refl (λ is. said_same (outbox_of m k) (outbox_of m k) refl)
-  follows_step Event.releasing = let n = step m Event.releasing in follows shards k m n facts said (comes n) followed refl (same_told (replies_out m.past) m.sessions) refl released_led
+  follows_step Event.releasing = let n = step m Event.releasing in follows shards k m n facts said (comes n) followed refl (numbers_answered (committed_out m.past) (desk_of m)) refl released_led
   follows_step (Event.compacting to) = let n = step m (Event.compacting to) in follows shards k m n facts said (comes n) followed refl refl refl (λ is led. compacted_led to led)
   follows_step (Event.loading session target at) =
       pushed_followed session (loaded m session target at) (loaded_rest m session target at) (loaded_numbers m session target at) (load_pushes m session target at facts.past.floor)

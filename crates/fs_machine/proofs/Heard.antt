@@ -4,21 +4,18 @@ use Rattle.std.specs.Prelude.{drop, length, ◌==◌}
 use Rattle.std.proofs.Math.Seq.{drop-append_seam, drop-length, drop-nil}
 use Rattle.std.proofs.lemmas.Bool.{eqb-true}
 use Rattle.std.proofs.lemmas.Bool.Decides.{nat_tests}
-use Rattle.std.proofs.lemmas.List.{append_assoc, append-nil}
 use Rattle.fs_query.specs.declared.listen.ListenMessage.{ListenMessage}
 use Rattle.fs_rpc.specs.declared.message.Message.{Message}
 use Rattle.fs_rpc.specs.declared.message.Message.TheVariants as message
 use Rattle.fs_listen.specs.Listening.{Listening, matched as matched_in, none_listened}
 use Rattle.fs_machine.specs.Listeners.{Listener, listening_in, unheard, unlistening, with_listener}
 use Rattle.fs_machine.specs.Match.{matched_to}
-use Rattle.fs_machine.specs.Release.{all_delivered, reply_of, reply_to}
-use Rattle.fs_machine.specs.Sessions.{delivered, outbox_in, with_outbox, without}
+use Rattle.fs_machine.specs.Sessions.{outbox_in, with_outbox, without}
 use Rattle.fs_machine.specs.SessionsNumbered.{NumbersRise}
 use Rattle.fs_machine.specs.Told.{all_said, is_open}
 use Rattle.fs_machine.specs.declared.session.Session.{Session}
-use Rattle.fs_machine.specs.declared.unreleased.Unreleased.{Unreleased}
 use Rattle.fs_machine.proofs.ListenersHold.{listed_in}
-use Rattle.fs_machine.proofs.SessionsNumbered.{numbers_of, rise_within, same_numbers}
+use Rattle.fs_machine.proofs.SessionsNumbered.{numbers_of, rise_within}
 
 -- ---- which are open
 
@@ -158,21 +155,6 @@ said_to before now more false is = said_same before now is
 pub listened_said : (ms : List ListenMessage) → all_said (map message.Listen ms) ≡ ms
 listened_said [] = refl
 listened_said (m ∷ ms) = ap (λ ns. m ∷ ns) (listened_said ms)
-
--- the replies of commits say nothing of targets
-pub delivered_quiet : (us : List Unreleased) (ss : List Session) (k : ℕ) → is_open k ss ≡ true
-    → (more : List Message) × (outbox_in k (all_delivered (map reply_of us) ss) ≡ outbox_in k ss ++ more) × (all_said more ≡ [])
-delivered_quiet [] ss k is = ([], sym (append-nil (outbox_in k ss)), refl)
-delivered_quiet (u ∷ us) ss k is =
-    let next = delivered u.session (reply_to u) ss in
-    let rest = delivered_quiet us next k (open_same ss next k (same_numbers ss u.session (λ ms. ms ++ reply_to u ∷ [])) ∙ is) in
-    joined (u.session == k) (outbox_with ss u.session k (λ ms. ms ++ reply_to u ∷ []) is) rest
-  where
-    joined : (b : Bool) → outbox_in k (delivered u.session (reply_to u) ss) ≡ cond b (outbox_in k ss ++ reply_to u ∷ []) (outbox_in k ss)
-        → (rest : List Message) × (outbox_in k (all_delivered (map reply_of us) (delivered u.session (reply_to u) ss)) ≡ outbox_in k (delivered u.session (reply_to u) ss) ++ rest) × (all_said rest ≡ [])
-        → (more : List Message) × (outbox_in k (all_delivered (map reply_of (u ∷ us)) ss) ≡ outbox_in k ss ++ more) × (all_said more ≡ [])
-    joined true first (ms, rest, none) = (reply_to u ∷ ms, rest ∙ ap (λ xs. xs ++ ms) first ∙ append_assoc (outbox_in k ss) (reply_to u ∷ []) ms, none)
-    joined false first (ms, rest, none) = (ms, rest ∙ ap (λ xs. xs ++ ms) first, none)
 
 -- ---- what it listens to
 

@@ -11,6 +11,7 @@ use Rattle.fs_history.specs.declared.read.Read.{Read}
 use Rattle.fs_rpc.specs.declared.message.Message.TheVariants as message
 use Rattle.fs_rpc.specs.declared.request.Request.{Request}
 use Rattle.fs_rpc.specs.declared.request.Request.TheVariants.{Commit, GetDocument, BatchGetDocuments, RunQuery, BeginTransaction, Rollback, AddTarget, RemoveTarget}
+use Rattle.fs_rpc.specs.declared.request.Request.TheVariants as request
 use Rattle.fs_rpc.specs.declared.when.When.{When}
 use Rattle.fs_rpc.specs.declared.when.When.TheVariants.{Released, At, In}
 use Rattle.fs_rpc.specs.When.{transaction_of}
@@ -87,6 +88,7 @@ held_by_the_least m (BeginTransaction database options) = λ id none. none
 held_by_the_least m (Rollback database transaction) = λ id none. none
 held_by_the_least m (AddTarget database target t token) = λ id none. none
 held_by_the_least m (RemoveTarget database target) = λ id none. none
+held_by_the_least m (request.Write database asked) = λ id none. none
 
 pub aborted_by_the_least : (mode : Mode) (p : Past) (ts : List Txn) (t : Txn) (ws : List Write) → IsLeastOf (IsConflict mode p ts t ws) (conflict mode p ts t ws)
 aborted_by_the_least Pessimistic p ts t ws = least_passing (λ v. v.id) (is_reader ws) (others t.id ts)
@@ -127,15 +129,16 @@ free_commit m writes None is none = absurd (cc)
 free_commit m [] (Some id) is none = ap least (none_same m.past.unreleased)
 free_commit m (w ∷ ws) (Some id) is none = absurd (refused_writing (closed_refusal m.txns id) w ws id (only_reads m (Some id)) is none)
 
-free_reader : (m : Machine) (q : Request) → only_reads m (transaction_in q) ≡ true → check_refusal m q ≡ None → held_by m q ≡ None
-free_reader m (Commit database writes transaction) is none = free_commit m writes transaction is none
-free_reader m (GetDocument name mask when) is none = free_read m when (GetDocument name mask when) is
-free_reader m (BatchGetDocuments database names mask when) is none = free_read m when (BatchGetDocuments database names mask when) is
-free_reader m (RunQuery database query when) is none = free_read m when (RunQuery database query when) is
-free_reader m (BeginTransaction database options) is none = refl
-free_reader m (Rollback database transaction) is none = refl
-free_reader m (AddTarget database target t token) is none = refl
-free_reader m (RemoveTarget database target) is none = refl
+free_reader : (m : Machine) (session : ℕ) (q : Request) → only_reads m (transaction_in q) ≡ true → check_refusal m session q ≡ None → held_by m q ≡ None
+free_reader m session (Commit database writes transaction) is none = free_commit m writes transaction is none
+free_reader m session (GetDocument name mask when) is none = free_read m when (GetDocument name mask when) is
+free_reader m session (BatchGetDocuments database names mask when) is none = free_read m when (BatchGetDocuments database names mask when) is
+free_reader m session (RunQuery database query when) is none = free_read m when (RunQuery database query when) is
+free_reader m session (BeginTransaction database options) is none = refl
+free_reader m session (Rollback database transaction) is none = refl
+free_reader m session (AddTarget database target t token) is none = refl
+free_reader m session (RemoveTarget database target) is none = refl
+free_reader m session (request.Write database asked) is none = refl
 
-pub read_only_goes_on : (m : Machine) (q : Request) → only_reads m (transaction_in q) ≡ true → check_refusal m q ≡ None → decision m q ≡ Decision.goes_on
-read_only_goes_on m q is none = (λ i. unless_refused (none i) (unless_held (free_reader m q is none i)))
+pub read_only_goes_on : (m : Machine) (session : ℕ) (q : Request) → only_reads m (transaction_in q) ≡ true → check_refusal m session q ≡ None → decision m session q ≡ Decision.goes_on
+read_only_goes_on m session q is none = (λ i. unless_refused (none i) (unless_held (free_reader m session q is none i)))

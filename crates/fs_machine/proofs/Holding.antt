@@ -17,11 +17,15 @@ use Rattle.fs_rpc.specs.declared.options.TransactionOptions.{TransactionOptions}
 use Rattle.fs_rpc.specs.declared.options.TransactionOptions.TheVariants.{ReadWrite, ReadOnly}
 use Rattle.fs_rpc.specs.declared.request.Request.{Request}
 use Rattle.fs_rpc.specs.declared.request.Request.TheVariants.{Commit, GetDocument, BatchGetDocuments, RunQuery, BeginTransaction, Rollback, AddTarget, RemoveTarget}
+use Rattle.fs_rpc.specs.declared.request.Request.TheVariants as request
+use Rattle.fs_rpc.specs.declared.stream_request.StreamRequest.{StreamRequest}
+use Rattle.fs_rpc.specs.declared.stream_request.StreamRequest.TheVariants as write
 use Rattle.fs_rpc.specs.declared.when.When.{When}
 use Rattle.fs_rpc.specs.declared.when.When.TheVariants.{Released, At, In}
 use Rattle.fs_status.specs.Refusal.{at_limit, refusal_of}
 use Rattle.fs_status.specs.declared.reason.Reason.TheVariants.{TooOld, TooNew}
 use Rattle.fs_status.specs.declared.refusal.Refusal.{Refusal}
+use Rattle.fs_stream.specs.Streams.{Streams}
 use Rattle.fs_txn.specs.Transactions.{is_read_write, txn_of}
 use Rattle.fs_txn.specs.declared.kind.Kind.{Kind}
 use Rattle.fs_txn.specs.declared.kind.Kind.TheVariants as kind
@@ -38,9 +42,10 @@ use Rattle.fs_machine.specs.Numbered.{draws}
 use Rattle.fs_machine.specs.Past.{Past}
 use Rattle.fs_machine.specs.Read.{docs_at, is_noted, read_in, read_time, reader_behind, refusal_from, shown_at, shown_of, time_refusal, when_refusal}
 use Rattle.fs_machine.specs.ReadsHold.{MayRead}
-use Rattle.fs_machine.specs.Request.{Decision, arrives, asked_unless, begin_time_refusal, carried_by, check_refusal, decision, held_by, retry_refusal, unless_full, unless_held, unless_refused, writer_behind}
+use Rattle.fs_machine.specs.Request.{Decision, arrives, asked_unless, begin_time_refusal, carried_by, check_refusal, comes, taken_unless, decision, held_by, retry_refusal, unless_full, unless_held, unless_refused, writer_behind}
 use Rattle.fs_machine.specs.Retry.{retried_if, tried}
 use Rattle.fs_machine.specs.State.{Machine}
+use Rattle.fs_machine.specs.Stream.{stream_check}
 use Rattle.fs_machine.specs.Transact.{kind_of, time_asked, time_in, time_of_kind, with_begun, with_ended}
 use Rattle.fs_machine.specs.TransactionsHold.{IsOpen, TransactionsHold, docs_read}
 use Rattle.fs_machine.specs.declared.config.Mode.{Mode}
@@ -53,6 +58,7 @@ use Rattle.fs_machine.proofs.ReadsHold.{nothing_read, reads_prepared}
 use Rattle.fs_machine.proofs.ResultsHold.{results_prepared}
 use Rattle.fs_machine.proofs.TransactionsHold.{MayMake, all_open, free_behind, may_commit, open_all_noted, open_begun, open_committed, open_left, open_prepared}
 use Rattle.fs_machine.proofs.UnreleasedRise.{unreleased_prepared}
+use Rattle.fs_machine.proofs.Streaming.{streamed_rest, taken_rest}
 
 -- what was committed and what transactions have read
 pub record Holds (m : Machine) : Type 0 where
@@ -132,6 +138,7 @@ are_shown h t (BeginTransaction database options) = tt
 are_shown h t (Rollback database transaction) = tt
 are_shown h t (AddTarget database id l token) = tt
 are_shown h t (RemoveTarget database id) = tt
+are_shown h t (request.Write database asked) = tt
 
 kind_read : (mode : Mode) (p : Past) (t : Txn) (k : Kind) → t.kind ≡ k → is_read_write k ≡ true → HistoryRises p → at p.history (time_of_kind mode p k t.read_time) ≡ docs_read mode p t
 kind_read Pessimistic p t kind.ReadWrite is rw rises = at_whole p.history p.released rises.rising rises.ends
@@ -196,7 +203,7 @@ begun_holds m id options none holds =
 
 -- ---- any request
 
-pub carried_holds : (m : Machine) (r : ParkedRequest) (q : Request) → check_refusal m q ≡ None → held_by m q ≡ None → Holds m → Holds (carried_by m r q)
+pub carried_holds : (m : Machine) (r : ParkedRequest) (q : Request) → check_refusal m r.session q ≡ None → held_by m q ≡ None → Holds m → Holds (carried_by m r q)
 carried_holds m r (Commit database writes None) none free holds = plain_holds m r writes free holds
 carried_holds m r (Commit database writes (Some id)) none free holds = in_holds m r writes id (txn_of id m.txns.open) refl free holds
 carried_holds m r (GetDocument name mask when) none free holds = read_holds m when (GetDocument name mask when) free holds
@@ -207,100 +214,135 @@ carried_holds m r (Rollback database transaction) none free holds = ended_holds 
 carried_holds m r (AddTarget database id t token) none free holds = record { past = holds.past; txns = holds.txns }
 carried_holds m r (RemoveTarget database (pos id)) none free holds = record { past = holds.past; txns = holds.txns }
 carried_holds m r (RemoveTarget database (negsuc id)) none free holds = holds
+carried_holds m r (request.Write database asked) none free holds = subst Holds (sym (streamed_rest m r.session asked)) (record { past = holds.past; txns = holds.txns })
 
--- ---- beside other numbers, and other requests that wait
+-- ---- beside other numbers, other requests that wait, and other streams
 
 abbrev pub beside : Machine → Numbers → List ParkedRequest → Machine
 beside m k ps = record m { numbers = k; parked = ps }
 
-author_alike : (m : Machine) (k : Numbers) (ps : List ParkedRequest) (writes : List Write) (transaction : Option ℕ) → author_refusal (beside m k ps) writes transaction ≡ author_refusal m writes transaction
-author_alike m k ps writes None = refl
-author_alike m k ps writes (Some id) = refl
+abbrev also : Machine → Numbers → List ParkedRequest → Streams → Machine
+also m k ps s = record m { numbers = k; parked = ps; streams = s }
 
-when_alike : (m : Machine) (k : Numbers) (ps : List ParkedRequest) (when : When) → when_refusal (beside m k ps) when ≡ when_refusal m when
-when_alike m k ps Released = refl
-when_alike m k ps (At time) = refl
-when_alike m k ps (In id) = refl
+author_alike : (m : Machine) (k : Numbers) (ps : List ParkedRequest) (s : Streams) (writes : List Write) (transaction : Option ℕ) → author_refusal (also m k ps s) writes transaction ≡ author_refusal m writes transaction
+author_alike m k ps s writes None = refl
+author_alike m k ps s writes (Some id) = refl
 
-begin_alike : (m : Machine) (k : Numbers) (ps : List ParkedRequest) (options : TransactionOptions) → begin_time_refusal (beside m k ps) options ≡ begin_time_refusal m options
-begin_alike m k ps ReadWrite = refl
-begin_alike m k ps (ReadOnly None) = refl
-begin_alike m k ps (ReadOnly (Some time)) = refl
+when_alike : (m : Machine) (k : Numbers) (ps : List ParkedRequest) (s : Streams) (when : When) → when_refusal (also m k ps s) when ≡ when_refusal m when
+when_alike m k ps s Released = refl
+when_alike m k ps s (At time) = refl
+when_alike m k ps s (In id) = refl
 
-check_alike : (m : Machine) (k : Numbers) (ps : List ParkedRequest) (q : Request) → check_refusal (beside m k ps) q ≡ check_refusal m q
-check_alike m k ps (Commit database writes transaction) = author_alike m k ps writes transaction
-check_alike m k ps (GetDocument name mask when) = when_alike m k ps when
-check_alike m k ps (BatchGetDocuments database names mask when) = when_alike m k ps when
-check_alike m k ps (RunQuery database query when) = when_alike m k ps when
-check_alike m k ps (BeginTransaction database options) = begin_alike m k ps options
-check_alike m k ps (Rollback database transaction) = refl
-check_alike m k ps (AddTarget database id t token) = refl
-check_alike m k ps (RemoveTarget database id) = refl
+begin_alike : (m : Machine) (k : Numbers) (ps : List ParkedRequest) (s : Streams) (options : TransactionOptions) → begin_time_refusal (also m k ps s) options ≡ begin_time_refusal m options
+begin_alike m k ps s ReadWrite = refl
+begin_alike m k ps s (ReadOnly None) = refl
+begin_alike m k ps s (ReadOnly (Some time)) = refl
 
-reader_alike : (m : Machine) (k : Numbers) (ps : List ParkedRequest) (when : When) (q : Request) → reader_behind (beside m k ps) when q ≡ reader_behind m when q
-reader_alike m k ps Released q = refl
-reader_alike m k ps (At time) q = refl
-reader_alike m k ps (In id) q = refl
+stream_alike : (m : Machine) (k : Numbers) (ps : List ParkedRequest) (session : ℕ) (asked : StreamRequest) → stream_check (beside m k ps) session asked ≡ stream_check m session asked
+stream_alike m k ps session write.Open = refl
+stream_alike m k ps session (write.Resume n token) = refl
+stream_alike m k ps session (write.Batch token writes) = refl
+stream_alike m k ps session (write.Ask token) = refl
+stream_alike m k ps session (write.Mixed n token writes) = refl
 
-writer_alike : (m : Machine) (k : Numbers) (ps : List ParkedRequest) (writes : List Write) (transaction : Option ℕ) → writer_behind (beside m k ps) writes transaction ≡ writer_behind m writes transaction
-writer_alike m k ps writes None = refl
-writer_alike m k ps writes (Some id) = refl
+pub check_alike : (m : Machine) (k : Numbers) (ps : List ParkedRequest) (session : ℕ) (q : Request) → check_refusal (beside m k ps) session q ≡ check_refusal m session q
+check_alike m k ps session (Commit database writes transaction) = author_alike m k ps m.streams writes transaction
+check_alike m k ps session (GetDocument name mask when) = when_alike m k ps m.streams when
+check_alike m k ps session (BatchGetDocuments database names mask when) = when_alike m k ps m.streams when
+check_alike m k ps session (RunQuery database query when) = when_alike m k ps m.streams when
+check_alike m k ps session (BeginTransaction database options) = begin_alike m k ps m.streams options
+check_alike m k ps session (Rollback database transaction) = refl
+check_alike m k ps session (AddTarget database id t token) = refl
+check_alike m k ps session (RemoveTarget database id) = refl
+check_alike m k ps session (request.Write database asked) = stream_alike m k ps session asked
 
-held_alike : (m : Machine) (k : Numbers) (ps : List ParkedRequest) (q : Request) → held_by (beside m k ps) q ≡ held_by m q
-held_alike m k ps (Commit database writes transaction) = writer_alike m k ps writes transaction
-held_alike m k ps (GetDocument name mask when) = reader_alike m k ps when (GetDocument name mask when)
-held_alike m k ps (BatchGetDocuments database names mask when) = reader_alike m k ps when (BatchGetDocuments database names mask when)
-held_alike m k ps (RunQuery database query when) = reader_alike m k ps when (RunQuery database query when)
-held_alike m k ps (BeginTransaction database options) = refl
-held_alike m k ps (Rollback database transaction) = refl
-held_alike m k ps (AddTarget database id t token) = refl
-held_alike m k ps (RemoveTarget database id) = refl
+reader_alike : (m : Machine) (k : Numbers) (ps : List ParkedRequest) (s : Streams) (when : When) (q : Request) → reader_behind (also m k ps s) when q ≡ reader_behind m when q
+reader_alike m k ps s Released q = refl
+reader_alike m k ps s (At time) q = refl
+reader_alike m k ps s (In id) q = refl
+
+writer_alike : (m : Machine) (k : Numbers) (ps : List ParkedRequest) (s : Streams) (writes : List Write) (transaction : Option ℕ) → writer_behind (also m k ps s) writes transaction ≡ writer_behind m writes transaction
+writer_alike m k ps s writes None = refl
+writer_alike m k ps s writes (Some id) = refl
+
+held_alike : (m : Machine) (k : Numbers) (ps : List ParkedRequest) (s : Streams) (q : Request) → held_by (also m k ps s) q ≡ held_by m q
+held_alike m k ps s (Commit database writes transaction) = writer_alike m k ps s writes transaction
+held_alike m k ps s (GetDocument name mask when) = reader_alike m k ps s when (GetDocument name mask when)
+held_alike m k ps s (BatchGetDocuments database names mask when) = reader_alike m k ps s when (BatchGetDocuments database names mask when)
+held_alike m k ps s (RunQuery database query when) = reader_alike m k ps s when (RunQuery database query when)
+held_alike m k ps s (BeginTransaction database options) = refl
+held_alike m k ps s (Rollback database transaction) = refl
+held_alike m k ps s (AddTarget database id t token) = refl
+held_alike m k ps s (RemoveTarget database id) = refl
+held_alike m k ps s (request.Write database asked) = refl
 
 -- the same request has the same to wait for
-pub decision_alike : (m : Machine) (k : Numbers) (ps : List ParkedRequest) (q : Request) → decision (beside m k ps) q ≡ decision m q
-decision_alike m k ps q = (λ i. unless_refused (check_alike m k ps q i) (unless_held (held_alike m k ps q i)))
+pub decision_alike : (m : Machine) (k : Numbers) (ps : List ParkedRequest) (session : ℕ) (q : Request) → decision (beside m k ps) session q ≡ decision m session q
+decision_alike m k ps session q = (λ i. unless_refused (check_alike m k ps session q i) (unless_held (held_alike m k ps m.streams q i)))
 
 -- ---- one comes, or is tried again
 
-module _ (m : Machine) (k : Numbers) (ps : List ParkedRequest) (r : ParkedRequest) (holds : Holds m) where
-  goes_holds : check_refusal m r.envelope.request ≡ None → held_by m r.envelope.request ≡ None → Holds (carried_by (beside m k ps) r r.envelope.request)
-  goes_holds none free =
-      carried_holds (beside m k ps) r r.envelope.request (check_alike m k ps r.envelope.request ∙ none) (held_alike m k ps r.envelope.request ∙ free) (record { past = holds.past; txns = holds.txns })
+module _ (m : Machine) (k : Numbers) (ps : List ParkedRequest) (s : Streams) (r : ParkedRequest) (holds : Holds m) where
+  still : Holds (also m k ps s)
+  still = record { past = holds.past; txns = holds.txns }
 
-  full_holds : (by : ℕ) (full : Bool) → Holds (arrives (beside m k ps) r (cond full (Decision.refused (at_limit (codes "parked") m.limits.parked)) (Decision.held by)))
-  full_holds by true = record { past = holds.past; txns = holds.txns }
+  -- no request but those of streams looks at these
+  carried_also : (q : Request) → check_refusal m r.session q ≡ None → held_by m q ≡ None → Holds (carried_by (also m k ps s) r q)
+  carried_also (Commit database writes transaction) none free =
+      carried_holds (also m k ps s) r (Commit database writes transaction) (author_alike m k ps s writes transaction ∙ none) (held_alike m k ps s (Commit database writes transaction) ∙ free) still
+  carried_also (GetDocument name mask when) none free =
+      carried_holds (also m k ps s) r (GetDocument name mask when) (when_alike m k ps s when ∙ none) (held_alike m k ps s (GetDocument name mask when) ∙ free) still
+  carried_also (BatchGetDocuments database names mask when) none free =
+      carried_holds (also m k ps s) r (BatchGetDocuments database names mask when) (when_alike m k ps s when ∙ none) (held_alike m k ps s (BatchGetDocuments database names mask when) ∙ free) still
+  carried_also (RunQuery database query when) none free =
+      carried_holds (also m k ps s) r (RunQuery database query when) (when_alike m k ps s when ∙ none) (held_alike m k ps s (RunQuery database query when) ∙ free) still
+  carried_also (BeginTransaction database options) none free = carried_holds (also m k ps s) r (BeginTransaction database options) (begin_alike m k ps s options ∙ none) free still
+  carried_also (Rollback database transaction) none free = carried_holds (also m k ps s) r (Rollback database transaction) none free still
+  carried_also (AddTarget database id t token) none free = carried_holds (also m k ps s) r (AddTarget database id t token) none free still
+  carried_also (RemoveTarget database id) none free = carried_holds (also m k ps s) r (RemoveTarget database id) none free still
+  carried_also (request.Write database asked) none free = subst Holds (sym (streamed_rest (also m k ps s) r.session asked)) (record { past = holds.past; txns = holds.txns })
+
+  full_holds : (by : ℕ) (full : Bool) → Holds (arrives (also m k ps s) r (cond full (Decision.refused (at_limit (codes "parked") m.limits.parked)) (Decision.held by)))
+  full_holds by true = still
   full_holds by false = record { past = holds.past; txns = holds.txns }
 
-  behind_holds : (found : Option ℕ) → held_by m r.envelope.request ≡ found → check_refusal m r.envelope.request ≡ None → Holds (arrives (beside m k ps) r (unless_full m (unless_held found)))
-  behind_holds None free none = goes_holds none free
+  behind_holds : (found : Option ℕ) → held_by m r.envelope.request ≡ found → check_refusal m r.session r.envelope.request ≡ None → Holds (arrives (also m k ps s) r (unless_full m (unless_held found)))
+  behind_holds None free none = carried_also r.envelope.request none free
   behind_holds (Some by) free none = full_holds by (nat_le m.limits.parked (length m.parked))
 
-  arrives_holds : (refusal : Option Refusal) → check_refusal m r.envelope.request ≡ refusal
-      → Holds (arrives (beside m k ps) r (unless_full m (unless_refused refusal (unless_held (held_by m r.envelope.request)))))
-  arrives_holds (Some refusal) is = record { past = holds.past; txns = holds.txns }
+  arrives_holds : (refusal : Option Refusal) → check_refusal m r.session r.envelope.request ≡ refusal
+      → Holds (arrives (also m k ps s) r (unless_full m (unless_refused refusal (unless_held (held_by m r.envelope.request)))))
+  arrives_holds (Some refusal) is = still
   arrives_holds None is = behind_holds (held_by m r.envelope.request) refl is
 
+comes_holds : (m : Machine) (k : Numbers) (r : ParkedRequest) → Holds m → Holds (comes (record m { numbers = k }) r (unless_full m (decision m r.session r.envelope.request)))
+comes_holds m k r holds =
+    let d = unless_full m (decision m r.session r.envelope.request) in
+    let n = record m { numbers = k } in
+    let taken = (taken_unless d r.stream n).streams in
+    subst (λ (x : Machine). Holds (arrives x r d)) (sym (taken_rest d r.stream n)) (arrives_holds m k m.parked taken r holds (check_refusal m r.session r.envelope.request) refl)
+
 drawn_holds : (m : Machine) (r : ParkedRequest) (b : Bool) → Holds m
-    → Holds (arrives (cond b (record m { numbers = record m.numbers { ids = m.numbers.ids + 1 } }) m) r (unless_full m (decision m r.envelope.request)))
-drawn_holds m r true holds = arrives_holds m (record m.numbers { ids = m.numbers.ids + 1 }) m.parked r holds (check_refusal m r.envelope.request) refl
-drawn_holds m r false holds = arrives_holds m m.numbers m.parked r holds (check_refusal m r.envelope.request) refl
+    → Holds (comes (cond b (record m { numbers = record m.numbers { ids = m.numbers.ids + 1 } }) m) r (unless_full m (decision m r.session r.envelope.request)))
+drawn_holds m r true holds = comes_holds m (record m.numbers { ids = m.numbers.ids + 1 }) r holds
+drawn_holds m r false holds = comes_holds m m.numbers r holds
 
 pub asked_holds : (m : Machine) (r : ParkedRequest) (refusal : Option Refusal) → Holds m → Holds (asked_unless refusal m r)
 asked_holds m r (Some refusal) holds = holds
 asked_holds m r None holds = drawn_holds m r (draws r.envelope.request) holds
 
-tried_behind : (m : Machine) (place : ℕ) (r : ParkedRequest) (found : Option ℕ) → held_by m r.envelope.request ≡ found → check_refusal m r.envelope.request ≡ None → Holds m → Holds (tried m place r (unless_held found))
-tried_behind m place r None free none holds = goes_holds m m.numbers (remove m.parked place) r holds none free
+tried_behind : (m : Machine) (place : ℕ) (r : ParkedRequest) (found : Option ℕ) → held_by m r.envelope.request ≡ found → check_refusal m r.session r.envelope.request ≡ None → Holds m → Holds (tried m place r (unless_held found))
+tried_behind m place r None free none holds = carried_also m m.numbers (remove m.parked place) m.streams r holds r.envelope.request none free
 tried_behind m place r (Some by) free none holds = holds
 
-tried_check : (m : Machine) (place : ℕ) (r : ParkedRequest) (refusal : Option Refusal) → check_refusal m r.envelope.request ≡ refusal → Holds m
+tried_check : (m : Machine) (place : ℕ) (r : ParkedRequest) (refusal : Option Refusal) → check_refusal m r.session r.envelope.request ≡ refusal → Holds m
     → Holds (tried m place r (unless_refused refusal (unless_held (held_by m r.envelope.request))))
 tried_check m place r (Some refusal) is holds = record { past = holds.past; txns = holds.txns }
 tried_check m place r None is holds = tried_behind m place r (held_by m r.envelope.request) refl is holds
 
-tried_within : (m : Machine) (place : ℕ) (r : ParkedRequest) (refusal : Option Refusal) → Holds m → Holds (tried m place r (unless_refused refusal (decision m r.envelope.request)))
+tried_within : (m : Machine) (place : ℕ) (r : ParkedRequest) (refusal : Option Refusal) → Holds m → Holds (tried m place r (unless_refused refusal (decision m r.session r.envelope.request)))
 tried_within m place r (Some refusal) holds = record { past = holds.past; txns = holds.txns }
-tried_within m place r None holds = tried_check m place r (check_refusal m r.envelope.request) refl holds
+tried_within m place r None holds = tried_check m place r (check_refusal m r.session r.envelope.request) refl holds
 
 pub retried_holds : (m : Machine) (place : ℕ) (found : Option ParkedRequest) → Holds m → Holds (retried_if m place found)
 retried_holds m place None holds = holds

@@ -15,7 +15,7 @@ use Rattle.fs_machine.specs.Past.{Past, batches}
 use Rattle.fs_machine.specs.declared.parked_request.ParkedRequest.{ParkedRequest}
 use Rattle.fs_machine.specs.declared.unreleased.Unreleased.{Unreleased}
 use Rattle.fs_machine.specs.Conflict.{others}
-use Rattle.fs_machine.specs.Leave.{of_others}
+use Rattle.fs_machine.specs.Leave.{is_own, of_others}
 use Rattle.fs_machine.specs.Numbered.{transaction_in}
 use Rattle.fs_machine.specs.Release.{past_released}
 use Rattle.fs_machine.specs.Settle.{dropped_from, is_it, past_decided}
@@ -98,7 +98,7 @@ others_next id r rs session false more = omega (arith, more)
 
 parked_others : (id : ℕ) (rs : List ParkedRequest) (session : ℕ) → times_parked id (of_others session rs) ≤ times_parked id rs
 parked_others id [] session = omega arith
-parked_others id (r ∷ rs) session = others_next id r rs session (not (r.session == session)) (parked_others id rs session)
+parked_others id (r ∷ rs) session = others_next id r rs session (not (is_own session r)) (parked_others id rs session)
 
 pub fewer_departed : (p : Past) (ts : Transactions) (rs : List ParkedRequest) (session : ℕ) → AreFewer p ts rs p ts (of_others session rs)
 fewer_departed p ts rs session id = let less = parked_others id rs session in omega (arith, less)

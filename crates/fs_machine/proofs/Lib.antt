@@ -3,6 +3,8 @@ pub mod Batches
 pub mod Behind
 pub mod Carried
 mod Cuts
+pub mod Desks
+mod DesksSaid
 pub mod Holders
 pub mod Holding
 pub mod FloorIsReleased
@@ -12,6 +14,7 @@ pub mod HistoryRises
 pub mod IdsAreDrawn
 pub mod Listening
 pub mod ListenersHold
+mod InProgress
 pub mod Moved
 pub mod NamesApart
 pub mod OutcomesStay
@@ -28,6 +31,13 @@ pub mod Runs
 pub mod SessionsNumbered
 pub mod SettledInAnyOrder
 mod Told
+mod Streaming
+pub mod StreamsHold
+mod StreamsAsked
+mod StreamRuns
+mod StreamsInOrder
+mod StreamsMove
+mod Tallies
 pub mod TransactionsHold
 pub mod UnreleasedRise
 pub mod Verdicts

@@ -21,13 +21,13 @@ use Rattle.fs_machine.specs.Listeners.{Listener, unheard, unlistening, with_list
 use Rattle.fs_machine.specs.ListenersHold.{AllDiffer, IsPosition, ListenersHold, ListeningHolds, LoadHolds, NumbersDiffer, NumbersHold, TargetHolds}
 use Rattle.fs_machine.specs.Match.{matched_to}
 use Rattle.fs_machine.specs.Past.{Past}
-use Rattle.fs_machine.specs.Release.{all_delivered, past_released, replies_out}
+use Rattle.fs_machine.specs.Release.{past_released}
 use Rattle.fs_machine.specs.Sessions.{without}
 use Rattle.fs_machine.specs.UnreleasedRise.{UnreleasedRise}
 use Rattle.fs_machine.specs.declared.session.Session.{Session}
 use Rattle.fs_machine.proofs.FloorIsReleased.{IsBelow, all_below, below_rest, floor_below, rises_below}
 use Rattle.fs_machine.proofs.Grows.{grows_released}
-use Rattle.fs_machine.proofs.SessionsNumbered.{numbers_of, same_told}
+use Rattle.fs_machine.proofs.SessionsNumbered.{numbers_of}
 
 -- ---- whose they are
 
@@ -446,9 +446,9 @@ pub listeners_none : (p : Past) (given : ℕ) → ListenersHold p [] [] given
 listeners_none p given = record { listed = refl; times = tt; numbers = tt; differ = tt }
 
 pub listeners_opened : (p : Past) (ss : List Session) (ls : List Listener) (given number : ℕ) → ListenersHold p ss ls given
-    → ListenersHold p (ss ++ record { number = number; outbox = [] } ∷ []) (ls ++ unlistening number ∷ []) given
+    → ListenersHold p (ss ++ record { number = number; outbox = []; has_owned = false } ∷ []) (ls ++ unlistening number ∷ []) given
 listeners_opened p ss ls given number holds = record {
-  listed = listed_more ls (unlistening number) ∙ ap (λ ns. ns ++ number ∷ []) holds.listed ∙ sym (numbers_more ss (record { number = number; outbox = [] }));
+  listed = listed_more ls (unlistening number) ∙ ap (λ ns. ns ++ number ∷ []) holds.listed ∙ sym (numbers_more ss (record { number = number; outbox = []; has_owned = false }));
   times = all_more (λ (l : Listener). ListeningHolds p l.listening) ls (unlistening number) holds.times (none_holds p);
   numbers = all_more (NumbersHold given) ls (unlistening number) holds.numbers (none_numbered given number);
   differ = differ_more ls (unlistening number)
@@ -477,11 +477,10 @@ listeners_later p q ss ls given low high holds = record {
 }
 
 -- a release: more is released, and replies are let out
-pub listeners_released : (p : Past) (ss : List Session) (ls : List Listener) (given : ℕ) → UnreleasedRise p → ListenersHold p ss ls given
-    → ListenersHold (past_released p) (all_delivered (replies_out p) ss) ls given
-listeners_released p ss ls given above holds =
-    listeners_later p (past_released p) (all_delivered (replies_out p) ss) ls given (≤ℤ_refl p.floor) (grows_released p above).released
-    (listeners_told p ss (all_delivered (replies_out p) ss) ls given (same_told (replies_out p) ss) holds)
+pub listeners_released : (p : Past) (ss other : List Session) (ls : List Listener) (given : ℕ) → UnreleasedRise p → numbers_of other ≡ numbers_of ss → ListenersHold p ss ls given
+    → ListenersHold (past_released p) other ls given
+listeners_released p ss other ls given above same holds =
+    listeners_later p (past_released p) other ls given (≤ℤ_refl p.floor) (grows_released p above).released (listeners_told p ss other ls given same holds)
 
 pub listeners_compacted : (p : Past) (ss : List Session) (ls : List Listener) (given : ℕ) (first : Option ℤ) (to : ℤ) → ListenersHold p ss ls given
     → ListenersHold (past_compacted p (least (first ∷ map (λ (l : Listener). least_position l.listening) ls)) to) ss ls given

@@ -16,7 +16,7 @@ use Rattle.fs_machine.specs.declared.unreleased.Unreleased.{Unreleased}
 use Rattle.fs_machine.specs.Commit.{past_prepared}
 use Rattle.fs_machine.specs.Event.{Event, step}
 use Rattle.fs_machine.specs.Facts.{Facts, PastFacts}
-use Rattle.fs_machine.specs.IdsAreDrawn.{counted, times_in}
+use Rattle.fs_machine.specs.IdsAreDrawn.{IdsAreDrawn, counted, times_in}
 use Rattle.fs_machine.specs.Load.{loaded}
 use Rattle.fs_machine.specs.NamesApart.{AreApart}
 use Rattle.fs_machine.specs.Open.{is_full, with_session}
@@ -145,15 +145,15 @@ same_number a b is = grind (arith, nat_tests)
 none_some : {A : Type 0} (o : Option A) → o ≡ None → IsSome o → ⊥
 none_some o none some = cc
 
-pub once : (m : Machine) (id : ℕ) → Facts m → times_in id (batches m.past.unreleased) ≤ 1
-once m id facts = let few = (facts.ids id).0 in omega (arith, few)
+pub once : (m : Machine) (id : ℕ) → IdsAreDrawn m.past m.txns m.parked m.numbers.ids → times_in id (batches m.past.unreleased) ≤ 1
+once m id drawn = let few = (drawn id).0 in omega (arith, few)
 
 decided_carries : (m : Machine) (c : Unreleased) (r : Result (Docs × List WriteResult) Refusal) (id : ℕ) (u : Unreleased) (b : Bool) → (c.batch.id == id) ≡ b → pending_of m.past id ≡ Some u → Facts m
     → IsSome (pending_of (past_decided m.past c r) id) → Carries m.past (past_decided m.past c r) id u
 decided_carries m c (Ok done) id u true here is facts some =
-    absurd (none_some _ (subst (λ n. pending_in id (accepted_in n done.1 m.past.unreleased) ≡ None) (sym (same_number c.batch.id id here)) (gone_accepted m.past.unreleased id done.1 (once m id facts))) some)
+    absurd (none_some _ (subst (λ n. pending_in id (accepted_in n done.1 m.past.unreleased) ≡ None) (sym (same_number c.batch.id id here)) (gone_accepted m.past.unreleased id done.1 (once m id facts.ids))) some)
 decided_carries m c (Err refusal) id u true here is facts some =
-    absurd (none_some _ (subst (λ n. pending_in id (dropped_from n m.past.unreleased) ≡ None) (sym (same_number c.batch.id id here)) (gone_dropped m.past.unreleased id (once m id facts))) some)
+    absurd (none_some _ (subst (λ n. pending_in id (dropped_from n m.past.unreleased) ≡ None) (sym (same_number c.batch.id id here)) (gone_dropped m.past.unreleased id (once m id facts.ids))) some)
 decided_carries m c (Ok done) id u false here is facts some = record { at = found_accepted m.past.unreleased c.batch.id id done.1 here ∙ is; agree = λ w at. refl }
 decided_carries m c (Err refusal) id u false here is facts some = record { at = found_dropped m.past.unreleased c.batch.id id here ∙ is; agree = λ w at. refl }
 

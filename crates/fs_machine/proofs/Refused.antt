@@ -27,6 +27,7 @@ use Rattle.fs_machine.proofs.Listening.{loaded_rest, raised_rest}
 use Rattle.fs_machine.proofs.OutcomesStay.{it_is_one}
 use Rattle.fs_machine.proofs.Pending.{number_found}
 use Rattle.fs_machine.proofs.Runs.{keeps}
+use Rattle.fs_machine.proofs.Streaming.{arrived_number}
 
 -- it was drawn, and nothing has it
 abbrev IsGone : ℕ → Machine → Type 0
@@ -49,7 +50,7 @@ module _ (m : Machine) (id : ℕ) (gone : IsGone id m) where
       let refusal = arrival_refusal m session e.request in
       let none = gone.0 in let drew = gone.1 in
       let less = asked_times m r id refusal in
-      let other = drawn_later m r id refl drew in
+      let other = drawn_later m r id (arrived_number m session e) drew in
       let on = asked_ids m r refusal in
       (omega (arith, less, none, other), omega (arith, on, drew))
 

@@ -2,11 +2,11 @@
 use Rattle.std.proofs.Common.{◌≡◌, ℕ, ℤ, ◌≤ℤ◌, Bool, true, false, List, [], ◌∷◌, ◌++◌, map, Some, None, refl, sym, ap, ◌∙◌, arith}
 use Rattle.std.proofs.lemmas.Int.{ints}
 use Rattle.std.proofs.lemmas.List.{append_assoc, append-nil}
-use Rattle.fs_machine.specs.declared.session.Session.{Session}
 use Rattle.fs_machine.specs.declared.unreleased.Unreleased.{Unreleased}
 use Rattle.fs_machine.specs.Past.{is_pending}
-use Rattle.fs_machine.specs.Release.{all_delivered, free_to, freed, joined, kept_back, released, reply_of}
+use Rattle.fs_machine.specs.Release.{all_answered, as_committed, free_to, freed, joined, kept_back, released}
 use Rattle.fs_machine.specs.State.{Machine}
+use Rattle.fs_machine.specs.Stream.{Desk, desk_of, with_desk}
 use Rattle.fs_machine.specs.UnreleasedRise.{RiseFrom, UnreleasedRise}
 use Rattle.fs_machine.proofs.Moved.{accepted_goes, joined_more, none_freed, pending_stays}
 use Rattle.fs_machine.proofs.Pending.{passes_it}
@@ -61,22 +61,20 @@ twice (u ∷ us) from last id v above out = twice_next u us out last id v (is_pe
 
 -- ---- the server
 
-told_more : (xs ys : List Unreleased) (ss : List Session) → all_delivered (map reply_of (xs ++ ys)) ss ≡ all_delivered (map reply_of ys) (all_delivered (map reply_of xs) ss)
-told_more [] ys ss = refl
-told_more (x ∷ xs) ys ss = told_more xs ys _
+told_more : (xs ys : List Unreleased) (d : Desk) → all_answered (map as_committed (xs ++ ys)) d ≡ all_answered (map as_committed ys) (all_answered (map as_committed xs) d)
+told_more [] ys d = refl
+told_more (x ∷ xs) ys d = told_more xs ys _
 
 abbrev pub marked_in : Machine → ℕ → Verdict → Machine
 marked_in m id v = record m { past = marked_past m.past id v }
 
 abbrev with_lists : Machine → Lists → Machine
-with_lists m l = record m { past = record m.past { history = joined m.past.history l.0; unreleased = l.1; released = l.2 }; sessions = all_delivered (map reply_of l.0) m.sessions }
+with_lists m l = with_desk (record m { past = record m.past { history = joined m.past.history l.0; unreleased = l.1; released = l.2 } }) (all_answered (map as_committed l.0) (desk_of m))
 
 pub released_once : (m : Machine) (id : ℕ) (v : Verdict) → UnreleasedRise m.past → released (marked_in (released m) id v) ≡ released (marked_in m id v)
 released_once m id v above =
     let first = let_go m.past.last [] m.past.unreleased in
     let rest = let_go m.past.last [] (marked id v first.1) in
-    let both : with_lists m (again m.past.last id v first) ≡ released (marked_in (released m) id v) = λ i. record m {
-      past = record m.past { history = joined_more first.0 rest.0 m.past.history i; unreleased = rest.1; released = rest.2 };
-      sessions = told_more first.0 rest.0 m.sessions i;
-    } in
+    let both : with_lists m (again m.past.last id v first) ≡ released (marked_in (released m) id v) = λ i.
+    with_desk (record m { past = record m.past { history = joined_more first.0 rest.0 m.past.history i; unreleased = rest.1; released = rest.2 } }) (told_more first.0 rest.0 (desk_of m) i) in
     sym both ∙ ap (with_lists m) (twice m.past.unreleased m.past.released m.past.last id v above [])

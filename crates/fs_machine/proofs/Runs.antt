@@ -1,10 +1,9 @@
 -- What each event keeps, and so each run.
-use Rattle.std.proofs.Common.{◌≡◌, inl, inr, ℕ, ℤ, ◌≤ℤ◌, Bool, true, false, cond, List, [], ◌∷◌, map, Option, Some, None, Result, Ok, Err, refl, sym, ap, subst, arith}
-use Rattle.std.specs.Prelude.{◌++◌, not, slice_get}
+use Rattle.std.proofs.Common.{◌≡◌, inl, inr, ℕ, ℤ, ◌≤ℤ◌, Bool, true, false, cond, List, [], ◌∷◌, map, Option, Some, None, Result, Ok, Err, refl, sym, ap, ◌∙◌, subst, arith}
+use Rattle.std.specs.Prelude.{not, slice_get}
 use Rattle.std.specs.Int.Signed.{≤ℤ_refl}
 use Rattle.std.proofs.lemmas.Int.{ints}
 use Rattle.fs_rpc.specs.declared.request.Envelope.{Envelope}
-use Rattle.fs_rpc.specs.MessageJson.{refused}
 use Rattle.fs_txn.specs.Expiry.{expired_at, is_over}
 use Rattle.fs_txn.specs.Reading.{oldest}
 use Rattle.fs_listen.specs.Cuts.{least_position}
@@ -27,15 +26,18 @@ use Rattle.fs_machine.specs.Load.{loaded}
 use Rattle.fs_machine.specs.Open.{is_full, with_session}
 use Rattle.fs_machine.specs.Past.{Past, past_from}
 use Rattle.fs_machine.specs.Raise.{raised}
-use Rattle.fs_machine.specs.Release.{past_released, replies_out}
+use Rattle.fs_machine.specs.Release.{committed_out, past_released}
 use Rattle.fs_machine.specs.Request.{arrival_refusal, arrived, asked}
 use Rattle.fs_machine.specs.Retry.{retried_if}
 use Rattle.fs_machine.specs.SessionsNumbered.{SessionsNumbered}
 use Rattle.fs_machine.specs.Settle.{decided_if, decided_with, outcome_of, past_decided, pending_of}
 use Rattle.fs_machine.specs.State.{Machine, started}
+use Rattle.fs_machine.specs.Stream.{desk_of}
+use Rattle.fs_machine.specs.StreamsHold.{StreamsHold}
 use Rattle.fs_machine.specs.Tick.{past_advanced}
-use Rattle.fs_machine.proofs.Asking.{asked_listens, asked_token, asked_waits, retried_listens, retried_waits, waiters_departed}
-use Rattle.fs_machine.proofs.Carried.{AtMostPrepares, LeavesAlone, asked_alone, asked_drawn, asked_follows, retried_alone, retried_drawn, retried_follows}
+use Rattle.fs_machine.proofs.Asking.{arrived_token, asked_listens, asked_waits, retried_listens, retried_waits, waiters_departed}
+use Rattle.fs_machine.proofs.Carried.{AtMostPrepares, LeavesAlone, asked_alone, asked_drawn, asked_follows, retried_alone, retried_drawn, retried_follows, retried_ids}
+use Rattle.fs_machine.proofs.Desks.{numbers_answered, numbers_refused}
 use Rattle.fs_machine.proofs.FloorIsReleased.{floor_before, floor_compacted, floor_released}
 use Rattle.fs_machine.proofs.Grows.{grows_on, grows_released, grows_same}
 use Rattle.fs_machine.proofs.HistoryRises.{history_released}
@@ -46,7 +48,11 @@ use Rattle.fs_machine.proofs.ListenersHold.{listeners_compacted, listeners_depar
 use Rattle.fs_machine.proofs.NamesApart.{names_decided, names_released}
 use Rattle.fs_machine.proofs.ReadsHold.{reads_decided, reads_released}
 use Rattle.fs_machine.proofs.ResultsHold.{results_decided, results_released}
-use Rattle.fs_machine.proofs.SessionsNumbered.{same_numbers, sessions_changed, sessions_departed, sessions_opened, sessions_same, sessions_told}
+use Rattle.fs_machine.proofs.Pending.{number_found}
+use Rattle.fs_machine.proofs.SessionsNumbered.{same_numbers, sessions_changed, sessions_departed, sessions_opened, sessions_same}
+use Rattle.fs_machine.proofs.Streaming.{arrived_batch, arrived_number}
+use Rattle.fs_machine.proofs.StreamsAsked.{asked_streams, retried_streams}
+use Rattle.fs_machine.proofs.StreamsHold.{streams_accepted, streams_begun, streams_departed, streams_dropped, streams_released}
 use Rattle.fs_machine.proofs.TransactionsHold.{open_advanced, open_compacted, open_decided, open_left, open_released}
 use Rattle.fs_machine.proofs.UnreleasedRise.{unreleased_advanced, unreleased_decided, unreleased_released}
 
@@ -56,7 +62,7 @@ at_start : (shards : ℕ) (start : ℤ) → PastFacts (past_from shards start)
 at_start shards start = record { history = record { rising = tt; ends = tt }; unreleased = omega (arith, ints); floor = omega (arith, ints); names = tt; results = tt; reads = record { serial = tt; shown = tt; spared = tt } }
 
 pub begins : (config : Config) (limits : Limits) (start : ℤ) → Facts (started config limits start)
-begins config limits start = record { past = at_start config.shards start; ids = λ id. (omega arith, λ above. refl, λ is. refl); txns = tt; sessions = omega arith; listeners = listeners_none (past_from config.shards start) 0; waiters = tt }
+begins config limits start = record { past = at_start config.shards start; ids = λ id. (omega arith, λ above. refl, λ is. refl); txns = tt; sessions = omega arith; listeners = listeners_none (past_from config.shards start) 0; waiters = tt; streams = streams_begun (past_from config.shards start) limits.streams refl }
 
 -- ---- what was committed
 
@@ -114,7 +120,7 @@ held_still : (m : Machine) → Facts m → Holds m
 held_still m facts = record { past = facts.past; txns = facts.txns }
 
 still_numbered : (m n : Machine) → LeavesAlone m n → SessionsNumbered m.sessions m.numbers.sessions → SessionsNumbered n.sessions n.numbers.sessions
-still_numbered m n alone numbered = subst (λ k. SessionsNumbered n.sessions k) (sym alone.given) (subst (λ ss. SessionsNumbered ss m.numbers.sessions) (sym alone.sessions) numbered)
+still_numbered m n alone numbered = subst (λ k. SessionsNumbered n.sessions k) (sym alone.given) (sessions_same m.sessions n.sessions m.numbers.sessions alone.sessions numbered)
 
 kept_asked : (m : Machine) (session : ℕ) (e : Envelope) → Facts m → Facts (asked m session e)
 kept_asked m session e facts =
@@ -123,16 +129,18 @@ kept_asked m session e facts =
     let holds = asked_holds m r refusal (held_still m facts) in
     record {
       past = holds.past;
-      ids = asked_drawn m r refusal refl facts.ids;
+      ids = asked_drawn m r refusal (arrived_number m session e) facts.ids;
       txns = holds.txns;
       sessions = still_numbered m (asked m session e) (asked_alone m r refusal) facts.sessions;
-      listeners = asked_listens m r refusal (λ none. asked_token m session e.request none) facts.listeners;
-      waiters = asked_waits m r refusal facts.waiters;
+      listeners = asked_listens m r refusal (arrived_token m session e) facts.listeners;
+      waiters = asked_waits m r refusal (arrived_batch m session e) facts.waiters;
+      streams = asked_streams m session e refusal facts.streams;
     }
 
 kept_retried : (m : Machine) (place : ℕ) (found : Option ParkedRequest) → slice_get m.parked place ≡ found → Facts m → Facts (retried_if m place found)
 kept_retried m place found is facts =
     let holds = retried_holds m place found (held_still m facts) in
+    let n = retried_if m place found in
     record {
       past = holds.past;
       ids = retried_drawn m place found is facts.ids;
@@ -140,6 +148,7 @@ kept_retried m place found is facts =
       sessions = still_numbered m (retried_if m place found) (retried_alone m place found) facts.sessions;
       listeners = retried_listens m place found is facts.waiters facts.listeners;
       waiters = retried_waits m place found is facts.waiters;
+      streams = subst (StreamsHold n.past n.parked n.streams) (sym (retried_ids m place found)) (retried_streams m place found m.numbers.ids is facts.waiters facts.streams);
     }
 
 -- ---- other events
@@ -152,16 +161,18 @@ kept_decided m id u (Ok done) is comes facts = record {
   sessions = facts.sessions;
   listeners = listeners_later m.past (past_decided m.past u (Ok done)) m.sessions m.listeners m.numbers.targets (≤ℤ_refl m.past.floor) (≤ℤ_refl m.past.released) facts.listeners;
   waiters = facts.waiters;
+  streams = streams_accepted m.past m.parked m.streams m.numbers.ids u.batch.id done.1 facts.streams;
 }
 kept_decided m id u (Err refusal) is comes facts = record {
   past = past_kept_at_deciding m.past id u (Err refusal) is comes facts.past;
   ids = ids_fewer m.past m.txns m.parked (past_decided m.past u (Err refusal)) m.txns m.parked m.numbers.ids (fewer_decided m.past m.txns m.parked u (Err refusal)) facts.ids;
   txns = open_decided m.config.mode m.past u (Err refusal) m.txns.open facts.txns;
-  sessions = sessions_changed m.sessions u.session m.numbers.sessions (λ ms. ms ++ refused u.request refusal ∷ []) facts.sessions;
+  sessions = sessions_same m.sessions _ m.numbers.sessions (numbers_refused u.asker refusal (desk_of m)) facts.sessions;
   listeners =
       listeners_later m.past (past_decided m.past u (Err refusal)) _ m.listeners m.numbers.targets (≤ℤ_refl m.past.floor) (≤ℤ_refl m.past.released)
-      (listeners_told m.past m.sessions _ m.listeners m.numbers.targets (same_numbers m.sessions u.session (λ ms. ms ++ refused u.request refusal ∷ [])) facts.listeners);
+      (listeners_told m.past m.sessions _ m.listeners m.numbers.targets (numbers_refused u.asker refusal (desk_of m)) facts.listeners);
   waiters = facts.waiters;
+  streams = streams_dropped m.past m.parked (desk_of m) m.numbers.ids u.batch.id u refusal u.asker (ap (pending_of m.past) (number_found m.past.unreleased id u is) ∙ is) refl facts.streams;
 }
 
 kept_if : (m : Machine) (id : ℕ) (found : Option Unreleased) → pending_of m.past id ≡ found → Facts m → Facts (decided_if m found)
@@ -176,6 +187,7 @@ kept_with_session m facts = record {
   sessions = sessions_opened m.sessions m.numbers.sessions facts.sessions;
   listeners = listeners_opened m.past m.sessions m.listeners m.numbers.targets m.numbers.sessions facts.listeners;
   waiters = facts.waiters;
+  streams = facts.streams;
 }
 
 kept_opened : (m : Machine) (full : Bool) → Facts m → Facts (cond full m (with_session m))
@@ -191,6 +203,7 @@ kept_loaded m session target at facts =
       sessions = sessions_same m.sessions (loaded m session target at).sessions m.numbers.sessions (loaded_numbers m session target at) facts.sessions;
       listeners = loaded_listens m facts.past.floor facts.listeners session target at;
       waiters = facts.waiters;
+      streams = facts.streams;
     })
 
 kept_raised : (m : Machine) (session : ℕ) → Facts m → Facts (raised m session)
@@ -202,6 +215,7 @@ kept_raised m session facts =
       sessions = sessions_same m.sessions (raised m session).sessions m.numbers.sessions (raised_numbers m session) facts.sessions;
       listeners = raised_listens m facts.listeners session;
       waiters = facts.waiters;
+      streams = facts.streams;
     })
 
 -- a time that isn't later than what is released
@@ -217,6 +231,7 @@ keeps m (Event.leaving session) facts = record {
   sessions = sessions_departed m.sessions session m.numbers.sessions facts.sessions;
   listeners = listeners_departed m.past m.sessions m.listeners m.numbers.targets session facts.listeners;
   waiters = waiters_departed m.parked session facts.waiters;
+  streams = streams_departed m.past m.parked m.streams m.numbers.ids session facts.streams;
 }
 keeps m (Event.asking session e) facts = kept_asked m session e facts
 keeps m (Event.retrying place) facts = kept_retried m place (slice_get m.parked place) refl facts
@@ -228,14 +243,16 @@ keeps m (Event.advancing now) facts = record {
   sessions = facts.sessions;
   listeners = listeners_later m.past (past_advanced m.past now) m.sessions m.listeners m.numbers.targets (≤ℤ_refl m.past.floor) (≤ℤ_refl m.past.released) facts.listeners;
   waiters = facts.waiters;
+  streams = facts.streams;
 }
 keeps m Event.releasing facts = record {
   past = past_kept_at_release m.past facts.past;
   ids = ids_fewer m.past m.txns m.parked (past_released m.past) m.txns m.parked m.numbers.ids (fewer_released m.past m.txns m.parked facts.past.unreleased) facts.ids;
   txns = open_released m.config.mode m.past m.txns.open facts.past.unreleased facts.txns;
-  sessions = sessions_told (replies_out m.past) m.sessions m.numbers.sessions facts.sessions;
-  listeners = listeners_released m.past m.sessions m.listeners m.numbers.targets facts.past.unreleased facts.listeners;
+  sessions = sessions_same m.sessions _ m.numbers.sessions (numbers_answered (committed_out m.past) (desk_of m)) facts.sessions;
+  listeners = listeners_released m.past m.sessions _ m.listeners m.numbers.targets facts.past.unreleased (numbers_answered (committed_out m.past) (desk_of m)) facts.listeners;
   waiters = facts.waiters;
+  streams = streams_released m.past m.parked (desk_of m) m.numbers.ids facts.streams;
 }
 keeps m (Event.compacting to) facts = record {
   past = past_kept_compacted m.past (first_asked m) to facts.past;
@@ -246,6 +263,7 @@ keeps m (Event.compacting to) facts = record {
   sessions = facts.sessions;
   listeners = listeners_compacted m.past m.sessions m.listeners m.numbers.targets (oldest m.txns.open) to facts.listeners;
   waiters = facts.waiters;
+  streams = facts.streams;
 }
 keeps m (Event.loading session target at) facts = kept_loaded m session target at facts
 keeps m (Event.matching shard to) facts = record {
@@ -255,6 +273,7 @@ keeps m (Event.matching shard to) facts = record {
   sessions = facts.sessions;
   listeners = listeners_matched m.past m.sessions m.listeners m.numbers.targets shard (earlier to m.past.released) (earlier_released m.past to) facts.listeners;
   waiters = facts.waiters;
+  streams = facts.streams;
 }
 keeps m (Event.raising session) facts = kept_raised m session facts
 keeps m (Event.taking session) facts = record {
@@ -264,6 +283,7 @@ keeps m (Event.taking session) facts = record {
   sessions = sessions_changed m.sessions session m.numbers.sessions (λ ms. []) facts.sessions;
   listeners = listeners_told m.past m.sessions _ m.listeners m.numbers.targets (same_numbers m.sessions session (λ ms. [])) facts.listeners;
   waiters = facts.waiters;
+  streams = facts.streams;
 }
 
 -- ---- the history grows, by releases alone

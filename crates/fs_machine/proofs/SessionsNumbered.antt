@@ -1,10 +1,8 @@
 -- The numbers of sessions rise in the order of opening, still, after each event.
-use Rattle.std.proofs.Common.{◌≡◌, ℕ, ◌+◌, ◌≤◌, Bool, true, false, cond, List, [], ◌∷◌, ◌++◌, map, refl, sym, ap, ◌∙◌, subst, arith}
+use Rattle.std.proofs.Common.{◌≡◌, ℕ, ◌+◌, ◌≤◌, Bool, true, false, cond, List, [], ◌∷◌, ◌++◌, map, refl, sym, ap, subst, arith}
 use Rattle.std.specs.Prelude.{◌==◌}
 use Rattle.fs_rpc.specs.declared.message.Message.{Message}
-use Rattle.fs_machine.specs.Release.{all_delivered}
-use Rattle.fs_machine.specs.declared.reply.Reply.{Reply}
-use Rattle.fs_machine.specs.Sessions.{delivered, with_outbox, without}
+use Rattle.fs_machine.specs.Sessions.{owning, with_outbox, without}
 use Rattle.fs_machine.specs.SessionsNumbered.{NumbersRise, SessionsNumbered}
 use Rattle.fs_machine.specs.declared.session.Session.{Session}
 
@@ -21,8 +19,8 @@ rise_more : (ss : List Session) (s : Session) (from to : ℕ) → s.number ≡ t
 rise_more [] s from to is rise = (omega (arith, is, rise), omega (arith, is))
 rise_more (t ∷ ss) s from to is rise = (rise.0, rise_more ss s (t.number + 1) to is rise.1)
 
-pub sessions_opened : (ss : List Session) (given : ℕ) → SessionsNumbered ss given → SessionsNumbered (ss ++ record { number = given; outbox = [] } ∷ []) (given + 1)
-sessions_opened ss given rise = rise_more ss (record { number = given; outbox = [] }) 0 given refl rise
+pub sessions_opened : (ss : List Session) (given : ℕ) → SessionsNumbered ss given → SessionsNumbered (ss ++ record { number = given; outbox = []; has_owned = false } ∷ []) (given + 1)
+sessions_opened ss given rise = rise_more ss (record { number = given; outbox = []; has_owned = false }) 0 given refl rise
 
 -- one less
 pub rise_lower : (ns : List ℕ) (low from to : ℕ) → low ≤ from → NumbersRise from to ns → NumbersRise low to ns
@@ -58,10 +56,12 @@ sessions_same ss other given same rise = subst (NumbersRise 0 given) (sym same) 
 pub sessions_changed : (ss : List Session) (number given : ℕ) (change : List Message → List Message) → SessionsNumbered ss given → SessionsNumbered (with_outbox number change ss) given
 sessions_changed ss number given change rise = subst (NumbersRise 0 given) (sym (same_numbers ss number change)) rise
 
-pub same_told : (rs : List Reply) (ss : List Session) → numbers_of (all_delivered rs ss) ≡ numbers_of ss
-same_told [] ss = refl
-same_told (r ∷ rs) ss = same_told rs (delivered r.session r.message ss) ∙ same_numbers ss r.session (λ ms. ms ++ r.message ∷ [])
+-- one owns a stream
+owning_next : (s : Session) (ss : List Session) (number : ℕ) (b : Bool) → numbers_of (owning number ss) ≡ numbers_of ss
+    → numbers_of (cond b (record s { has_owned = true } ∷ ss) (s ∷ owning number ss)) ≡ s.number ∷ numbers_of ss
+owning_next s ss number true more = refl
+owning_next s ss number false more = ap (λ ns. s.number ∷ ns) more
 
-pub sessions_told : (rs : List Reply) (ss : List Session) (given : ℕ) → SessionsNumbered ss given → SessionsNumbered (all_delivered rs ss) given
-sessions_told [] ss given rise = rise
-sessions_told (r ∷ rs) ss given rise = sessions_told rs (delivered r.session r.message ss) given (sessions_changed ss r.session given (λ ms. ms ++ r.message ∷ []) rise)
+pub numbers_owning : (ss : List Session) (number : ℕ) → numbers_of (owning number ss) ≡ numbers_of ss
+numbers_owning [] number = refl
+numbers_owning (s ∷ ss) number = owning_next s ss number (s.number == number) (numbers_owning ss number)

@@ -2,7 +2,6 @@
 -- doesn't hang on what was released in between.
 use Rattle.std.proofs.Common.{◌≡◌, ℕ, Bool, true, false, List, [], ◌∷◌, Option, Some, None, Result, Ok, Err, refl, sym, ap, ◌∙◌, subst, eqb-true}
 use Rattle.std.specs.Prelude.{◌==◌, IsOk}
-use Rattle.std.specs.Int.Signed.{≤ℤ_refl}
 use Rattle.std.specs.List.Sorted.{IsPermutation}
 use Rattle.std.proofs.lemmas.List.Elements.{All-from_recursion, recursion_from_All}
 use Rattle.std.proofs.lemmas.List.Sorted.{All-permutation}
@@ -11,26 +10,22 @@ use Rattle.fs_status.specs.declared.refusal.Refusal.{Refusal}
 use Rattle.fs_write.proofs.BatchLaws.{Agree, law_named_refused, law_named_results}
 use Rattle.fs_write.specs.Batch.{Docs, batch}
 use Rattle.fs_write.specs.declared.write_result.WriteResult.{WriteResult}
-use Rattle.fs_machine.specs.declared.session.Session.{Session}
 use Rattle.fs_machine.specs.declared.unreleased.Unreleased.{Unreleased}
 use Rattle.fs_machine.specs.Facts.{Facts, PastFacts}
 use Rattle.fs_machine.specs.IdsAreDrawn.{IdsAreDrawn}
-use Rattle.fs_machine.specs.TransactionsHold.{TransactionsHold}
 use Rattle.fs_machine.specs.Laws.{IsntRefused, NoneRefused, all_settled}
 use Rattle.fs_machine.specs.Past.{Past}
-use Rattle.fs_machine.specs.Release.{past_released, released, replies_out}
+use Rattle.fs_machine.specs.Release.{past_released, released}
 use Rattle.fs_machine.specs.Settle.{decided_if, decided_with, docs_for, outcome_of, past_decided, pending_of, settled}
 use Rattle.fs_machine.specs.State.{Machine}
+use Rattle.fs_machine.specs.Stream.{Desk, desk_of, with_desk}
 use Rattle.fs_machine.proofs.IdsAreDrawn.{fewer_decided, fewer_released, ids_fewer}
-use Rattle.fs_machine.proofs.TransactionsHold.{open_decided, open_released}
-use Rattle.fs_machine.proofs.ListenersHold.{listeners_later, listeners_released}
 use Rattle.fs_machine.proofs.OutcomesStay.{Carries, once, pending_released, released_carries}
 use Rattle.fs_machine.proofs.Pending.{number_found}
 use Rattle.fs_machine.proofs.ReleasedOnce.{marked_in, released_once}
 use Rattle.fs_machine.proofs.Reordered.{each, same_reordered}
 use Rattle.fs_machine.proofs.ResultsHold.{docs_agree}
 use Rattle.fs_machine.proofs.Runs.{past_kept_at_deciding, past_kept_at_release}
-use Rattle.fs_machine.proofs.SessionsNumbered.{sessions_told}
 use Rattle.fs_machine.proofs.Verdicts.{decided_marks, in_any_order, marked_gone, marked_none, marked_other, marked_past, verdict, verdict_at, verdict_if}
 
 -- ---- the outcome is its own
@@ -45,7 +40,7 @@ verdict_stays p q id u is facts after carries =
     let there = docs_agree q id u carries.at after.unreleased after.names in
     verdict_alike (docs_for p u) (docs_for q u) u.batch (outcome_of p u) (λ w at. here w at ∙ carries.agree w at ∙ sym (there w at)) refl
 
--- ---- a commit is settled, and where it is refused, its session isn't told
+-- ---- a commit is settled, and where it is refused, who asked isn't told
 
 abbrev quietly : Machine → ℕ → Machine
 quietly m id = released (marked_in m id (verdict_at m.past id))
@@ -56,7 +51,15 @@ kept_if : (P : Past → Type 0) (p : Past) (id : ℕ) (found : Option Unreleased
 kept_if P p id None is keeps has = subst (λ us. P (record p { unreleased = us })) (sym (marked_none p.unreleased id None is)) has
 kept_if P p id (Some u) is keeps has = subst P (decided_marks p id u (outcome_of p u) is) (keeps u is)
 
-module _ (m : Machine) (facts : Facts m) (a : ℕ) where
+-- what is known of what was committed, and of the numbers that were drawn
+record AreKnown (m : Machine) : Type 0 where
+  past : PastFacts m.past
+  ids : IdsAreDrawn m.past m.txns m.parked m.numbers.ids
+
+known : (m : Machine) → Facts m → AreKnown m
+known m facts = record { past = facts.past; ids = facts.ids }
+
+module _ (m : Machine) (facts : AreKnown m) (a : ℕ) where
   -- what was committed, before it is released
   abbrev first : Past
   first = marked_past m.past a (verdict_at m.past a)
@@ -69,27 +72,16 @@ module _ (m : Machine) (facts : Facts m) (a : ℕ) where
       kept_if (λ p. IdsAreDrawn p m.txns m.parked m.numbers.ids) m.past a (pending_of m.past a) refl
       (λ u is. let r = outcome_of m.past u in ids_fewer m.past m.txns m.parked (past_decided m.past u r) m.txns m.parked m.numbers.ids (fewer_decided m.past m.txns m.parked u r) facts.ids) facts.ids
 
-  first_open : TransactionsHold m.config.mode first m.txns.open
-  first_open =
-      kept_if (λ p. TransactionsHold m.config.mode p m.txns.open) m.past a (pending_of m.past a) refl
-      (λ u is. open_decided m.config.mode m.past u (outcome_of m.past u) m.txns.open facts.txns) facts.txns
-
-  stands : Facts (quietly m a)
+  stands : AreKnown (quietly m a)
   stands = record {
     past = past_kept_at_release first first_stands;
     ids = ids_fewer first m.txns m.parked (past_released first) m.txns m.parked m.numbers.ids (fewer_released first m.txns m.parked first_stands.unreleased) first_drawn;
-    txns = open_released m.config.mode first m.txns.open first_stands.unreleased first_open;
-    sessions = sessions_told (replies_out first) m.sessions m.numbers.sessions facts.sessions;
-    listeners =
-        listeners_released first m.sessions m.listeners m.numbers.targets first_stands.unreleased
-        (listeners_later m.past first m.sessions m.listeners m.numbers.targets (≤ℤ_refl m.past.floor) (≤ℤ_refl m.past.released) facts.listeners);
-    waiters = facts.waiters;
   }
 
   -- what is pending then was so before, and comes to the same
   was_pending : (b : ℕ) (w : Unreleased) (s : Bool) → (a == b) ≡ s → pending_of first b ≡ Some w → pending_of m.past b ≡ Some w
   was_pending b w true same is =
-      let none = marked_gone m.past.unreleased a (verdict_at m.past a) (once m a facts) in
+      let none = marked_gone m.past.unreleased a (verdict_at m.past a) (once m a facts.ids) in
       let gone : pending_of first b ≡ None = subst (λ n. pending_of first n ≡ None) (eqb-true a b same) none in
       absurd (cc)
   was_pending b w false other is = sym (marked_other m.past.unreleased a b (verdict_at m.past a) other) ∙ is
@@ -121,10 +113,10 @@ module _ (m : Machine) (facts : Facts m) (a : ℕ) where
   again : quietly (quietly m a) a ≡ quietly m a
   again =
       let v = verdict_at m.past a in
-      let gone = marked_gone m.past.unreleased a v (once m a facts) in
+      let gone = marked_gone m.past.unreleased a v (once m a facts.ids) in
       twice a ∙ ap (λ us. released (record m { past = record m.past { unreleased = us } })) (marked_none first.unreleased a v gone)
 
-swaps_if : (m : Machine) (a b : ℕ) (s : Bool) → (a == b) ≡ s → Facts m → quietly (quietly m a) b ≡ quietly (quietly m b) a
+swaps_if : (m : Machine) (a b : ℕ) (s : Bool) → (a == b) ≡ s → AreKnown m → quietly (quietly m a) b ≡ quietly (quietly m b) a
 swaps_if m a b true same facts = subst (λ n. quietly (quietly m a) n ≡ quietly (quietly m n) a) (eqb-true a b same) refl
 swaps_if m a b false other facts =
     let v = verdict_at m.past a in
@@ -135,34 +127,34 @@ swaps_if m a b false other facts =
 
 -- ---- all of them
 
-all_reordered : (m : Machine) (ids other : List ℕ) → Facts m → IsPermutation ids other → each quietly m ids ≡ each quietly m other
+all_reordered : (m : Machine) (ids other : List ℕ) → AreKnown m → IsPermutation ids other → each quietly m ids ≡ each quietly m other
 all_reordered m ids other facts moved =
-    same_reordered quietly Facts (λ m a facts. stands m facts a) (λ m a b facts. swaps_if m a b (a == b) refl facts) (λ m a facts. again m facts a) ids other m moved facts
+    same_reordered quietly AreKnown (λ m a facts. stands m facts a) (λ m a b facts. swaps_if m a b (a == b) refl facts) (λ m a facts. again m facts a) ids other m moved facts
 
--- settling one differs in what its session is told
+-- settling one differs in what who asked is told
 told_with : (m : Machine) (u : Unreleased) (r : Result (Docs × List WriteResult) Refusal)
-    → released (decided_with m u r) ≡ record (released (marked_in m u.batch.id (verdict r))) { sessions = (released (decided_with m u r)).sessions }
+    → released (decided_with m u r) ≡ with_desk (released (marked_in m u.batch.id (verdict r))) (desk_of (released (decided_with m u r)))
 told_with m u (Ok done) = refl
 told_with m u (Err refusal) = refl
 
 told_if : (m : Machine) (id : ℕ) (found : Option Unreleased) → pending_of m.past id ≡ found
-    → released (decided_if m found) ≡ record (released (marked_in m id (verdict_if m.past found))) { sessions = (released (decided_if m found)).sessions }
+    → released (decided_if m found) ≡ with_desk (released (marked_in m id (verdict_if m.past found))) (desk_of (released (decided_if m found)))
 told_if m id None is =
-    ap (λ us. record (released (record m { past = record m.past { unreleased = us } })) { sessions = (released m).sessions }) (sym (marked_none m.past.unreleased id None is))
+    ap (λ us. with_desk (released (record m { past = record m.past { unreleased = us } })) (desk_of (released m))) (sym (marked_none m.past.unreleased id None is))
 told_if m id (Some u) is =
     told_with m u (outcome_of m.past u)
-    ∙ ap (λ n. record (released (marked_in m n (verdict (outcome_of m.past u)))) { sessions = (released (decided_with m u (outcome_of m.past u))).sessions }) (number_found m.past.unreleased id u is)
+    ∙ ap (λ n. with_desk (released (marked_in m n (verdict (outcome_of m.past u)))) (desk_of (released (decided_with m u (outcome_of m.past u))))) (number_found m.past.unreleased id u is)
 
-past_of_all : (ids : List ℕ) (m : Machine) (ss : List Session) → (all_settled m ids).past ≡ (each quietly (record m { sessions = ss }) ids).past
-past_of_all [] m ss = refl
-past_of_all (id ∷ ids) m ss =
-    let told = (quietly (record m { sessions = ss }) id).sessions in
+past_of_all : (ids : List ℕ) (m : Machine) (d : Desk) → (all_settled m ids).past ≡ (each quietly (with_desk m d) ids).past
+past_of_all [] m d = refl
+past_of_all (id ∷ ids) m d =
+    let told = desk_of (quietly (with_desk m d) id) in
     past_of_all ids (settled m id) told
-    ∙ ap (λ (n : Machine). (each quietly (record n { sessions = told }) ids).past) (told_if m id (pending_of m.past id) refl)
+    ∙ ap (λ (n : Machine). (each quietly (with_desk n told) ids).past) (told_if m id (pending_of m.past id) refl)
 
 pub settled_in_any_order : (m : Machine) (ids other : List ℕ) → Facts m → IsPermutation ids other → (all_settled m ids).past ≡ (all_settled m other).past
 settled_in_any_order m ids other facts moved =
-    past_of_all ids m m.sessions ∙ ap (λ (n : Machine). n.past) (all_reordered m ids other facts moved) ∙ sym (past_of_all other m m.sessions)
+    past_of_all ids m (desk_of m) ∙ ap (λ (n : Machine). n.past) (all_reordered m ids other (known m facts) moved) ∙ sym (past_of_all other m (desk_of m))
 
 -- ---- where none is refused, sessions are told the same
 
@@ -180,7 +172,7 @@ ok_alike (Ok done) (Ok other) same ok = refl
 ok_alike (Ok done) (Err refusal) same ok = absurd (cc)
 ok_alike (Err refusal) s same ok = absurd (cc)
 
-module _ (m : Machine) (facts : Facts m) (id : ℕ) where
+module _ (m : Machine) (facts : AreKnown m) (id : ℕ) where
   isnt_still : (b : ℕ) (found : Option Unreleased) → pending_of (quietly m id).past b ≡ found → IsntRefused m.past (pending_of m.past b) → IsntRefused (quietly m id).past found
   isnt_still b None is ok = tt
   isnt_still b (Some w) is ok =
@@ -191,7 +183,7 @@ module _ (m : Machine) (facts : Facts m) (id : ℕ) where
   none_still [] none = tt
   none_still (b ∷ ids) none = (isnt_still b (pending_of (quietly m id).past b) refl none.0, none_still ids none.1)
 
-all_quiet : (ids : List ℕ) (m : Machine) → Facts m → NoneRefused m.past ids → all_settled m ids ≡ each quietly m ids
+all_quiet : (ids : List ℕ) (m : Machine) → AreKnown m → NoneRefused m.past ids → all_settled m ids ≡ each quietly m ids
 all_quiet [] m facts none = refl
 all_quiet (id ∷ ids) m facts none =
     ap (λ n. all_settled n ids) (accepted_if m id (pending_of m.past id) refl none.0)
@@ -201,4 +193,4 @@ pub same_replies_in_any_order : (m : Machine) (ids other : List ℕ) → Facts m
 same_replies_in_any_order m ids other facts moved none =
     let P : ℕ → Type 0 = λ id. IsntRefused m.past (pending_of m.past id) in
     let none_other : NoneRefused m.past other = recursion_from_All P other (All-permutation P ids other moved (All-from_recursion P ids none)) in
-    all_quiet ids m facts none ∙ all_reordered m ids other facts moved ∙ sym (all_quiet other m facts none_other)
+    all_quiet ids m (known m facts) none ∙ all_reordered m ids other (known m facts) moved ∙ sym (all_quiet other m (known m facts) none_other)

@@ -1,5 +1,5 @@
 -- What a session is told by the answers to its requests, and what its targets are then.
-use Rattle.std.proofs.Common.{◌≡◌, ℕ, ◌+◌, ℤ, ◌≤ℤ◌, Bool, true, false, cond, List, [], ◌∷◌, ◌++◌, Option, Some, None, refl, sym, ap, ◌∙◌, subst}
+use Rattle.std.proofs.Common.{◌≡◌, ℕ, ◌+◌, ℤ, ◌≤ℤ◌, Bool, true, false, cond, List, [], ◌∷◌, ◌++◌, Option, Some, None, Result, Ok, Err, refl, sym, ap, ◌∙◌, subst}
 use Rattle.std.specs.Prelude.{IfSome, pos, negsuc, is_some, ◌==◌}
 use Rattle.std.specs.FinMap.{get, insert, remove}
 use Rattle.std.proofs.lemmas.List.{append-nil}
@@ -10,11 +10,22 @@ use Rattle.fs_query.specs.declared.listen.ListenMessage.{ListenMessage}
 use Rattle.fs_query.specs.declared.listen.ListenMessage.TheVariants as listen
 use Rattle.fs_query.specs.declared.target.Target.{Target}
 use Rattle.fs_rpc.specs.declared.message.Message.TheVariants as message
+use Rattle.fs_rpc.specs.declared.request.Envelope.{Envelope}
 use Rattle.fs_rpc.specs.declared.request.Request.{Request}
 use Rattle.fs_rpc.specs.declared.request.Request.TheVariants.{Commit, GetDocument, BatchGetDocuments, RunQuery, BeginTransaction, Rollback, AddTarget, RemoveTarget}
+use Rattle.fs_rpc.specs.declared.request.Request.TheVariants as request
+use Rattle.fs_rpc.specs.declared.stream_request.StreamRequest.{StreamRequest}
+use Rattle.fs_rpc.specs.declared.stream_request.StreamRequest.TheVariants as write
 use Rattle.fs_status.specs.Refusal.{refusal_of}
 use Rattle.fs_status.specs.declared.reason.Reason.TheVariants.{TargetUnknown}
 use Rattle.fs_status.specs.declared.refusal.Refusal.{Refusal}
+use Rattle.fs_stream.specs.Answers.{resume_answer}
+use Rattle.fs_stream.specs.Streams.{owned_by}
+use Rattle.fs_stream.specs.declared.error.StreamError.{StreamError}
+use Rattle.fs_stream.specs.declared.take.Resumed.{Resumed}
+use Rattle.fs_stream.specs.declared.take.Resumed.TheVariants as resumed
+use Rattle.fs_stream.specs.declared.take.Take.{Take}
+use Rattle.fs_stream.specs.declared.take.Take.TheVariants as take
 use Rattle.fs_txn.specs.Transactions.{is_read_write, txn_of}
 use Rattle.fs_txn.specs.declared.txn.Txn.{Txn}
 use Rattle.fs_value.specs.declared.document.Document.{Document}
@@ -27,11 +38,12 @@ use Rattle.fs_machine.specs.Commit.{committed_answer_in, committed_answer_unless
 use Rattle.fs_machine.specs.Conflict.{conflict}
 use Rattle.fs_machine.specs.Listen.{cause_of, has_target, is_rule, listening_of, removing_refusal, token_time, unadded_answer}
 use Rattle.fs_machine.specs.Listeners.{Listener, listening_in, with_listener}
-use Rattle.fs_machine.specs.Numbered.{draws}
+use Rattle.fs_machine.specs.Numbered.{draws, number_of}
 use Rattle.fs_machine.specs.Read.{document_answer, read_time}
-use Rattle.fs_machine.specs.Request.{Decision, answer_by, answered_unless, arrival_refusal, arrives, asked_unless, carried_by, decided_answer, decision, drawn, refused_by, unless_full}
+use Rattle.fs_machine.specs.Request.{Decision, answer_by, answered_unless, arrival_refusal, arrived, arrives, asked_unless, comes, numbered, taken_unless, carried_by, decided_answer, decision, drawn, refused_by, unless_full}
 use Rattle.fs_machine.specs.Retry.{retried_if, retry_decision, tried, tried_answer, unparked}
 use Rattle.fs_machine.specs.State.{Machine}
+use Rattle.fs_machine.specs.Stream.{as_commit, asked_answer, known_answer, own_stream, resumed_answer, streamed_answer, take_of, taken_as, taker_of}
 use Rattle.fs_machine.specs.Told.{said_by, world_of}
 use Rattle.fs_machine.specs.WaitersAsk.{may_wait}
 use Rattle.fs_machine.specs.declared.answer.Answer.TheVariants.{Reply, Refused}
@@ -40,6 +52,7 @@ use Rattle.fs_machine.proofs.Asking.{adding_passes, outbox_none, token_shown}
 use Rattle.fs_machine.proofs.Carried.{in_rest, read_rest}
 use Rattle.fs_machine.proofs.Heard.{heard_others, heard_own, is_among}
 use Rattle.fs_machine.proofs.ListenersHold.{listed_in}
+use Rattle.fs_machine.proofs.Streaming.{streamed_rest, taken_rest}
 
 -- ---- the run of a session's own
 
@@ -100,6 +113,7 @@ is_listen (BeginTransaction database options) = false
 is_listen (Rollback database transaction) = false
 is_listen (AddTarget database id t token) = true
 is_listen (RemoveTarget database id) = true
+is_listen (request.Write database asked) = false
 
 waits_quiet : (q : Request) → may_wait q ≡ true → is_listen q ≡ false
 waits_quiet (Commit database writes transaction) waits = refl
@@ -110,6 +124,20 @@ waits_quiet (BeginTransaction database options) waits = refl
 waits_quiet (Rollback database transaction) waits = refl
 waits_quiet (AddTarget database id t token) waits = absurd (cc)
 waits_quiet (RemoveTarget database id) waits = absurd (cc)
+waits_quiet (request.Write database asked) waits = refl
+
+batch_quiet : (database : Root) (asked : StreamRequest) → is_listen (as_commit (request.Write database asked)) ≡ false
+batch_quiet database write.Open = refl
+batch_quiet database (write.Resume n token) = refl
+batch_quiet database (write.Batch token writes) = refl
+batch_quiet database (write.Ask token) = refl
+batch_quiet database (write.Mixed n token writes) = refl
+
+-- nor do batches
+taken_quiet : (stream : Option ℕ) (database : Root) (asked : StreamRequest) (session number : ℕ) (of : Option (List ℕ))
+    → is_listen (taken_as stream (record { session = session; id = number; stream = None; envelope = record { id = of; request = request.Write database asked } })).envelope.request ≡ false
+taken_quiet None database asked session number of = refl
+taken_quiet (Some n) database asked session number of = batch_quiet database asked
 
 carried_quiet : (m : Machine) (r : ParkedRequest) (q : Request) → is_listen q ≡ false → (carried_by m r q).listeners ≡ m.listeners
 carried_quiet m r (Commit database writes None) is = refl
@@ -121,6 +149,7 @@ carried_quiet m r (BeginTransaction database options) is = refl
 carried_quiet m r (Rollback database transaction) is = refl
 carried_quiet m r (AddTarget database id t token) is = absurd (cc)
 carried_quiet m r (RemoveTarget database id) is = absurd (cc)
+carried_quiet m r (request.Write database asked) is = ap (λ (n : Machine). n.listeners) (streamed_rest m r.session asked)
 
 commit_quiet_unless : (m : Machine) (t : Txn) (found : Option ℕ) → said_by (committed_answer_unless m t found) ≡ []
 commit_quiet_unless m t (Some other) = refl
@@ -137,6 +166,28 @@ document_quiet : (id : Option (List ℕ)) (t : ℤ) (mask : Option (List FieldPa
 document_quiet id t mask None = refl
 document_quiet id t mask (Some d) = refl
 
+resumed_quiet : (n : ℕ) (told : Result Resumed StreamError) → said_by (resumed_answer n told) ≡ []
+resumed_quiet n (Ok (resumed.At finished)) = refl
+resumed_quiet n (Ok (resumed.Repeat kept)) = refl
+resumed_quiet n (Err e) = refl
+
+known_quiet : (n : ℕ) (told : Result Take StreamError) → said_by (known_answer n told) ≡ []
+known_quiet n (Ok (take.New stream)) = refl
+known_quiet n (Ok (take.Repeat kept)) = refl
+known_quiet n (Ok (take.InProgress finished)) = refl
+known_quiet n (Err e) = refl
+
+own_quiet : (own : Option (ℕ × ℕ)) → said_by (asked_answer own) ≡ []
+own_quiet None = refl
+own_quiet (Some own) = refl
+
+streamed_quiet : (m : Machine) (session : ℕ) (asked : StreamRequest) → said_by (streamed_answer m session asked) ≡ []
+streamed_quiet m session write.Open = refl
+streamed_quiet m session (write.Resume n token) = resumed_quiet n (resume_answer session n token m.streams)
+streamed_quiet m session (write.Batch token writes) = known_quiet (own_stream m session) (take_of m session token)
+streamed_quiet m session (write.Ask token) = own_quiet (owned_by session m.streams)
+streamed_quiet m session (write.Mixed n token writes) = refl
+
 answer_quiet : (m : Machine) (r : ParkedRequest) (q : Request) → is_listen q ≡ false → said_by (answer_by m r q) ≡ []
 answer_quiet m r (Commit database writes None) is = refl
 answer_quiet m r (Commit database writes (Some of)) is = commit_quiet_in m r writes (txn_of of m.txns.open)
@@ -147,6 +198,7 @@ answer_quiet m r (BeginTransaction database options) is = refl
 answer_quiet m r (Rollback database transaction) is = refl
 answer_quiet m r (AddTarget database id t token) is = absurd (cc)
 answer_quiet m r (RemoveTarget database id) is = absurd (cc)
+answer_quiet m r (request.Write database asked) is = streamed_quiet m r.session asked
 
 decided_quiet : (m : Machine) (r : ParkedRequest) (d : Decision) → is_listen r.envelope.request ≡ false → said_by (decided_answer m r d) ≡ []
 decided_quiet m r (Decision.refused refusal) is = refl
@@ -167,17 +219,21 @@ refused_quiet m session (BeginTransaction database options) refusal is = refl
 refused_quiet m session (Rollback database transaction) refusal is = refl
 refused_quiet m session (AddTarget database id t token) refusal is = absurd (cc)
 refused_quiet m session (RemoveTarget database id) refusal is = refl
+refused_quiet m session (request.Write database asked) refusal is = refl
+
+comes_quiet : (m : Machine) (r : ParkedRequest) (d : Decision) → is_listen r.envelope.request ≡ false → (comes m r d).listeners ≡ m.listeners
+comes_quiet m r d is = arrives_quiet (taken_unless d r.stream m) r d is ∙ ap (λ (n : Machine). n.listeners) (taken_rest d r.stream m)
 
 asked_quiet : (m : Machine) (r : ParkedRequest) (refusal : Option Refusal) → is_listen r.envelope.request ≡ false → (asked_unless refusal m r).listeners ≡ m.listeners
 asked_quiet m r (Some refusal) is = refl
 asked_quiet m r None is = by_draw (draws r.envelope.request) where
-  by_draw : (b : Bool) → (arrives (cond b (record m { numbers = record m.numbers { ids = m.numbers.ids + 1 } }) m) r (unless_full m (decision m r.envelope.request))).listeners ≡ m.listeners
-  by_draw true = arrives_quiet (record m { numbers = record m.numbers { ids = m.numbers.ids + 1 } }) r (unless_full m (decision m r.envelope.request)) is
-  by_draw false = arrives_quiet m r (unless_full m (decision m r.envelope.request)) is
+  by_draw : (b : Bool) → (comes (cond b (record m { numbers = record m.numbers { ids = m.numbers.ids + 1 } }) m) r (unless_full m (decision m r.session r.envelope.request))).listeners ≡ m.listeners
+  by_draw true = comes_quiet (record m { numbers = record m.numbers { ids = m.numbers.ids + 1 } }) r (unless_full m (decision m r.session r.envelope.request)) is
+  by_draw false = comes_quiet m r (unless_full m (decision m r.session r.envelope.request)) is
 
 answered_quiet : (m : Machine) (r : ParkedRequest) (refusal : Option Refusal) → is_listen r.envelope.request ≡ false → said_by (answered_unless refusal m r) ≡ []
 answered_quiet m r (Some refusal) is = refused_quiet m r.session r.envelope.request refusal is
-answered_quiet m r None is = decided_quiet (drawn m r.envelope.request) r (unless_full m (decision m r.envelope.request)) is
+answered_quiet m r None is = decided_quiet (drawn m r.envelope.request) r (unless_full m (decision m r.session r.envelope.request)) is
 
 tried_quiet : (m : Machine) (place : ℕ) (r : ParkedRequest) (d : Decision) → is_listen r.envelope.request ≡ false → (tried m place r d).listeners ≡ m.listeners
 tried_quiet m place r (Decision.refused refusal) is = refl
@@ -188,7 +244,7 @@ tried_quiet m place r Decision.goes_on is = carried_quiet (unparked m place) r r
 pub retried_quiet : (m : Machine) (place : ℕ) (r : ParkedRequest) → may_wait r.envelope.request ≡ true → ((retried_if m place (Some r)).listeners ≡ m.listeners) × (said_by (tried_answer m r) ≡ [])
 retried_quiet m place r waits =
     let is = waits_quiet r.envelope.request waits in
-    (tried_quiet m place r (retry_decision m r.envelope.request) is, decided_quiet m r (retry_decision m r.envelope.request) is)
+    (tried_quiet m place r (retry_decision m r.session r.envelope.request) is, decided_quiet m r (retry_decision m r.session r.envelope.request) is)
 
 -- ---- a target is added
 
@@ -241,36 +297,40 @@ module _ (shards : ℕ) (m : Machine) (session : ℕ) where
   none_negative : (k : ℕ) → removing_refusal m session (negsuc k) ≡ None → ⊥
   none_negative k none = let some = outbox_none m session (Some (refusal_of (TargetUnknown (negsuc k)))) none in cc
 
+  abbrev asks : ℕ → Option (List ℕ) → Request → ParkedRequest
+  asks number of q = record { session = session; id = number; stream = None; envelope = record { id = of; request = q } }
+
   added_or_not : (number : ℕ) (of : Option (List ℕ)) (root : Root) (id : ℕ) (t : Target) (token : Option (List ℕ)) (refusal : Option Refusal) → arrival_refusal m session (AddTarget root id t token) ≡ refusal
-      → Tells shards m (asked_unless refusal m (record { session = session; id = number; envelope = record { id = of; request = AddTarget root id t token } })) session
-      (said_by (answered_unless refusal m (record { session = session; id = number; envelope = record { id = of; request = AddTarget root id t token } })))
+      → Tells shards m (asked_unless refusal m (asks number of (AddTarget root id t token))) session (said_by (answered_unless refusal m (asks number of (AddTarget root id t token))))
   added_or_not number of root id t token (Some refusal) is = unadded_tells id refusal
   added_or_not number of root id t token None is =
       let passes = adding_passes m session id t token is in
       adding_tells id t token passes.0 (token_shown m token passes.1)
 
   removed_or_not : (number : ℕ) (of : Option (List ℕ)) (root : Root) (id : ℤ) (refusal : Option Refusal) → arrival_refusal m session (RemoveTarget root id) ≡ refusal
-      → Tells shards m (asked_unless refusal m (record { session = session; id = number; envelope = record { id = of; request = RemoveTarget root id } })) session
-      (said_by (answered_unless refusal m (record { session = session; id = number; envelope = record { id = of; request = RemoveTarget root id } })))
+      → Tells shards m (asked_unless refusal m (asks number of (RemoveTarget root id))) session (said_by (answered_unless refusal m (asks number of (RemoveTarget root id))))
   removed_or_not number of root id (Some refusal) is = tells_nothing shards m m session refl
   removed_or_not number of root (pos id) None is = removing_tells id
   removed_or_not number of root (negsuc k) None is = absurd (none_negative k is)
 
-  other_tells : (number : ℕ) (of : Option (List ℕ)) (q : Request) (refusal : Option Refusal) → is_listen q ≡ false
-      → Tells shards m (asked_unless refusal m (record { session = session; id = number; envelope = record { id = of; request = q } })) session
-      (said_by (answered_unless refusal m (record { session = session; id = number; envelope = record { id = of; request = q } })))
-  other_tells number of q refusal is =
-      let r : ParkedRequest = record { session = session; id = number; envelope = record { id = of; request = q } } in
-      tells_none shards m (asked_unless refusal m r) session (said_by (answered_unless refusal m r)) (asked_quiet m r refusal is) (answered_quiet m r refusal is)
+  other_tells : (r : ParkedRequest) (refusal : Option Refusal) → is_listen r.envelope.request ≡ false → Tells shards m (asked_unless refusal m r) session (said_by (answered_unless refusal m r))
+  other_tells r refusal is = tells_none shards m (asked_unless refusal m r) session (said_by (answered_unless refusal m r)) (asked_quiet m r refusal is) (answered_quiet m r refusal is)
 
-  pub asked_tells : (number : ℕ) (of : Option (List ℕ)) (q : Request) (refusal : Option Refusal) → arrival_refusal m session q ≡ refusal
-      → Tells shards m (asked_unless refusal m (record { session = session; id = number; envelope = record { id = of; request = q } })) session
-      (said_by (answered_unless refusal m (record { session = session; id = number; envelope = record { id = of; request = q } })))
-  asked_tells number of (Commit database writes transaction) refusal is = other_tells number of (Commit database writes transaction) refusal refl
-  asked_tells number of (GetDocument name mask when) refusal is = other_tells number of (GetDocument name mask when) refusal refl
-  asked_tells number of (BatchGetDocuments database names mask when) refusal is = other_tells number of (BatchGetDocuments database names mask when) refusal refl
-  asked_tells number of (RunQuery database query when) refusal is = other_tells number of (RunQuery database query when) refusal refl
-  asked_tells number of (BeginTransaction database options) refusal is = other_tells number of (BeginTransaction database options) refusal refl
-  asked_tells number of (Rollback database transaction) refusal is = other_tells number of (Rollback database transaction) refusal refl
-  asked_tells number of (AddTarget database id t token) refusal is = added_or_not number of database id t token refusal is
-  asked_tells number of (RemoveTarget database id) refusal is = removed_or_not number of database id refusal is
+  pub asked_tells : (e : Envelope) (refusal : Option Refusal) → arrival_refusal m session e.request ≡ refusal
+      → Tells shards m (asked_unless refusal m (arrived m session e)) session (said_by (answered_unless refusal m (arrived m session e)))
+  asked_tells e refusal is = by_request e.request is where
+    of : Request → Envelope
+    of q = record { id = e.id; request = q }
+
+    by_request : (q : Request) → arrival_refusal m session q ≡ refusal → Tells shards m (asked_unless refusal m (arrived m session (of q))) session (said_by (answered_unless refusal m (arrived m session (of q))))
+    by_request (Commit database writes transaction) is = other_tells (arrived m session (of (Commit database writes transaction))) refusal refl
+    by_request (GetDocument name mask when) is = other_tells (arrived m session (of (GetDocument name mask when))) refusal refl
+    by_request (BatchGetDocuments database names mask when) is = other_tells (arrived m session (of (BatchGetDocuments database names mask when))) refusal refl
+    by_request (RunQuery database query when) is = other_tells (arrived m session (of (RunQuery database query when))) refusal refl
+    by_request (BeginTransaction database options) is = other_tells (arrived m session (of (BeginTransaction database options))) refusal refl
+    by_request (Rollback database transaction) is = other_tells (arrived m session (of (Rollback database transaction))) refusal refl
+    by_request (AddTarget database id t token) is = added_or_not (number_of m.numbers.ids (AddTarget database id t token)) e.id database id t token refusal is
+    by_request (RemoveTarget database id) is = removed_or_not (number_of m.numbers.ids (RemoveTarget database id)) e.id database id refusal is
+    by_request (request.Write database asked) is =
+        let r = numbered m session (of (request.Write database asked)) in
+        other_tells (taken_as (taker_of m session asked) r) refusal (taken_quiet (taker_of m session asked) database asked r.session r.id e.id)

@@ -21,6 +21,8 @@ use Rattle.fs_machine.specs.State.{Machine}
 use Rattle.fs_machine.specs.Transact.{closed_refusal, reads_had, with_ended}
 use Rattle.fs_machine.specs.declared.answer.Answer.{Answer}
 use Rattle.fs_machine.specs.declared.answer.Answer.TheVariants.{Reply, Prepared, Refused}
+use Rattle.fs_machine.specs.declared.asker.Asker.{Asker}
+use Rattle.fs_machine.specs.declared.asker.Asker.TheVariants.{Session, Stream}
 use Rattle.fs_machine.specs.declared.parked_request.ParkedRequest.{ParkedRequest}
 use Rattle.fs_machine.specs.declared.unreleased.Unreleased.{Unreleased}
 
@@ -30,9 +32,14 @@ use Rattle.fs_machine.specs.declared.unreleased.Unreleased.{Unreleased}
 abbrev pub next_batch : Past → ℕ → List Write → List Read → Batch
 next_batch p id writes reads = record { time = next_time p; id = id; writes = writes; reads = reads }
 
+-- whom it is answered: the session that asks for it, or the stream whose batch it is
+abbrev pub asker_by : ParkedRequest → Option ℕ → Asker
+asker_by r None = Session r.session r.envelope.id
+asker_by r (Some n) = Stream n
+
 -- that of a number, of a request which asks for these writes, and whose transaction made these reads
 abbrev pub next_commit : Past → ℕ → ParkedRequest → List Write → List Read → Unreleased
-next_commit p id r writes reads = record { batch = next_batch p id writes reads; session = r.session; request = r.envelope.id; results = None }
+next_commit p id r writes reads = record { batch = next_batch p id writes reads; asker = asker_by r r.stream; results = None }
 
 abbrev pub past_prepared : Past → Unreleased → Past
 past_prepared p u = record p { unreleased = p.unreleased ++ u ∷ []; last = u.batch.time }

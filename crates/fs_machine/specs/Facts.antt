@@ -9,6 +9,7 @@ use Rattle.fs_machine.specs.ReadsHold.{ReadsHold}
 use Rattle.fs_machine.specs.ResultsHold.{ResultsHold}
 use Rattle.fs_machine.specs.SessionsNumbered.{SessionsNumbered}
 use Rattle.fs_machine.specs.State.{Machine}
+use Rattle.fs_machine.specs.StreamsHold.{StreamsHold}
 use Rattle.fs_machine.specs.TransactionsHold.{TransactionsHold}
 use Rattle.fs_machine.specs.UnreleasedRise.{UnreleasedRise}
 use Rattle.fs_machine.specs.WaitersAsk.{WaitersAsk}
@@ -30,3 +31,4 @@ pub record Facts (m : Machine) : Type 0 where
   pub sessions : SessionsNumbered m.sessions m.numbers.sessions
   pub listeners : ListenersHold m.past m.sessions m.listeners m.numbers.targets
   pub waiters : WaitersAsk m.parked
+  pub streams : StreamsHold m.past m.parked m.streams m.numbers.ids

@@ -8,6 +8,7 @@ use Rattle.fs_history.specs.declared.read.Read.{Read}
 use Rattle.fs_rpc.specs.declared.message.Message.TheVariants as message
 use Rattle.fs_rpc.specs.declared.request.Request.{Request}
 use Rattle.fs_rpc.specs.declared.request.Request.TheVariants.{Commit, GetDocument, BatchGetDocuments, RunQuery, BeginTransaction, Rollback, AddTarget, RemoveTarget}
+use Rattle.fs_rpc.specs.declared.request.Request.TheVariants as request
 use Rattle.fs_rpc.specs.declared.when.When.{When}
 use Rattle.fs_txn.specs.Transactions.{is_read_write, txn_of}
 use Rattle.fs_txn.specs.declared.txn.Txn.{Txn}
@@ -124,6 +125,7 @@ IsHolder m (BeginTransaction database options) id = ⊥
 IsHolder m (Rollback database transaction) id = ⊥
 IsHolder m (AddTarget database target t token) id = ⊥
 IsHolder m (RemoveTarget database target) id = ⊥
+IsHolder m (request.Write database asked) id = ⊥
 
 -- what waits, waits for the one of the least number of those that hold it; and what goes on has none
 abbrev pub HeldByTheLeast : Type 0
@@ -131,8 +133,8 @@ HeldByTheLeast = (m : Machine) (r : Request) → IsLeastOf (IsHolder m r) (held_
 
 -- a request that waited and goes on is carried out as it would be had it come then
 abbrev pub RetriedAsIfItCame : Type 0
-RetriedAsIfItCame = (m : Machine) (place : ℕ) (r : ParkedRequest) → slice_get m.parked place ≡ Some r → retry_decision m r.envelope.request ≡ Decision.goes_on
-    → retried m place ≡ arrives (unparked m place) r (unless_full (unparked m place) (decision (unparked m place) r.envelope.request))
+RetriedAsIfItCame = (m : Machine) (place : ℕ) (r : ParkedRequest) → slice_get m.parked place ≡ Some r → retry_decision m r.session r.envelope.request ≡ Decision.goes_on
+    → retried m place ≡ arrives (unparked m place) r (unless_full (unparked m place) (decision (unparked m place) r.session r.envelope.request))
 
 -- ---- transactions
 
@@ -148,7 +150,7 @@ AbortedByTheLeast = (mode : Mode) (p : Past) (ts : List Txn) (t : Txn) (ws : Lis
 
 -- one that only reads never waits
 abbrev pub ReadOnlyGoesOn : Type 0
-ReadOnlyGoesOn = (m : Machine) (r : Request) → only_reads m (transaction_in r) ≡ true → check_refusal m r ≡ None → decision m r ≡ Decision.goes_on
+ReadOnlyGoesOn = (m : Machine) (session : ℕ) (r : Request) → only_reads m (transaction_in r) ≡ true → check_refusal m session r ≡ None → decision m session r ≡ Decision.goes_on
 
 -- and isn't aborted: it is told the time at which it read
 abbrev pub ReadOnlyCommits : Type 0

@@ -36,6 +36,9 @@ pub mod Sessions
 pub mod SessionsNumbered
 pub mod Settle
 pub mod State
+pub mod Stream
+pub mod StreamLaws
+pub mod StreamsHold
 pub mod Tick
 pub mod Told
 pub mod Transact

@@ -10,6 +10,7 @@ greatest = record {
   sessions = 64;
   targets = 100;
   transactions = 1000;
+  streams = 100000;
   parked = 1000;
   batches = 1000000;
   journal = 134217728;
@@ -29,6 +30,7 @@ pub record AreAllowed (limits : Limits) : Type 0 where
   pub sessions : limits.sessions ≤ greatest.sessions
   pub targets : limits.targets ≤ greatest.targets
   pub transactions : limits.transactions ≤ greatest.transactions
+  pub streams : limits.streams ≤ greatest.streams
   pub parked : limits.parked ≤ greatest.parked
   pub batches : limits.batches ≤ greatest.batches
   pub journal : limits.journal ≤ greatest.journal

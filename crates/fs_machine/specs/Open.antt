@@ -1,5 +1,5 @@
 -- A session opens. (The number of sessions is this project's own limit.)
-use Rattle.std.specs.Prelude.{◌+◌, ℕ, Bool, ◌||◌, [], ◌∷◌, ◌++◌, Result, Ok, Err, length, nat_le, codes, if◌then◌else◌}
+use Rattle.std.specs.Prelude.{◌+◌, ℕ, Bool, false, ◌||◌, [], ◌∷◌, ◌++◌, Result, Ok, Err, length, nat_le, codes, if◌then◌else◌}
 use Rattle.fs_status.specs.Refusal.{at_limit}
 use Rattle.fs_status.specs.declared.refusal.Refusal.{Refusal}
 use Rattle.fs_machine.specs.Limits.{session_numbers}
@@ -13,7 +13,7 @@ is_full m = nat_le m.limits.sessions (length m.sessions) || nat_le session_numbe
 -- with one more, behind the others
 abbrev pub with_session : Machine → Machine
 with_session m = record m {
-  sessions = m.sessions ++ record { number = m.numbers.sessions; outbox = [] } ∷ [];
+  sessions = m.sessions ++ record { number = m.numbers.sessions; outbox = []; has_owned = false } ∷ [];
   listeners = m.listeners ++ unlistening m.numbers.sessions ∷ [];
   numbers = record m.numbers { sessions = m.numbers.sessions + 1 };
 }

@@ -1,7 +1,7 @@
 -- A request comes on a session: what it is answered at once, and the state afterwards. The rules of queries are tested first, then
--- limits; of a target, its id and its token too. Then it draws its number, if it draws one. Next its transaction is tested, or the time
--- that is to be read, then whether it has to wait, which as many do as may. What is left is carried out: then a commit may be aborted, or
--- it may be that no document is there.
+-- limits; of a target, its id and its token too. Then it draws its number, if it draws one. Next its transaction or its stream is tested, or
+-- the time that is to be read, then whether it has to wait, which as many do as may. What is left is carried out: then a commit may be
+-- aborted, or it may be that no document is there. A batch that is the next of its stream is a commit in all this.
 use Rattle.std.specs.Prelude.{ℕ, ◌+◌, List, [], ◌∷◌, ◌++◌, Option, Some, None, option_map, length, nat_le, codes, if◌then◌else◌}
 use Rattle.fs_rpc.specs.declared.message.Message.TheVariants as message
 use Rattle.fs_rpc.specs.declared.options.TransactionOptions.{TransactionOptions}
@@ -9,6 +9,7 @@ use Rattle.fs_rpc.specs.declared.options.TransactionOptions.TheVariants.{ReadWri
 use Rattle.fs_rpc.specs.declared.request.Envelope.{Envelope}
 use Rattle.fs_rpc.specs.declared.request.Request.{Request}
 use Rattle.fs_rpc.specs.declared.request.Request.TheVariants.{Commit, GetDocument, BatchGetDocuments, RunQuery, BeginTransaction, Rollback, AddTarget, RemoveTarget}
+use Rattle.fs_rpc.specs.declared.request.Request.TheVariants as request
 use Rattle.fs_path.specs.Place.{member_place}
 use Rattle.fs_path.specs.declared.place.Rule.TheVariants.{Q}
 use Rattle.fs_query.specs.Asked.{Asked}
@@ -25,6 +26,7 @@ use Rattle.fs_machine.specs.Numbered.{draws, number_of}
 use Rattle.fs_machine.specs.Read.{batch_get_answer, get_answer, read_in, read_limit_refusal, read_time, reader_behind, run_answer, time_refusal, when_refusal}
 use Rattle.fs_machine.specs.Refusing.{ids_refusal, outbox_refusal, passed}
 use Rattle.fs_machine.specs.State.{Machine}
+use Rattle.fs_machine.specs.Stream.{stream_check, stream_refusal, streamed, streamed_answer, taken_as, taken_by, taker}
 use Rattle.fs_machine.specs.Transact.{closed_refusal, with_begun, with_ended}
 use Rattle.fs_machine.specs.declared.answer.Answer.{Answer}
 use Rattle.fs_machine.specs.declared.answer.Answer.TheVariants.{Reply, Held, Refused}
@@ -51,6 +53,7 @@ arrival_refusal m session (BeginTransaction database options) = begin_refusal m 
 arrival_refusal m session (Rollback database transaction) = outbox_refusal m session None
 arrival_refusal m session (AddTarget database id t token) = adding_refusal m session id t token
 arrival_refusal m session (RemoveTarget database id) = removing_refusal m session id
+arrival_refusal m session (request.Write database asked) = stream_refusal m session asked
 
 -- as it is tried again
 abbrev pub retry_refusal : Machine → Request → Option Refusal
@@ -62,23 +65,26 @@ retry_refusal m (BeginTransaction database options) = None
 retry_refusal m (Rollback database transaction) = None
 retry_refusal m (AddTarget database id t token) = None
 retry_refusal m (RemoveTarget database id) = None
+retry_refusal m (request.Write database asked) = None
 
--- ---- its transaction, and the time that it reads
+-- ---- its transaction or its stream, and the time that it reads
 
 abbrev pub begin_time_refusal : Machine → TransactionOptions → Option Refusal
 begin_time_refusal m ReadWrite = None
 begin_time_refusal m (ReadOnly None) = None
 begin_time_refusal m (ReadOnly (Some time)) = time_refusal m.past time
 
-abbrev pub check_refusal : Machine → Request → Option Refusal
-check_refusal m (Commit database writes transaction) = author_refusal m writes transaction
-check_refusal m (GetDocument name mask when) = when_refusal m when
-check_refusal m (BatchGetDocuments database names mask when) = when_refusal m when
-check_refusal m (RunQuery database query when) = when_refusal m when
-check_refusal m (BeginTransaction database options) = begin_time_refusal m options
-check_refusal m (Rollback database transaction) = closed_refusal m.txns transaction
-check_refusal m (AddTarget database id t token) = None
-check_refusal m (RemoveTarget database id) = None
+-- that of a session
+abbrev pub check_refusal : Machine → ℕ → Request → Option Refusal
+check_refusal m session (Commit database writes transaction) = author_refusal m writes transaction
+check_refusal m session (GetDocument name mask when) = when_refusal m when
+check_refusal m session (BatchGetDocuments database names mask when) = when_refusal m when
+check_refusal m session (RunQuery database query when) = when_refusal m when
+check_refusal m session (BeginTransaction database options) = begin_time_refusal m options
+check_refusal m session (Rollback database transaction) = closed_refusal m.txns transaction
+check_refusal m session (AddTarget database id t token) = None
+check_refusal m session (RemoveTarget database id) = None
+check_refusal m session (request.Write database asked) = stream_check m session asked
 
 -- ---- whom it waits for
 
@@ -95,6 +101,7 @@ held_by m (BeginTransaction database options) = None
 held_by m (Rollback database transaction) = None
 held_by m (AddTarget database id t token) = None
 held_by m (RemoveTarget database id) = None
+held_by m (request.Write database asked) = None
 
 -- ---- carried out
 
@@ -107,6 +114,7 @@ carried_by m r (BeginTransaction database options) = with_begun m r.id options
 carried_by m r (Rollback database transaction) = with_ended m transaction
 carried_by m r (AddTarget database id t token) = with_target m r.session id t (token_time token)
 carried_by m r (RemoveTarget database id) = without_target m r.session id
+carried_by m r (request.Write database asked) = streamed m r.session asked
 
 abbrev pub carried : Machine → ParkedRequest → Machine
 carried m r = carried_by m r r.envelope.request
@@ -120,6 +128,7 @@ answer_by m r (BeginTransaction database options) = Reply (message.BeginTransact
 answer_by m r (Rollback database transaction) = Reply (message.Rollback r.envelope.id)
 answer_by m r (AddTarget database id t token) = added_answer id
 answer_by m r (RemoveTarget database id) = removed_answer id
+answer_by m r (request.Write database asked) = streamed_answer m r.session asked
 
 abbrev pub carried_answer : Machine → ParkedRequest → Answer
 carried_answer m r = answer_by m r r.envelope.request
@@ -146,8 +155,8 @@ unless_full m (refused refusal) = refused refusal
 unless_full m (held id) = if nat_le m.limits.parked (length m.parked) then refused (at_limit (codes "parked") m.limits.parked) else held id
 unless_full m goes_on = goes_on
 
-abbrev pub decision : Machine → Request → Decision
-decision m r = unless_refused (check_refusal m r) (unless_held (held_by m r))
+abbrev pub decision : Machine → ℕ → Request → Decision
+decision m session r = unless_refused (check_refusal m session r) (unless_held (held_by m r))
 
 abbrev pub decided_answer : Machine → ParkedRequest → Decision → Answer
 decided_answer m r (refused refusal) = Refused refusal
@@ -157,8 +166,12 @@ decided_answer m r goes_on = carried_answer m r
 -- ---- the event
 
 -- the request with its number
+abbrev pub numbered : Machine → ℕ → Envelope → ParkedRequest
+numbered m session e = record { session = session; id = number_of m.numbers.ids e.request; stream = None; envelope = e }
+
+-- and as the stream takes it, whose next batch it is
 abbrev pub arrived : Machine → ℕ → Envelope → ParkedRequest
-arrived m session e = record { session = session; id = number_of m.numbers.ids e.request; envelope = e }
+arrived m session e = taken_as (taker m session e.request) (numbered m session e)
 
 -- with the number drawn, if it draws one
 abbrev pub drawn : Machine → Request → Machine
@@ -172,9 +185,18 @@ arrives m r (refused refusal) = m
 arrives m r (held id) = with_parked m r
 arrives m r goes_on = carried m r
 
+-- a stream takes no batch that is refused
+abbrev pub taken_unless : Decision → Option ℕ → Machine → Machine
+taken_unless (refused refusal) stream m = m
+taken_unless (held id) stream m = taken_by stream m
+taken_unless goes_on stream m = taken_by stream m
+
+abbrev pub comes : Machine → ParkedRequest → Decision → Machine
+comes m r d = arrives (taken_unless d r.stream m) r d
+
 abbrev pub asked_unless : Option Refusal → Machine → ParkedRequest → Machine
 asked_unless (Some refusal) m r = m
-asked_unless None m r = arrives (drawn m r.envelope.request) r (unless_full m (decision m r.envelope.request))
+asked_unless None m r = comes (drawn m r.envelope.request) r (unless_full m (decision m r.session r.envelope.request))
 
 -- why it isn't carried out; a target that isn't added is told to be removed
 abbrev pub refused_by : Machine → ℕ → Request → Refusal → Answer
@@ -186,10 +208,11 @@ refused_by m session (RunQuery database query when) refusal = Refused refusal
 refused_by m session (BeginTransaction database options) refusal = Refused refusal
 refused_by m session (Rollback database transaction) refusal = Refused refusal
 refused_by m session (RemoveTarget database id) refusal = Refused refusal
+refused_by m session (request.Write database asked) refusal = Refused refusal
 
 abbrev pub answered_unless : Option Refusal → Machine → ParkedRequest → Answer
 answered_unless (Some refusal) m r = refused_by m r.session r.envelope.request refusal
-answered_unless None m r = decided_answer (drawn m r.envelope.request) r (unless_full m (decision m r.envelope.request))
+answered_unless None m r = decided_answer (drawn m r.envelope.request) r (unless_full m (decision m r.session r.envelope.request))
 
 abbrev pub asked : Machine → ℕ → Envelope → Machine
 asked m session e = asked_unless (arrival_refusal m session e.request) m (arrived m session e)

@@ -1,5 +1,5 @@
 -- The sessions that are open, each with the messages that it has still to be sent.
-use Rattle.std.specs.Prelude.{ℕ, List, [], ◌∷◌, ◌++◌, ◌==◌, if◌then◌else◌}
+use Rattle.std.specs.Prelude.{ℕ, Bool, true, false, List, [], ◌∷◌, ◌++◌, ◌==◌, if◌then◌else◌}
 use Rattle.fs_rpc.specs.declared.message.Message.{Message}
 use Rattle.fs_machine.specs.declared.session.Session.{Session}
 
@@ -20,6 +20,16 @@ delivered number message ss = with_outbox number (λ ms. ms ++ message ∷ []) s
 -- with no message left for it
 abbrev pub emptied : ℕ → List Session → List Session
 emptied number ss = with_outbox number (λ ms. []) ss
+
+-- it owns a write stream, or did
+abbrev pub owning : ℕ → List Session → List Session
+owning number [] = []
+owning number (s ∷ ss) = if s.number == number then record s { has_owned = true } ∷ ss else s ∷ owning number ss
+
+-- whether it does or ever did; not, where it isn't open
+abbrev pub has_owned : ℕ → List Session → Bool
+has_owned number [] = false
+has_owned number (s ∷ ss) = if s.number == number then s.has_owned else has_owned number ss
 
 -- without it
 abbrev pub without : ℕ → List Session → List Session

@@ -1,5 +1,6 @@
 -- A pending commit is settled: its writes are carried out on what the commits before it leave. If one of them is refused, the
--- commit is dropped, its time is used up, and the refusal is its reply. Else it is accepted. Then what can be is released.
+-- commit is dropped, its time is used up, and the refusal is its reply; a stream's batch is finished so. Else it is accepted. Then what can be
+-- is released.
 use Rattle.std.specs.Prelude.{◌≡◌, ℕ, ℤ, Bool, not, ◌&&◌, ◌==◌, int_lt, List, [], ◌∷◌, Option, Some, None, Result, Ok, Err, if◌then◌else◌}
 use Rattle.std.specs.List.{filter, AllByRecursion}
 use Rattle.fs_rpc.specs.MessageJson.{refused}
@@ -11,12 +12,15 @@ use Rattle.fs_history.specs.History.{whole}
 use Rattle.fs_machine.specs.declared.answer.Outcome.{Outcome}
 use Rattle.fs_machine.specs.declared.answer.Outcome.TheVariants as outcome
 use Rattle.fs_machine.specs.declared.answer.Settled.{Settled}
+use Rattle.fs_machine.specs.declared.asker.Asker.{Asker}
+use Rattle.fs_machine.specs.declared.asker.Asker.TheVariants.{Session, Stream}
 use Rattle.fs_machine.specs.declared.answer.Settled.TheVariants.{Released, Waiting, Dropped, Memory}
 use Rattle.fs_machine.specs.Past.{Past, is_pending}
 use Rattle.fs_machine.specs.declared.unreleased.Unreleased.{Unreleased}
 use Rattle.fs_machine.specs.Release.{joined, released}
 use Rattle.fs_machine.specs.Sessions.{delivered}
 use Rattle.fs_machine.specs.State.{Machine}
+use Rattle.fs_machine.specs.Stream.{Desk, batch_refused, desk_of, with_desk}
 
 -- it is the pending commit of a number
 abbrev pub is_it : ℕ → Unreleased → Bool
@@ -75,10 +79,14 @@ abbrev pub past_decided : Past → Unreleased → Result (Docs × List WriteResu
 past_decided p u (Ok done) = record p { unreleased = accepted_in u.batch.id done.1 p.unreleased }
 past_decided p u (Err refusal) = record p { unreleased = dropped_from u.batch.id p.unreleased }
 
+-- the session that asked is told a refusal, or its stream has finished the batch
+abbrev pub refused_to : Asker → Refusal → Desk → Desk
+refused_to (Session session request) refusal d = (d.0, delivered session (refused request refusal) d.1)
+refused_to (Stream n) refusal d = batch_refused n refusal d
+
 abbrev pub decided_with : Machine → Unreleased → Result (Docs × List WriteResult) Refusal → Machine
 decided_with m u (Ok done) = record m { past = past_decided m.past u (Ok done) }
-decided_with m u (Err refusal) =
-    record m { past = past_decided m.past u (Err refusal); sessions = delivered u.session (refused u.request refusal) m.sessions }
+decided_with m u (Err refusal) = with_desk (record m { past = past_decided m.past u (Err refusal) }) (refused_to u.asker refusal (desk_of m))
 
 abbrev pub decided_if : Machine → Option Unreleased → Machine
 decided_if m None = m

@@ -2,6 +2,7 @@
 -- alone keeps what is promised of it.
 use Rattle.std.specs.Prelude.{ℤ, List, [], refl}
 use Rattle.std.specs.Coded.{Coded, code_by, coded×, coded_list}
+use Rattle.fs_stream.specs.Streams.{Streams, none_opened, streams_code}
 use Rattle.fs_txn.specs.Transactions.{Transactions, transactions_code}
 use Rattle.fs_machine.specs.contracts.config.Config as config
 use Rattle.fs_machine.specs.contracts.limits.Limits as limits
@@ -29,15 +30,17 @@ pub record Machine : Type 0 where
   pub listeners : List Listener
   -- the requests that wait, in the order of their arrival
   pub parked : List ParkedRequest
+  -- the write streams that were opened, and who owns which
+  pub streams : Streams
   pub numbers : Numbers
 
 -- it is stored as the tuple of its parts
 abbrev pub machine_code : Coded Machine
 machine_code =
-    code_by (Config × (Limits × (Past × (Transactions × (List Session × (List Listener × (List ParkedRequest × Numbers)))))))
-    (coded× config.the_row.coded (coded× limits.the_row.coded (coded× past_code (coded× transactions_code (coded× (coded_list session.the_row.coded) (coded× (coded_list listener_code) (coded× (coded_list parked_request.the_row.coded) numbers.the_row.coded)))))))
-    (λ m. (m.config, (m.limits, (m.past, (m.txns, (m.sessions, (m.listeners, (m.parked, m.numbers))))))))
-    (λ t. record { config = t.0; limits = t.1.0; past = t.1.1.0; txns = t.1.1.1.0; sessions = t.1.1.1.1.0; listeners = t.1.1.1.1.1.0; parked = t.1.1.1.1.1.1.0; numbers = t.1.1.1.1.1.1.1 })
+    code_by (Config × (Limits × (Past × (Transactions × (List Session × (List Listener × (List ParkedRequest × (Streams × Numbers))))))))
+    (coded× config.the_row.coded (coded× limits.the_row.coded (coded× past_code (coded× transactions_code (coded× (coded_list session.the_row.coded) (coded× (coded_list listener_code) (coded× (coded_list parked_request.the_row.coded) (coded× streams_code numbers.the_row.coded))))))))
+    (λ m. (m.config, (m.limits, (m.past, (m.txns, (m.sessions, (m.listeners, (m.parked, (m.streams, m.numbers)))))))))
+    (λ t. record { config = t.0; limits = t.1.0; past = t.1.1.0; txns = t.1.1.1.0; sessions = t.1.1.1.1.0; listeners = t.1.1.1.1.1.0; parked = t.1.1.1.1.1.1.0; streams = t.1.1.1.1.1.1.1.0; numbers = t.1.1.1.1.1.1.1.1 })
     (λ _. refl)
 
 -- where it begins, at a moment
@@ -50,5 +53,6 @@ started config limits start = record {
   sessions = [];
   listeners = [];
   parked = [];
+  streams = none_opened limits.streams;
   numbers = record { ids = 0; sessions = 0; targets = 0 };
 }

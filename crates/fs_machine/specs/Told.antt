@@ -19,7 +19,7 @@ use Rattle.fs_machine.specs.Request.{answered}
 use Rattle.fs_machine.specs.Retry.{tried_answer}
 use Rattle.fs_machine.specs.State.{Machine}
 use Rattle.fs_machine.specs.declared.answer.Answer.{Answer}
-use Rattle.fs_machine.specs.declared.answer.Answer.TheVariants.{Reply, Prepared, Held, Refused}
+use Rattle.fs_machine.specs.declared.answer.Answer.TheVariants.{Reply, Prepared, Held, InProgress, Refused}
 use Rattle.fs_machine.specs.declared.parked_request.ParkedRequest.{ParkedRequest}
 use Rattle.fs_machine.specs.declared.session.Session.{Session}
 
@@ -38,6 +38,7 @@ said_in (message.RunQuery id documents time) = None
 said_in (message.BeginTransaction id transaction) = None
 said_in (message.Rollback id) = None
 said_in (message.Error id code text) = None
+said_in (message.Write n token told) = None
 
 abbrev pub all_said : List Message → List ListenMessage
 all_said ms = filter_map said_in ms
@@ -46,6 +47,7 @@ abbrev pub said_by : Answer → List ListenMessage
 said_by (Reply m) = all_said (m ∷ [])
 said_by (Prepared id time) = []
 said_by (Held id) = []
+said_by (InProgress finished) = []
 said_by (Refused refusal) = []
 
 -- ---- what an event tells a session

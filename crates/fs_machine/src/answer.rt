@@ -13,6 +13,8 @@ pub enum Answer {
     Prepared(Id, Micros),
     /// It waits, and is tried again: by the number of what it waits for, the least of several.
     Held(Id),
+    /// It is the batch that its stream has in progress, behind so many that are finished. The response comes once it is finished.
+    InProgress(u64),
     /// It isn't carried out.
     Refused(Refusal),
 }

@@ -1,6 +1,7 @@
 //! The laws of servers.
 ghost use Rattle.fs_machine.specs.ListenLaws.{CutsAreConsistent, RaisesNeverFall};
 ghost use Rattle.fs_machine.specs.Laws.{AbortedByTheLeast, AlwaysGrows, AlwaysKept, AlwaysSerial, DocumentsStay, HeldByTheLeast, OutcomesStay, ReadOnlyCommits, ReadOnlyGoesOn, RefusedIsNeverSeen, RepliesComeOnce, RetriedAsIfItCame, SameRepliesInAnyOrder, SettledInAnyOrder};
+ghost use Rattle.fs_machine.specs.StreamLaws.{BatchesOnceInOrder, CommittedOnceInOrder, RepeatsAreAnsweredAlike};
 
 use fs_listen::listening_is_lawful;
 
@@ -29,6 +30,11 @@ use fs_listen::listening_is_lawful;
 /// A session that listens is told of its targets so that whoever gathers all that it was told has, at each NO_CHANGE, just the views of
 /// all its targets at that one time (`cuts`), which never falls (`times`): whenever targets were added, resumed, loaded or removed,
 /// and however far each shard was matched.
+///
+/// A write stream takes one batch behind another, and finishes them in that order, each once, whatever was sent again and whoever owns the
+/// stream by then; the response to each has the next token (`batches_once`). Those that were committed are the commits of the stream that
+/// were let out, in that order, so each is in the history once at most (`committed_once`). What is given again to who sends the last batch
+/// again is the response with which it was finished (`repeats`).
 pub fn machines_are_lawful()
     ensures kept { AlwaysKept }
     ensures grows { AlwaysGrows }
@@ -46,6 +52,9 @@ pub fn machines_are_lawful()
     ensures refused { RefusedIsNeverSeen }
     ensures cuts { CutsAreConsistent }
     ensures times { RaisesNeverFall }
+    ensures batches_once { BatchesOnceInOrder }
+    ensures committed_once { CommittedOnceInOrder }
+    ensures repeats { RepeatsAreAnsweredAlike }
 {
     listening_is_lawful();
 }

@@ -3,6 +3,8 @@
 #![tactic(auto)]
 
 mod answer;
+mod asker;
+mod committed;
 mod config;
 mod laws;
 mod limits;
@@ -15,6 +17,8 @@ mod session;
 mod unreleased;
 
 pub use answer::{Answer, Outcome, Settled};
+pub use asker::Asker;
+pub use committed::Committed;
 pub use config::{Config, Mode};
 pub use laws::machines_are_lawful;
 pub use limits::Limits;

@@ -15,6 +15,8 @@ pub struct Limits {
     pub targets: u64,
     /// Transactions that are open at a time.
     pub transactions: u64,
+    /// Write streams that were opened.
+    pub streams: u64,
     /// Requests that wait.
     pub parked: u64,
     /// Batches in the history, and commits that aren't in it yet.
@@ -43,6 +45,7 @@ impl Limits {
             sessions: 64,
             targets: 100,
             transactions: 1_000,
+            streams: 100_000,
             parked: 1_000,
             batches: 1_000_000,
             journal: 134_217_728,
@@ -62,6 +65,7 @@ impl Limits {
             && self.sessions <= greatest.sessions
             && self.targets <= greatest.targets
             && self.transactions <= greatest.transactions
+            && self.streams <= greatest.streams
             && self.parked <= greatest.parked
             && self.batches <= greatest.batches
             && self.journal <= greatest.journal

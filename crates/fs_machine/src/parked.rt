@@ -9,6 +9,8 @@ pub struct Parked {
     pub session: u32,
     /// The id of its request.
     pub id: Option<Text>,
+    /// The write stream whose batch it is.
+    pub stream: Option<u64>,
     /// By the number of what holds it now, the least of several; none, where nothing does.
     pub held: Option<Id>,
 }

@@ -9,5 +9,7 @@ pub struct ParkedRequest {
     pub session: u32,
     /// That of its transaction, or the one that it drew as it came.
     pub id: Id,
+    /// The write stream that took it as its next batch, if it is one. It is a commit then.
+    pub stream: Option<u64>,
     pub envelope: Envelope,
 }

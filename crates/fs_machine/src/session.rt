@@ -8,4 +8,6 @@ pub struct Session {
     pub number: u32,
     /// The messages that it has still to be sent.
     pub outbox: Messages,
+    /// Whether it ever owned a write stream.
+    pub has_owned: bool,
 }

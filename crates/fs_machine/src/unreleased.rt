@@ -1,6 +1,6 @@
 //! Commits that are under way.
+use crate::asker::Asker;
 use fs_history::Batch;
-use fs_path::Text;
 use fs_time::Micros;
 use fs_write::WriteResults;
 
@@ -9,10 +9,8 @@ use fs_write::WriteResults;
 pub struct Unreleased {
     /// What it is to be there.
     pub batch: Batch,
-    /// The session that is answered.
-    pub session: u32,
-    /// The id of its request.
-    pub request: Option<Text>,
+    /// Who is answered.
+    pub asker: Asker,
     /// Those of its writes, once it is accepted. It is pending before that.
     pub results: Option<WriteResults>,
 }

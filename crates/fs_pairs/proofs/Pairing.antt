@@ -237,19 +237,20 @@ freed_unused m number unused =
     (nobody number (entries m) (all_entries (λ (e : ℕ × ℕ). e.1 ≡ number → ⊥) (entries m) (to_true _ (entries_sorted m))
     (λ key n found same. unused key (get-entries m key ∙ found ∙ ap Some same))))
 
+-- the key of a number is whoever has it
+pub key_is : (m : FinMap nat_cmp ℕ) (key number : ℕ) → AreDistinct m → get m key ≡ Some number → key_of number (entries m) ≡ Some key
+key_is m key number differ has =
+    owner number key (entries m)
+    (all_entries (λ (e : ℕ × ℕ). e.1 ≡ number → e.0 ≡ key) (entries m) (to_true _ (entries_sorted m))
+    (λ k n found same. differ k key number (get-entries m k ∙ found ∙ ap Some same) has))
+    (sym (get-entries m key) ∙ has)
+
 -- a number goes to who has it
 pub given_again : (m : FinMap nat_cmp ℕ) (key number : ℕ) → AreDistinct m → get m key ≡ Some number → insert (freed m number) key number ≡ m
 given_again m key number differ has =
-    ap (λ (o : Option ℕ). insert (option_map_or (remove m) o m) key number) its_key ∙ put_over m key number
+    ap (λ (o : Option ℕ). insert (option_map_or (remove m) o m) key number) (key_is m key number differ has) ∙ put_over m key number
     ∙ same_map nat_cmp_total nat_cmp-IsAntisymmetric _ _ (λ q. get-insert nat_cmp_total m key number q ∙ by_test q (eq_by_cmp nat_cmp q key) refl)
   where
-    its_key : key_of number (entries m) ≡ Some key
-    its_key =
-        owner number key (entries m)
-        (all_entries (λ (e : ℕ × ℕ). e.1 ≡ number → e.0 ≡ key) (entries m) (to_true _ (entries_sorted m))
-        (λ k n found same. differ k key number (get-entries m k ∙ found ∙ ap Some same) has))
-        (sym (get-entries m key) ∙ has)
-
     by_test : (q : ℕ) (same : Bool) → eq_by_cmp nat_cmp q key ≡ same → cond same (Some number) (get m q) ≡ get m q
     by_test q true is = sym has ∙ ap (get m) (sym (number_is q key is))
     by_test q false is = refl
@@ -259,3 +260,45 @@ pub distinct : (numbers keys : FinMap nat_cmp ℕ) → AreKeysOf numbers keys �
 distinct numbers keys of one other number found found_too =
     let both : Some one ≡ Some other = sym ((of one number).0 found) ∙ (of other number).0 found_too in
     cc
+
+-- ---- no two keys have one number, whatever becomes of them
+
+pub distinct_more : (m : FinMap nat_cmp ℕ) (key number : ℕ) → AreDistinct m → ((other : ℕ) → get m other ≢ Some number) → AreDistinct (insert m key number)
+distinct_more m key number differ unused one other n found found_too =
+    by_tests (eq_by_cmp nat_cmp one key) refl (eq_by_cmp nat_cmp other key) refl (sym (get-insert nat_cmp_total m key number one) ∙ found) (sym (get-insert nat_cmp_total m key number other) ∙ found_too)
+  where
+    by_tests : (a : Bool) → eq_by_cmp nat_cmp one key ≡ a → (b : Bool) → eq_by_cmp nat_cmp other key ≡ b → cond a (Some number) (get m one) ≡ Some n → cond b (Some number) (get m other) ≡ Some n → one ≡ other
+    by_tests true here true there has has_too = number_is one key here ∙ sym (number_is other key there)
+    by_tests true here false there has has_too = absurd (unused other (has_too ∙ sym has))
+    by_tests false here true there has has_too = absurd (unused one (has ∙ sym has_too))
+    by_tests false here false there has has_too = differ one other n has has_too
+
+pub distinct_fewer : (m : FinMap nat_cmp ℕ) (key : ℕ) → AreDistinct m → AreDistinct (remove m key)
+distinct_fewer m key differ one other n found found_too = differ one other n (there one found) (there other found_too) where
+  by_test : (k : ℕ) (same : Bool) → cond same None (get m k) ≡ Some n → get m k ≡ Some n
+  by_test k true has = absurd (let none : None ≡ Some n = has in cc)
+  by_test k false has = has
+
+  there : (k : ℕ) → get (remove m key) k ≡ Some n → get m k ≡ Some n
+  there k has = by_test k (eq_by_cmp nat_cmp k key) (sym (get-remove nat_cmp_total m key k) ∙ has)
+
+pub distinct_freed : (m : FinMap nat_cmp ℕ) (number : ℕ) → AreDistinct m → AreDistinct (freed m number)
+distinct_freed m number differ = by_key (key_of number (entries m)) where
+  by_key : (o : Option ℕ) → AreDistinct (option_map_or (remove m) o m)
+  by_key None = differ
+  by_key (Some key) = distinct_fewer m key differ
+
+-- nobody has a number that is freed
+pub freed_spares : (m : FinMap nat_cmp ℕ) (number : ℕ) → AreDistinct m → (other : ℕ) → get (freed m number) other ≢ Some number
+freed_spares m number differ other = by_key (key_of number (entries m)) refl where
+  by_test : (key : ℕ) (same : Bool) → eq_by_cmp nat_cmp other key ≡ same → key_of number (entries m) ≡ Some key → cond same None (get m other) ≡ Some number → ⊥
+  by_test key true is its has = let none : None ≡ Some number = has in cc
+  by_test key false is its has =
+      let both : Some other ≡ Some key = sym (key_is m other number differ has) ∙ its in
+      let one : other ≡ key = cc in
+      let twice : true ≡ false = sym (number_itself other) ∙ ap (eq_by_cmp nat_cmp other) one ∙ is in
+      cc
+
+  by_key : (o : Option ℕ) → key_of number (entries m) ≡ o → get (option_map_or (remove m) o m) other ≢ Some number
+  by_key None its has = let both : None ≡ Some other = sym its ∙ key_is m other number differ has in cc
+  by_key (Some key) its has = by_test key (eq_by_cmp nat_cmp other key) refl its (sym (get-remove nat_cmp_total m key other) ∙ has)

@@ -1,5 +1,5 @@
 -- What a release brings: commits, each later than what was released, which make the history before it the one behind it.
-use Rattle.std.specs.Prelude.{ℤ, ◌<ℤ◌, ◌≤ℤ◌, List, []}
+use Rattle.std.specs.Prelude.{◌<ℤ◌, ◌≤ℤ◌, List, []}
 use Rattle.std.specs.List.{AllByRecursion}
 use Rattle.fs_write.specs.declared.timed_change.TimedChange.{TimedChange}
 use Rattle.fs_history.specs.Brings.{Brings}

@@ -5,12 +5,12 @@
 mod accepted;
 mod answer;
 mod commits;
+mod committed;
 mod holds;
 mod named;
 mod outcome;
 mod past;
 mod release;
-mod replies;
 mod touching;
 
 pub use fs_store::Version;

@@ -6,15 +6,15 @@ ghost use Rattle.fs_txn.specs.Reading.{earlier as earlier_of};
 use crate::accepted::Accepted;
 use crate::answer::answer_at;
 use crate::commits::{bytes_in, bytes_left, id_of};
+use crate::committed::all_committed;
 use crate::holds::Holds;
 use crate::outcome::outcome_among;
 use crate::release::{bring, let_in, make_room, one_ready};
-use crate::replies::replies_ready;
 use crate::touching::{first_in_journal, first_on_board};
 use fs_board::Board;
 use fs_history::{Journal, Reads, histories_are_lawful};
 use fs_locks::lesser;
-use fs_machine::{Outcome, Reply, Unreleased};
+use fs_machine::{Committed, Outcome, Unreleased};
 use fs_path::DocName;
 use fs_query::{Query, Target};
 use fs_status::Id;
@@ -106,7 +106,7 @@ impl Past {
     ghost use Rattle.fs_machine.specs.Pending.{next_pending as next_in};
     ghost use Rattle.fs_machine.specs.ReadsHold.{MayRead};
     ghost use Rattle.fs_machine.specs.Refusing.{journal_count as counted_in, journal_size as size_of, next_time as time_after};
-    ghost use Rattle.fs_machine.specs.Release.{let_out, past_released, reply_of};
+    ghost use Rattle.fs_machine.specs.Release.{committed_out, past_released};
     ghost use Rattle.fs_machine.specs.Settle.{ComesTo, accepted_in, dropped_from, pending_of};
     ghost use Rattle.fs_machine.specs.Tick.{past_advanced};
     ghost use Rattle.fs_machine.specs.declared.answer.Outcome.TheVariants.{Effects};
@@ -356,11 +356,11 @@ impl Past {
         Ok(())
     }
 
-    /// What sessions are told at the next release: the replies of the commits that it lets out, the first of them first.
-    pub fn replies(&self, alloc: Global) -> Result<Vec<Reply>, AllocError>
-        ensures { IfOk result (λ rs. rs.items ≡ map reply_of (let_out self.now)) }
+    /// The commits that the next release lets into the history, by what they are answered, the first of them first.
+    pub fn committed(&self, alloc: Global) -> Result<Vec<Committed>, AllocError>
+        ensures { IfOk result (λ cs. cs.items ≡ committed_out self.now) }
     {
-        replies_ready(alloc, &self.board)
+        all_committed(alloc, &self.board)
     }
 
     /// The floor rises to a time, as far as that is released and `first`, the least time at which an open transaction reads. It takes no

@@ -23,7 +23,7 @@ use Rattle.fs_replay.proofs.Ended.{empty_closing, emptied_none, settled_by_none,
 use Rattle.fs_replay.proofs.Falling.{retried_is, settled_is, settled_last}
 use Rattle.fs_replay.proofs.Kept.{Keeps, closed_kept, keeps_beside}
 use Rattle.fs_replay.proofs.Known.{has_number, known_open}
-use Rattle.fs_replay.proofs.Lone.{Told, is_next, told_once}
+use Rattle.fs_replay.proofs.Lone.{IsAnswered, Told, is_next, told_once}
 use Rattle.fs_replay.proofs.Nobody.{serves_listens}
 use Rattle.fs_replay.proofs.OneLine.{json_one_line}
 use Rattle.fs_replay.proofs.Beside.{Empty, IsBeside, serves_beside}
@@ -79,21 +79,24 @@ settled_behind t true empty settled = settling_none t empty settled
 settled_behind t false empty settled = refl
 
 module _ (s : State) (u : Unreleased) (stands : Stands s) (empty : Empty s) (alone : s.server.past.unreleased ≡ u ∷ []) (pending : u.results ≡ None) (parked : s.server.parked ≡ [])
-    (knows : has_number u.session s.directory ≡ true) where
+    (k : ℕ) (answered : IsAnswered s.server u.asker k) (knows : has_number k s.directory ≡ true) where
   -- the server after it
   abbrev after : Machine
   after = settled s.server u.batch.id
 
-  told : Told s.server u after
-  told = told_once s.server u alone pending stands.facts.past.unreleased
+  told : Told s.server k after
+  told = told_once s.server u alone pending stands.facts.past.unreleased k answered
 
   -- and once it is told
   abbrev rest : State
   rest = (settles s u.batch.id).state
 
-  rest_is : rest.server ≡ record s.server { past = after.past }
-  rest_is =
-      ap (drained s.directory) told.is ∙ drained_delivered s.directory (record s.server { past = after.past }) u.session told.message empty knows
+  -- all but the outbox of whoever is told
+  abbrev behind : Machine
+  behind = record s.server { past = after.past; streams = after.streams }
+
+  rest_is : rest.server ≡ behind
+  rest_is = ap (drained s.directory) told.is ∙ drained_delivered s.directory behind k told.message empty knows
 
   rest_parked : rest.server.parked ≡ []
   rest_parked = ap (λ (m : Machine). m.parked) rest_is ∙ parked
@@ -106,10 +109,9 @@ module _ (s : State) (u : Unreleased) (stands : Stands s) (empty : Empty s) (alo
 
   output_one_line : IsOneLine (settles s u.batch.id).output
   output_one_line =
-      let m = record s.server { past = after.past } in
-      let opened = known_open s.directory s.server.sessions u.session stands.fits.known knows in
-      let once : IsToldOnce told.message (drain_output s.directory (delivering m u.session told.message)) = drain_delivered s.directory m u.session told.message empty opened knows in
-      subst (λ (n : Machine). IsOneLine (drain_output s.directory n)) (sym told.is) (told_one_line told.message (drain_output s.directory (delivering m u.session told.message)) once)
+      let opened = known_open s.directory s.server.sessions k stands.fits.known knows in
+      let once : IsToldOnce told.message (drain_output s.directory (delivering behind k told.message)) = drain_delivered s.directory behind k told.message empty opened knows in
+      subst (λ (n : Machine). IsOneLine (drain_output s.directory n)) (sym told.is) (told_one_line told.message (drain_output s.directory (delivering behind k told.message)) once)
 
   turn_is : turn s ≡ followed_by (settles s u.batch.id) nothing
   turn_is =
@@ -142,16 +144,16 @@ pub record SameLast (time : ℤ) (s : State) : Type 0 where
   pub last : s.server.past.last ≡ time
 
 -- none of them goes on
-tried_last : (m : Machine) (place : ℕ) (r : ParkedRequest) (d : Decision) → retry_decision m r.envelope.request ≡ d → IsKept m.config.mode m.txns.open r.envelope.request → AllKept m m.parked
+tried_last : (m : Machine) (place : ℕ) (r : ParkedRequest) (d : Decision) → retry_decision m r.session r.envelope.request ≡ d → IsKept m.config.mode m.txns.open r.envelope.request → AllKept m m.parked
     → AllKept (tried m place r d) (tried m place r d).parked × ((tried m place r d).past.last ≡ m.past.last)
 tried_last m place r (Decision.refused refusal) is here all = (all_removed (λ (q : ParkedRequest). IsKept m.config.mode m.txns.open q.envelope.request) m.parked place all, refl)
 tried_last m place r (Decision.held id) is here all = (all, refl)
-tried_last m place r Decision.goes_on is here all = absurd (kept_waits m r.envelope.request here is)
+tried_last m place r Decision.goes_on is here all = absurd (kept_waits m r.session r.envelope.request here is)
 
 retried_last : (m : Machine) (place : ℕ) (r : ParkedRequest) → slice_get m.parked place ≡ Some r → AllKept m m.parked → AllKept (retried m place) (retried m place).parked × ((retried m place).past.last ≡ m.past.last)
 retried_last m place r at all =
     subst (λ (n : Machine). AllKept n n.parked × (n.past.last ≡ m.past.last)) (sym (retried_is m place r at))
-    (tried_last m place r (retry_decision m r.envelope.request) refl (all_at (λ (q : ParkedRequest). IsKept m.config.mode m.txns.open q.envelope.request) m.parked place r at all) all)
+    (tried_last m place r (retry_decision m r.session r.envelope.request) refl (all_at (λ (q : ParkedRequest). IsKept m.config.mode m.txns.open q.envelope.request) m.parked place r at all) all)
 
 same_last : (time : ℤ) → Keeps (SameLast time)
 same_last time = record {

@@ -16,12 +16,14 @@ use Rattle.fs_machine.specs.Retry.{retried, retry_decision, tried}
 use Rattle.fs_machine.specs.Settle.{pending_of, settled}
 use Rattle.fs_machine.specs.State.{Machine}
 use Rattle.fs_machine.specs.Tick.{later}
+use Rattle.fs_machine.specs.declared.answer.Answer.TheVariants.{Held}
 use Rattle.fs_machine.specs.declared.parked_request.ParkedRequest.{ParkedRequest}
 use Rattle.fs_replay.specs.Directory.{name_of, number_of}
 use Rattle.fs_replay.specs.BetweenLines.{IsBetweenLines, IsHeld, IsHeldStill, IsServed, IsSettled}
 use Rattle.fs_replay.specs.Played.{Played, followed_by, nothing, prints}
-use Rattle.fs_replay.specs.Settling.{closed, did_something, emptied, left_to_do, place_after, retry_output, serves, settles, settles_if, settling, tries, tries_all, tries_from, tries_if, turn, turns, waits_on}
+use Rattle.fs_replay.specs.Settling.{closed, did_something, emptied, left_to_do, place_after, retry_output, serves, settles, settles_if, settling, told_in, tries, tries_all, tries_from, tries_if, turn, turns, waits_on}
 use Rattle.fs_replay.specs.Step.{does_not_apply, in_session, leaves, line_played}
+use Rattle.fs_replay.specs.declared.directory.Named.{Named}
 use Rattle.fs_replay.specs.declared.request.Line.{Line}
 use Rattle.fs_replay.specs.declared.request.Line.TheVariants as line
 use Rattle.fs_replay.specs.declared.state.State.{State}
@@ -49,21 +51,26 @@ untold : (found : Option (List ℕ)) → option_map_or {U = List ℕ} (λ name. 
 untold None = refl
 untold (Some name) = refl
 
+-- of one that waits on nobody is told, whether it is of a session or of a stream
+none_told : (ns : List Named) (r : ParkedRequest) (id : ℕ) (stream : Option ℕ) → told_in ns r (Held id) stream ≡ []
+none_told ns r id None = untold (name_of r.session ns)
+none_told ns r id (Some n) = refl
+
 -- one that is held is tried in vain
-vain_by : (s : State) (place : ℕ) (r : ParkedRequest) (d : Decision) → slice_get s.server.parked place ≡ Some r → retry_decision s.server r.envelope.request ≡ d → IsHeld d → Empty s
+vain_by : (s : State) (place : ℕ) (r : ParkedRequest) (d : Decision) → slice_get s.server.parked place ≡ Some r → retry_decision s.server r.session r.envelope.request ≡ d → IsHeld d → Empty s
     → (shown (tries s place) ≡ nothing s) × (place_after s.server place ≡ place + 1)
 vain_by s place r (Decision.refused refusal) at is held empty = absurd held
 vain_by s place r (Decision.held id) at is held empty = (
   ap (λ found. shown (tries_if s place found)) at
       ∙ (λ i. shown (followed_by (prints (with_server s ((retried_is s.server place r at ∙ ap (tried s.server place r) is) i)) (retry_output s.directory r (decided_answer s.server r (is i)))) emptied))
-      ∙ ap (λ (o : List ℕ). shown (followed_by (prints s o) emptied)) (untold (name_of r.session s.directory))
+      ∙ ap (λ (o : List ℕ). shown (followed_by (prints s o) emptied)) (none_told s.directory r id r.stream)
       ∙ ap (λ (p : Played). followed_by (nothing s) (λ t. p)) (emptied_none s empty),
   place_is s.server place r at ∙ ap (λ (c : Decision). cond (waits_on (Some (decided_answer s.server r c))) (place + 1) place) is,
 )
 vain_by s place r Decision.goes_on at is held empty = absurd held
 
 tried_in_vain : (s : State) (place : ℕ) (r : ParkedRequest) → slice_get s.server.parked place ≡ Some r → IsHeldStill s.server r → Empty s → (shown (tries s place) ≡ nothing s) × (place_after s.server place ≡ place + 1)
-tried_in_vain s place r at held empty = vain_by s place r (retry_decision s.server r.envelope.request) at refl held empty
+tried_in_vain s place r at held empty = vain_by s place r (retry_decision s.server r.session r.envelope.request) at refl held empty
 
 -- and so are all
 none_moves : (n place : ℕ) (s : State) → Empty s → AllByRecursion (IsHeldStill s.server) s.server.parked → place + n ≤ length s.server.parked → shown (tries_from n place s) ≡ nothing s
@@ -120,7 +127,7 @@ held_from (suc n) place s empty within none =
     let rs = s.server.parked in
     let at = found_at rs place (omega (arith, within)) in
     let cut : drop place rs ≡ at.0 ∷ drop (place + 1) rs = at_drop_more (λ (l : List ParkedRequest). l) rs place at.0 (omega (arith, within)) ∙ ap (λ r. r ∷ drop (place + 1) rs) (sym at.2) in
-    held_next n place s at.0 empty at.1 cut (held_or (retry_decision s.server at.0.envelope.request)) none (λ less. held_from n (place + 1) s empty (omega (arith, within)) less)
+    held_next n place s at.0 empty at.1 cut (held_or (retry_decision s.server at.0.session at.0.envelope.request)) none (λ less. held_from n (place + 1) s empty (omega (arith, within)) less)
 
 abbrev pub StandsEmpty : State → Type 0
 StandsEmpty s = Stands s × Empty s

@@ -17,6 +17,7 @@ use Rattle.fs_machine.specs.Request.{Decision, answer_by, carried, decided_answe
 use Rattle.fs_machine.specs.Retry.{retried, retried_if, retry_decision, tried, tried_answer, unparked}
 use Rattle.fs_machine.specs.Settle.{accepted_in, decided_if, decided_with, dropped_from, is_it, outcome_of, pending_in, pending_of, settled}
 use Rattle.fs_machine.specs.State.{Machine}
+use Rattle.fs_machine.specs.Stream.{desk_of, with_desk}
 use Rattle.fs_machine.specs.declared.parked_request.ParkedRequest.{ParkedRequest}
 use Rattle.fs_machine.specs.declared.unreleased.Unreleased.{Unreleased}
 use Rattle.fs_machine.proofs.Carried.{AtMostPrepares, carried_follows, carried_rest}
@@ -135,16 +136,16 @@ pub settled_fewer : (m : Machine) (id : ℕ) (u : Unreleased) → pending_of m.p
 settled_fewer m id u is =
     subst (λ found. pending_among (released (decided_if m found)).past.unreleased + 1 ≡ pending_among m.past.unreleased) (sym is) (decided_fewer m id u (outcome_of m.past u) is)
 
-with_is : (m : Machine) (u : Unreleased) (r : Result (Docs × List WriteResult) Refusal) → released (decided_with m u r) ≡ record m { past = (released (decided_with m u r)).past; sessions = (released (decided_with m u r)).sessions }
+with_is : (m : Machine) (u : Unreleased) (r : Result (Docs × List WriteResult) Refusal) → released (decided_with m u r) ≡ with_desk (record m { past = (released (decided_with m u r)).past }) (desk_of (released (decided_with m u r)))
 with_is m u (Ok done) = refl
 with_is m u (Err refusal) = refl
 
-if_is : (m : Machine) (found : Option Unreleased) → released (decided_if m found) ≡ record m { past = (released (decided_if m found)).past; sessions = (released (decided_if m found)).sessions }
+if_is : (m : Machine) (found : Option Unreleased) → released (decided_if m found) ≡ with_desk (record m { past = (released (decided_if m found)).past }) (desk_of (released (decided_if m found)))
 if_is m None = refl
 if_is m (Some u) = with_is m u (outcome_of m.past u)
 
--- and but for what was committed and the messages all stays as it is
-pub settled_is : (m : Machine) (id : ℕ) → settled m id ≡ record m { past = (settled m id).past; sessions = (settled m id).sessions }
+-- and but for what was committed, streams and messages all stays as it is
+pub settled_is : (m : Machine) (id : ℕ) → settled m id ≡ with_desk (record m { past = (settled m id).past }) (desk_of (settled m id))
 settled_is m id = if_is m (pending_of m.past id)
 
 pub settled_parked : (m : Machine) (id : ℕ) → (settled m id).parked ≡ m.parked
@@ -244,12 +245,12 @@ module _ (s : State) (place : ℕ) (r : ParkedRequest) (is : slice_get s.server.
   tried_fewer (Decision.held id) moves = absurd (moves tt)
   tried_fewer Decision.goes_on moves = ap (λ (rs : List ParkedRequest). length rs + 1) (carried_parked (unparked s.server place) r) ∙ one_less s.server place r is
 
-pub retried_is : (m : Machine) (place : ℕ) (r : ParkedRequest) → slice_get m.parked place ≡ Some r → retried m place ≡ tried m place r (retry_decision m r.envelope.request)
+pub retried_is : (m : Machine) (place : ℕ) (r : ParkedRequest) → slice_get m.parked place ≡ Some r → retried m place ≡ tried m place r (retry_decision m r.session r.envelope.request)
 retried_is m place r is = ap (retried_if m place) is
 
 pub retried_falls : (s : State) (place : ℕ) (r : ParkedRequest) → slice_get s.server.parked place ≡ Some r → Falls s (with_server s (retried s.server place))
 retried_falls s place r is =
-    subst (λ (m : Machine). Falls s (with_server s m)) (sym (retried_is s.server place r is)) (tried_falls s place r is (retry_decision s.server r.envelope.request))
+    subst (λ (m : Machine). Falls s (with_server s m)) (sym (retried_is s.server place r is)) (tried_falls s place r is (retry_decision s.server r.session r.envelope.request))
 
 tries_it_falls : (s : State) (place : ℕ) (r : ParkedRequest) → slice_get s.server.parked place ≡ Some r → Falls s (tries_it s place r).state
 tries_it_falls s place r is =
@@ -274,18 +275,18 @@ pub tries_all_falls : (s : State) → Falls s (tries_all s).state
 tries_all_falls s = tries_from_falls (length s.server.parked) 0 s
 
 -- one that isn't held waits no more
-pub fewer_wait : (s : State) (place : ℕ) (r : ParkedRequest) → slice_get s.server.parked place ≡ Some r → (IsHeld (retry_decision s.server r.envelope.request) → ⊥)
+pub fewer_wait : (s : State) (place : ℕ) (r : ParkedRequest) → slice_get s.server.parked place ≡ Some r → (IsHeld (retry_decision s.server r.session r.envelope.request) → ⊥)
     → length (tries s place).state.server.parked + 1 ≡ length s.server.parked
 fewer_wait s place r is moves =
     let t = with_server s (retried s.server place) in
     ap (λ found. length (tries_if s place found).state.server.parked + 1) is
     ∙ ap (λ rs. length rs + 1) (drained_parked s.directory t.server)
     ∙ ap (λ (m : Machine). length m.parked + 1) (retried_is s.server place r is)
-    ∙ tried_fewer s place r is (retry_decision s.server r.envelope.request) moves
+    ∙ tried_fewer s place r is (retry_decision s.server r.session r.envelope.request) moves
 
 -- where the next one stands
 pub place_is : (m : Machine) (place : ℕ) (r : ParkedRequest) → slice_get m.parked place ≡ Some r
-    → place_after m place ≡ cond (waits_on (Some (decided_answer m r (retry_decision m r.envelope.request)))) (place + 1) place
+    → place_after m place ≡ cond (waits_on (Some (decided_answer m r (retry_decision m r.session r.envelope.request)))) (place + 1) place
 place_is m place r is = ap (λ found. cond (waits_on (option_map (tried_answer m) found)) (place + 1) place) is
 
 -- the next one stands within those that wait, where as many are still to be tried
@@ -302,7 +303,7 @@ module _ (s : State) (place : ℕ) (r : ParkedRequest) (is : slice_get s.server.
 pub place_within : (s : State) (place n : ℕ) (r : ParkedRequest) → slice_get s.server.parked place ≡ Some r → place + suc n ≤ length s.server.parked
     → place_after s.server place + n ≤ length (tries s place).state.server.parked
 place_within s place n r is within =
-    let d = retry_decision s.server r.envelope.request in
+    let d = retry_decision s.server r.session r.envelope.request in
     let t = with_server s (retried s.server place) in
     let next = place_is s.server place r is in
     let waits : length (tries s place).state.server.parked ≡ length (tried s.server place r d).parked =

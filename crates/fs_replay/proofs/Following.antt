@@ -1,20 +1,21 @@
 -- What follows from a line, by its kind: what it leaves of what was committed, and how many lines it gives.
 use Rattle.std.proofs.Common.{◌≡◌, ◌⊎◌, ℕ, ℤ, Bool, true, false, List, [], Option, Some, None, refl, sym, ap, ◌∙◌, subst}
-use Rattle.std.specs.Prelude.{pos, ◌+ℤ◌, ◌&&◌, ◌||◌, ◌==◌, codes, not}
+use Rattle.std.specs.Prelude.{pos, ◌+ℤ◌, ◌&&◌, ◌||◌, codes, not}
 use Rattle.std.specs.List.{AllByRecursion}
 use Rattle.std.proofs.lemmas.Bool.{and_parts, or_parts}
 use Rattle.fs_rpc.specs.MessageJson.{error_json}
 use Rattle.fs_status.specs.declared.code.Code.TheVariants.{Unimplemented}
 use Rattle.fs_machine.specs.Compact.{compacted}
-use Rattle.fs_machine.specs.Leave.{departed, of_others}
+use Rattle.fs_machine.specs.Leave.{departed, is_own, of_others}
 use Rattle.fs_machine.specs.Load.{loaded}
 use Rattle.fs_machine.specs.Match.{matched}
 use Rattle.fs_machine.specs.Raise.{raised}
-use Rattle.fs_machine.specs.Release.{all_delivered, free_to, kept_back}
+use Rattle.fs_machine.specs.Release.{all_answered, free_to, kept_back}
 use Rattle.fs_machine.specs.State.{Machine}
+use Rattle.fs_machine.specs.Stream.{desk_of}
 use Rattle.fs_machine.specs.Tick.{later}
 use Rattle.fs_machine.specs.declared.parked_request.ParkedRequest.{ParkedRequest}
-use Rattle.fs_machine.specs.declared.reply.Reply.{Reply}
+use Rattle.fs_machine.specs.declared.committed.Committed.{Committed}
 use Rattle.fs_machine.specs.declared.unreleased.Unreleased.{Unreleased}
 use Rattle.fs_machine.proofs.Listening.{loaded_rest, raised_rest}
 use Rattle.fs_replay.specs.Directory.{number_of}
@@ -28,7 +29,6 @@ use Rattle.fs_replay.specs.Step.{leaves, line_played}
 use Rattle.fs_replay.specs.declared.request.Line.{Line}
 use Rattle.fs_replay.specs.declared.request.Line.TheVariants as line
 use Rattle.fs_replay.specs.declared.state.State.{State}
-use Rattle.fs_replay.proofs.Beside.{Empty}
 use Rattle.fs_replay.proofs.Closing.{closed_by_hand, closed_quiet, closed_silent}
 use Rattle.fs_replay.proofs.Each.{all_filtered}
 use Rattle.fs_replay.proofs.Emptied.{drained_past}
@@ -55,7 +55,7 @@ clock_silent : (s : State) (time : ℤ) → (s.manual || (none_waits s.server.pa
 clock_silent s time quiet b =
     let now = later s.moment time in
     let t = ticked_by s now in
-    let same : t.server.sessions ≡ s.server.sessions = ap (λ (rs : List Reply). all_delivered rs s.server.sessions) (nobody_told s.server.past now b.facts.past.unreleased b.released) in
+    let same : t.server.sessions ≡ s.server.sessions = ap (λ (cs : List Committed). (all_answered cs (desk_of s.server)).1) (nobody_told s.server.past now b.facts.past.unreleased b.released) in
     let none : s.server.past.unreleased ≡ [] → t.server.past.unreleased ≡ [] = λ idle. ap (λ (us : List Unreleased). kept_back (free_to (later s.server.past.last now) us) us) idle in
     let then = clock_quiet s s.manual refl quiet in
     closed_silent t (subst (AllByRecursion HasNothing) (sym same) b.empty) (λ manual. settled_by_none t.server (none (b.settled manual).released) (then manual).0) (λ manual. nobody_served t.server (then manual).1)
@@ -99,7 +99,7 @@ silent s n (line.Raise name) is b = never (sym is)
 departed_settled : (m : Machine) (number : ℕ) → IsSettled m → IsSettled (departed m number)
 departed_settled m number settled =
     let stay = all_stay m m.parked settled.released settled.held in
-    let others = all_filtered (λ (r : ParkedRequest). StaysOn m r.envelope.request) (λ r. not (r.session == number)) m.parked stay in
+    let others = all_filtered (λ (r : ParkedRequest). StaysOn m r.envelope.request) (λ r. not (is_own number r)) m.parked stay in
     record { released = settled.released; held = all_held (departed m number) (of_others number m.parked) (all_departed m number (of_others number m.parked) others) }
 
 leaves_unmoved : (s : State) (n : ℕ) (name : List ℕ) (number : Option ℕ) → IsBetweenLines s → (leaves s n name number).state.server.past ≡ s.server.past

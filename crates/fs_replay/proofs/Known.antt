@@ -1,20 +1,20 @@
 -- The sessions of a directory are those that are open, in the order of opening: also after one more opens or one leaves.
-use Rattle.std.proofs.Common.{◌≡◌, ℕ, ◌+◌, ◌<◌, ◌≤◌, Bool, true, false, cond, List, [], ◌∷◌, ◌++◌, Some, refl, sym, ap, ◌∙◌, subst, arith}
-use Rattle.std.specs.Prelude.{◌==◌, ◌||◌, not}
+use Rattle.std.proofs.Common.{◌≡◌, ℕ, ◌+◌, ◌<◌, ◌≤◌, Bool, true, false, cond, List, [], ◌∷◌, ◌++◌, Option, Some, None, refl, sym, ap, ◌∙◌, subst, arith}
+use Rattle.std.specs.Prelude.{◌==◌, ◌&&◌, ◌||◌, is_none, is_some, not}
 use Rattle.std.specs.List.{list_any, AllByRecursion}
 use Rattle.std.specs.Str.{bytes_eq}
 use Rattle.std.proofs.lemmas.Bool.{eq-eqb, or_left, or_right}
 use Rattle.std.proofs.lemmas.Bool.Decides.{nat_tests}
 use Rattle.std.proofs.lemmas.List.Folds.{list_any-append}
 use Rattle.std.proofs.lemmas.Option.{same_Some}
-use Rattle.fs_machine.specs.Leave.{of_others}
+use Rattle.fs_machine.specs.Leave.{is_own, of_others}
 use Rattle.fs_machine.specs.Sessions.{without as without_session}
 use Rattle.fs_machine.specs.SessionsNumbered.{NumbersRise}
 use Rattle.fs_machine.specs.declared.parked_request.ParkedRequest.{ParkedRequest}
 use Rattle.fs_machine.specs.declared.session.Session.{Session}
 use Rattle.fs_machine.proofs.SessionsNumbered.{numbers_of}
 use Rattle.fs_replay.specs.Directory.{number_of, without}
-use Rattle.fs_replay.specs.BetweenLines.{is_open, numbers_in}
+use Rattle.fs_replay.specs.BetweenLines.{is_asked, is_open, numbers_in}
 use Rattle.fs_replay.specs.declared.directory.Named.{Named}
 
 -- ---- the session of a name
@@ -56,19 +56,19 @@ open_alike ss ts number same = open_by_number ts number ∙ ap (list_any (λ k. 
 pub known_open : (ns : List Named) (ss : List Session) (number : ℕ) → numbers_in ns ≡ numbers_of ss → has_number number ns ≡ true → is_open number ss ≡ true
 known_open ns ss number same knows = open_by_number ss number ∙ sym (ap (list_any (λ k. k == number)) same) ∙ sym (known_by_number ns number) ∙ knows
 
--- that what waits is of a session that is open
+-- that what waits is of a session that is open, or of a stream
 abbrev pub OfOpen : List Session → List ParkedRequest → Type 0
-OfOpen ss rs = AllByRecursion (λ r. is_open r.session ss ≡ true) rs
+OfOpen ss rs = AllByRecursion (λ r. is_asked ss r ≡ true) rs
 
 pub of_open_alike : (ss ts : List Session) (rs : List ParkedRequest) → numbers_of ts ≡ numbers_of ss → OfOpen ss rs → OfOpen ts rs
 of_open_alike ss ts [] same all = tt
-of_open_alike ss ts (r ∷ rs) same all = (open_alike ss ts r.session same ∙ all.0, of_open_alike ss ts rs same all.1)
+of_open_alike ss ts (r ∷ rs) same all = (ap (λ b. is_some r.stream || b) (open_alike ss ts r.session same) ∙ all.0, of_open_alike ss ts rs same all.1)
 
 -- ---- one session more
 
 -- a session that has just opened
 abbrev pub session_of : ℕ → Session
-session_of number = record { number = number; outbox = [] }
+session_of number = record { number = number; outbox = []; has_owned = false }
 
 pub known_more : (ns : List Named) (ss : List Session) (name : List ℕ) (number : ℕ) → numbers_in ns ≡ numbers_of ss
     → numbers_in (ns ++ record { name = name; number = number } ∷ []) ≡ numbers_of (ss ++ session_of number ∷ [])
@@ -84,9 +84,16 @@ still_open : (ss : List Session) (number more : ℕ) → is_open number ss ≡ t
 still_open ss number more opened =
     list_any-append (λ (s : Session). s.number == number) ss (session_of more ∷ []) ∙ or_left (is_open number ss) (is_open number (session_of more ∷ [])) opened
 
+in_any_case : (b c d : Bool) → (c ≡ true → d ≡ true) → (b || c) ≡ true → (b || d) ≡ true
+in_any_case true c d more is = refl
+in_any_case false c d more is = more is
+
 pub of_open_more : (ss : List Session) (number : ℕ) (rs : List ParkedRequest) → OfOpen ss rs → OfOpen (ss ++ session_of number ∷ []) rs
 of_open_more ss number [] all = tt
-of_open_more ss number (r ∷ rs) all = (still_open ss r.session number all.0, of_open_more ss number rs all.1)
+of_open_more ss number (r ∷ rs) all = (
+  in_any_case (is_some r.stream) (is_open r.session ss) (is_open r.session (ss ++ session_of number ∷ [])) (still_open ss r.session number) all.0,
+  of_open_more ss number rs all.1,
+)
 
 -- ---- one less
 
@@ -103,15 +110,24 @@ open_without : (ss : List Session) (number other : ℕ) → (other == number) �
 open_without [] number other distinct = refl
 open_without (s ∷ ss) number other distinct = open_without_next s ss number other (s.number == number) refl distinct (open_without ss number other distinct)
 
-others_next : (ss : List Session) (number : ℕ) (r : ParkedRequest) (rs : List ParkedRequest) (b : Bool) → (r.session == number) ≡ b → is_open r.session ss ≡ true → OfOpen (without_session number ss) (of_others number rs)
-    → OfOpen (without_session number ss) (cond (not b) (r ∷ of_others number rs) (of_others number rs))
-others_next ss number r rs true is opened more = more
-others_next ss number r rs false is opened more = (open_without ss number r.session is ∙ opened, more)
+-- a request of another, or of a stream
+asked_without : (ss : List Session) (number session : ℕ) (stream : Option ℕ) → ((session == number) && is_none stream) ≡ false
+    → (is_some stream || is_open session ss) ≡ true → (is_some stream || is_open session (without_session number ss)) ≡ true
+asked_without ss number session None other asked = open_without ss number session (sym (and_true (session == number)) ∙ other) ∙ asked where
+  and_true : (b : Bool) → (b && true) ≡ b
+  and_true true = refl
+  and_true false = refl
+asked_without ss number session (Some n) other asked = refl
 
--- so what waits of others is of one that is open
+others_next : (ss : List Session) (number : ℕ) (r : ParkedRequest) (rs : List ParkedRequest) (b : Bool) → is_own number r ≡ b → is_asked ss r ≡ true → OfOpen (without_session number ss) (of_others number rs)
+    → OfOpen (without_session number ss) (cond (not b) (r ∷ of_others number rs) (of_others number rs))
+others_next ss number r rs true is asked more = more
+others_next ss number r rs false is asked more = (asked_without ss number r.session r.stream is asked, more)
+
+-- so what stays is of one that is open, or of a stream
 pub of_open_departed : (ss : List Session) (number : ℕ) (rs : List ParkedRequest) → OfOpen ss rs → OfOpen (without_session number ss) (of_others number rs)
 of_open_departed ss number [] all = tt
-of_open_departed ss number (r ∷ rs) all = others_next ss number r rs (r.session == number) refl all.0 (of_open_departed ss number rs all.1)
+of_open_departed ss number (r ∷ rs) all = others_next ss number r rs (is_own number r) refl all.0 (of_open_departed ss number rs all.1)
 
 pub below_apart : (a b : ℕ) → a < b → (a == b) ≡ false
 below_apart a b below = grind (arith, nat_tests)

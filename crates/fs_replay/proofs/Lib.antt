@@ -6,7 +6,6 @@ mod Json
 mod Tokens
 mod Listened
 mod Places
-mod IdTexts
 mod Reading
 mod Removed
 mod Plain
@@ -16,6 +15,7 @@ mod Each
 mod Known
 mod Emptied
 mod Going
+mod Arriving
 mod Becoming
 mod Readers
 mod Falling
@@ -29,8 +29,10 @@ mod Growing
 mod Untouched
 mod Waiting
 mod Drained
-mod Asking
 mod Lone
+mod Tellers
+mod Busy
+mod Asking
 mod Carried
 mod Closing
 mod Following

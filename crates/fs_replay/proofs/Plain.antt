@@ -24,7 +24,8 @@ use Rattle.fs_path.specs.declared.place.Rule.TheVariants.{G}
 use Rattle.fs_rpc.specs.Envelope.{session_request_at}
 use Rattle.fs_rpc.specs.Methods.{methods, session_head}
 use Rattle.fs_rpc.specs.declared.envelope.SessionRequest.{SessionRequest}
-use Rattle.fs_replay.specs.Forms.{id_at, leave_at, load_at, number_at, sole_as, true_at}
+use Rattle.fs_rpc.specs.Decimal.{decimal_at}
+use Rattle.fs_replay.specs.Forms.{leave_at, load_at, number_at, sole_as, true_at}
 use Rattle.fs_replay.specs.Line.{bare, form_at, form_members, form_of, has_any, is_unbuilt_form, leaves_session, line_read, unbuilt_forms, without_each, without_member}
 use Rattle.fs_replay.specs.declared.request.Line.{Line}
 use Rattle.fs_replay.specs.declared.request.Line.TheVariants as line
@@ -132,7 +133,7 @@ forms d =
     ∷ (is_there (codes "clock") d, made line.Clock (sole_as time_at (codes "clock") d))
     ∷ (is_there (codes "compact") d, made line.Compact (sole_as time_at (codes "compact") d))
     ∷ (is_there (codes "manual") d, made line.Manual (sole_as truth_at (codes "manual") d))
-    ∷ (is_there (codes "settle") d, made line.Settle (sole_as id_at (codes "settle") d))
+    ∷ (is_there (codes "settle") d, made line.Settle (sole_as decimal_at (codes "settle") d))
     ∷ (is_there (codes "retry") d, made (λ _. line.Retry) (sole_as true_at (codes "retry") d))
     ∷ (is_there (codes "load") d, sole_as load_at (codes "load") d)
     ∷ (is_there (codes "match") d, made line.Match (sole_as number_at (codes "match") d))

@@ -7,7 +7,7 @@ use Rattle.fs_machine.specs.Commit.{past_prepared}
 use Rattle.fs_machine.specs.Compact.{floor_after, past_compacted}
 use Rattle.fs_machine.specs.Past.{Past, is_pending}
 use Rattle.fs_machine.specs.Pending.{next_in}
-use Rattle.fs_machine.specs.Release.{free_to, freed, is_freed, joined, kept_back, past_released, replies_out, reply_of}
+use Rattle.fs_machine.specs.Release.{as_committed, committed_out, free_to, freed, is_freed, joined, kept_back, past_released}
 use Rattle.fs_machine.specs.Tick.{past_advanced}
 use Rattle.fs_machine.specs.UnreleasedRise.{RiseFrom, UnreleasedRise}
 use Rattle.fs_machine.specs.declared.unreleased.Unreleased.{Unreleased}
@@ -126,7 +126,7 @@ pub compacted_released : (p : Past) (first : Option ℤ) (to : ℤ) → IsReleas
 compacted_released p first to same = ap (λ (q : Past). record q { floor = floor_after p first to }) same
 
 -- and where the clock goes on, nobody is told anything
-pub nobody_told : (p : Past) (now : ℤ) → UnreleasedRise p → IsReleased p → replies_out (past_advanced p now) ≡ []
+pub nobody_told : (p : Past) (now : ℤ) → UnreleasedRise p → IsReleased p → committed_out (past_advanced p now) ≡ []
 nobody_told p now rise same =
     let q = past_advanced p now in
-    ap (map reply_of) (none_goes q.unreleased q.released q.last (unreleased_advanced p now rise) (starts_pending p rise same)).0
+    ap (map as_committed) (none_goes q.unreleased q.released q.last (unreleased_advanced p now rise) (starts_pending p rise same)).0

@@ -1,5 +1,5 @@
 -- What is done after each line for the sessions that listen, step by step.
-use Rattle.std.proofs.Common.{◌≡◌, ℕ, ◌+◌, ◌-◌, ◌<◌, arith, suc, zero, List, [], ◌∷◌, ◌++◌, append_assoc, drop, get_or, length, Some, None, refl, sym, ap, ◌∙◌, subst}
+use Rattle.std.proofs.Common.{◌≡◌, ℕ, ◌+◌, ◌<◌, arith, suc, zero, List, [], ◌∷◌, ◌++◌, append_assoc, drop, get_or, length, Some, None, refl, sym, ap, ◌∙◌, subst}
 use Rattle.std.specs.FinMap.{entries}
 use Rattle.std.proofs.lemmas.List.{append-nil, at_drop_more, get_or_default}
 use Rattle.fs_listen.specs.Cuts.{first_loading}

@@ -1,12 +1,13 @@
 -- What stands all the time while a script is played stands after each thing that a line is made of, and after each line.
 use Rattle.std.proofs.Common.{◌≡◌, ℕ, ℤ, true, List, [], ◌∷◌, ◌++◌, Option, Some, None, Result, Ok, Err, refl, sym, ap, ◌∙◌, subst}
-use Rattle.std.specs.Prelude.{⊤, remove, slice_get}
+use Rattle.std.specs.Prelude.{⊤, is_some, remove, slice_get}
+use Rattle.std.proofs.lemmas.Bool.{or_right}
 use Rattle.fs_json.specs.declared.bad.Bad.{Bad}
-use Rattle.fs_rpc.specs.MessageJson.{refused}
 use Rattle.fs_rpc.specs.declared.request.Envelope.{Envelope}
 use Rattle.fs_rpc.specs.declared.request.Request.{Request}
 use Rattle.fs_status.specs.declared.refusal.Refusal.{Refusal}
 use Rattle.fs_write.specs.Batch.{Docs}
+use Rattle.fs_stream.specs.Streams.{Streams}
 use Rattle.fs_write.specs.declared.write.Write.{Write}
 use Rattle.fs_write.specs.declared.write_result.WriteResult.{WriteResult}
 use Rattle.fs_machine.specs.Commit.{next_commit}
@@ -21,33 +22,32 @@ use Rattle.fs_machine.specs.Open.{with_session}
 use Rattle.fs_machine.specs.Outbox.{taken}
 use Rattle.fs_machine.specs.Past.{Past}
 use Rattle.fs_machine.specs.Raise.{raised}
-use Rattle.fs_machine.specs.Release.{all_delivered, replies_out}
-use Rattle.fs_machine.specs.Request.{Decision, answer_by, answered, arrived, asked, carried, decision, retry_refusal}
-use Rattle.fs_machine.specs.Retry.{retried, retry_decision, tried, unparked}
-use Rattle.fs_machine.specs.Sessions.{delivered}
+use Rattle.fs_machine.specs.Release.{committed_out}
+use Rattle.fs_machine.specs.Request.{Decision, answer_by, answered, arrived, asked, carried, decision, retry_refusal, with_parked}
+use Rattle.fs_machine.specs.Retry.{given_up, retried, retry_decision, tried, unparked}
 use Rattle.fs_machine.specs.Settle.{decided, decided_if, decided_with, outcome_of, pending_of, settled}
 use Rattle.fs_machine.specs.State.{Machine}
+use Rattle.fs_machine.specs.Stream.{Desk, desk_of, with_desk}
 use Rattle.fs_machine.specs.Tick.{advanced, ticked}
 use Rattle.fs_machine.specs.UnreleasedRise.{UnreleasedRise}
 use Rattle.fs_machine.specs.declared.answer.Answer.{Answer}
 use Rattle.fs_machine.specs.declared.numbers.Numbers.{Numbers}
 use Rattle.fs_machine.specs.declared.parked_request.ParkedRequest.{ParkedRequest}
-use Rattle.fs_machine.specs.declared.reply.Reply.{Reply}
-use Rattle.fs_machine.specs.declared.session.Session.{Session}
 use Rattle.fs_machine.specs.declared.unreleased.Unreleased.{Unreleased}
-use Rattle.fs_machine.proofs.Carried.{carried_rest}
+use Rattle.fs_machine.proofs.Carried.{carried_numbers, carried_rest}
+use Rattle.fs_machine.proofs.Desks.{numbers_answered, numbers_given_up, numbers_refused}
 use Rattle.fs_machine.proofs.Holding.{decision_alike}
 use Rattle.fs_machine.proofs.Listening.{beside_listening, loaded_numbers, loaded_rest, raised_numbers, raised_rest}
 use Rattle.fs_machine.proofs.Runs.{keeps, kept_with_session}
 use Rattle.fs_machine.proofs.SessionsNumbered.{numbers_of, same_numbers}
 use Rattle.fs_replay.specs.Directory.{number_of, without}
-use Rattle.fs_replay.specs.BetweenLines.{IsReleased, is_open, numbers_in}
+use Rattle.fs_replay.specs.BetweenLines.{IsReleased, is_asked, is_open, numbers_in}
 use Rattle.fs_replay.specs.Commits.{writes_of}
 use Rattle.fs_replay.specs.declared.directory.Named.{Named}
 use Rattle.fs_replay.specs.declared.request.Line.{Line}
 use Rattle.fs_replay.specs.declared.request.Line.TheVariants as line
 use Rattle.fs_replay.specs.declared.state.State.{State}
-use Rattle.fs_replay.proofs.Becoming.{Becomes, asked_becomes, with_numbers}
+use Rattle.fs_replay.proofs.Becoming.{Becomes, arrived_session, asked_becomes, taken_beside, taken_on, with_numbers}
 use Rattle.fs_replay.proofs.Each.{all_more, all_removed}
 use Rattle.fs_replay.proofs.Falling.{retried_is, settled_is, settled_parked}
 use Rattle.fs_replay.proofs.Going.{Goes, carried_goes, passes}
@@ -75,20 +75,16 @@ pub ticked_stands : (m : Machine) (now : ℤ) → Facts m → Facts (ticked m no
 ticked_stands m now facts = keeps (advanced m now) Event.releasing (keeps m (Event.advancing now) facts)
 
 -- the sessions are the same, but for their messages
-all_numbers : (rs : List Reply) (ss : List Session) → numbers_of (all_delivered rs ss) ≡ numbers_of ss
-all_numbers [] ss = refl
-all_numbers (r ∷ rs) ss = all_numbers rs (delivered r.session r.message ss) ∙ same_numbers ss r.session (λ ms. ms ++ r.message ∷ [])
-
 decided_numbers : (m : Machine) (u : Unreleased) (r : Result (Docs × List WriteResult) Refusal) → numbers_of (decided_with m u r).sessions ≡ numbers_of m.sessions
 decided_numbers m u (Ok done) = refl
-decided_numbers m u (Err refusal) = same_numbers m.sessions u.session (λ ms. ms ++ refused u.request refusal ∷ [])
+decided_numbers m u (Err refusal) = numbers_refused u.asker refusal (desk_of m)
 
 if_numbers : (m : Machine) (found : Option Unreleased) → numbers_of (decided_if m found).sessions ≡ numbers_of m.sessions
 if_numbers m None = refl
 if_numbers m (Some u) = decided_numbers m u (outcome_of m.past u)
 
 settled_numbers : (m : Machine) (id : ℕ) → numbers_of (settled m id).sessions ≡ numbers_of m.sessions
-settled_numbers m id = let n = decided m id in all_numbers (replies_out n.past) n.sessions ∙ if_numbers m (pending_of m.past id)
+settled_numbers m id = let n = decided m id in numbers_answered (committed_out n.past) (desk_of n) ∙ if_numbers m (pending_of m.past id)
 
 settled_fits : (ns : List Named) (m : Machine) (id : ℕ) → Facts m → Fits ns m → Fits ns (settled m id)
 settled_fits ns m id facts fits =
@@ -103,34 +99,46 @@ settled_fits ns m id facts fits =
 -- what is carried out owes nothing either
 goes_released : (r : ParkedRequest) (writes : List Write) (p q : Past) (a : Answer) → Goes r writes p q a → UnreleasedRise p → IsReleased p → IsReleased q
 goes_released r writes p q a (Goes.answers same told) rise released = subst IsReleased (sym same) released
+goes_released r writes p q a (Goes.repeats finished same told) rise released = subst IsReleased (sym same) released
 goes_released r writes p q a (Goes.prepares id reads same told) rise released = subst IsReleased (sym same) (prepared_released p (next_commit p id r writes reads) refl refl rise released)
 
-carried_fits : (ns : List Named) (m : Machine) (r : ParkedRequest) → UnreleasedRise m.past → decision m r.envelope.request ≡ Decision.goes_on → Fits ns m → Fits ns (carried m r)
+carried_fits : (ns : List Named) (m : Machine) (r : ParkedRequest) → UnreleasedRise m.past → decision m r.session r.envelope.request ≡ Decision.goes_on → Fits ns m → Fits ns (carried m r)
 carried_fits ns m r rise goes fits =
     let q = r.envelope.request in
+    let same = carried_numbers m r q in
     subst (Fits ns) (sym (carried_rest m r q))
     (record {
       released = goes_released r (writes_of q) m.past (carried m r).past (answer_by m r q) (carried_goes m r q goes) rise fits.released;
-      known = fits.known;
-      waiting = fits.waiting;
+      known = fits.known ∙ sym same;
+      waiting = of_open_alike m.sessions (carried m r).sessions m.parked same fits.waiting;
       limits = fits.limits;
     })
 
 -- without the one at a place
 left_fits : (ns : List Named) (m : Machine) (place : ℕ) → Fits ns m → Fits ns (unparked m place)
-left_fits ns m place fits = record { released = fits.released; known = fits.known; waiting = all_removed (λ (q : ParkedRequest). is_open q.session m.sessions ≡ true) m.parked place fits.waiting; limits = fits.limits }
+left_fits ns m place fits = record { released = fits.released; known = fits.known; waiting = all_removed (λ (q : ParkedRequest). is_asked m.sessions q ≡ true) m.parked place fits.waiting; limits = fits.limits }
 
-tried_fits : (ns : List Named) (m : Machine) (place : ℕ) (r : ParkedRequest) (d : Decision) → retry_decision m r.envelope.request ≡ d → Facts m → Fits ns m → Fits ns (tried m place r d)
-tried_fits ns m place r (Decision.refused refusal) is facts fits = left_fits ns m place fits
+-- whatever is told of it
+told_fits : (ns : List Named) (m : Machine) (d : Desk) → numbers_of d.1 ≡ numbers_of m.sessions → Fits ns m → Fits ns (with_desk m d)
+told_fits ns m d same fits = record {
+  released = fits.released;
+  known = fits.known ∙ sym same;
+  waiting = of_open_alike m.sessions d.1 m.parked same fits.waiting;
+  limits = fits.limits;
+}
+
+tried_fits : (ns : List Named) (m : Machine) (place : ℕ) (r : ParkedRequest) (d : Decision) → retry_decision m r.session r.envelope.request ≡ d → Facts m → Fits ns m → Fits ns (tried m place r d)
+tried_fits ns m place r (Decision.refused refusal) is facts fits =
+    told_fits ns (unparked m place) (given_up r.stream refusal (desk_of m)) (numbers_given_up r.stream refusal (desk_of m)) (left_fits ns m place fits)
 tried_fits ns m place r (Decision.held id) is facts fits = fits
 tried_fits ns m place r Decision.goes_on is facts fits =
     let q = r.envelope.request in
-    let goes = decision_alike m m.numbers (remove m.parked place) q ∙ (passes (retry_refusal m q) (decision m q) is).1 in
+    let goes = decision_alike m m.numbers (remove m.parked place) r.session q ∙ (passes (retry_refusal m q) (decision m r.session q) is).1 in
     carried_fits ns (unparked m place) r facts.past.unreleased goes (left_fits ns m place fits)
 
 retried_fits : (ns : List Named) (m : Machine) (place : ℕ) (r : ParkedRequest) → slice_get m.parked place ≡ Some r → Facts m → Fits ns m → Fits ns (retried m place)
 retried_fits ns m place r is facts fits =
-    subst (Fits ns) (sym (retried_is m place r is)) (tried_fits ns m place r (retry_decision m r.envelope.request) refl facts fits)
+    subst (Fits ns) (sym (retried_is m place r is)) (tried_fits ns m place r (retry_decision m r.session r.envelope.request) refl facts fits)
 
 -- all but what sessions listen to and their outboxes stays
 beside_fits : (ns : List Named) (m n : Machine) → n ≡ beside_listening m n → numbers_of n.sessions ≡ numbers_of m.sessions → Fits ns m → Fits ns n
@@ -176,15 +184,26 @@ stands_closing = record {
 numbered_fits : (ns : List Named) (m : Machine) (k : Numbers) → Fits ns m → Fits ns (with_numbers m k)
 numbered_fits ns m k fits = record { released = fits.released; known = fits.known; waiting = fits.waiting; limits = fits.limits }
 
+-- with other streams
+streams_fits : (ns : List Named) (m : Machine) (ss : Streams) → Fits ns m → Fits ns (record m { streams = ss })
+streams_fits ns m ss fits = record { released = fits.released; known = fits.known; waiting = fits.waiting; limits = fits.limits }
+
 becomes_fits : (ns : List Named) (m n : Machine) (r : ParkedRequest) (a : Answer) → Facts m → Fits ns m → is_open r.session m.sessions ≡ true → Becomes m r n a → Fits ns n
 becomes_fits ns m n r a facts fits opened (Becomes.refused k is told) = subst (Fits ns) (sym is) (numbered_fits ns m k fits)
 becomes_fits ns m n r a facts fits opened (Becomes.held k by is told behind may) =
-    let waits = all_more (λ (q : ParkedRequest). is_open q.session m.sessions ≡ true) m.parked r fits.waiting opened in
-    subst (Fits ns) (sym is) (record { released = fits.released; known = fits.known; waiting = waits; limits = fits.limits })
-becomes_fits ns m n r a facts fits opened (Becomes.goes_on k is told goes) = subst (Fits ns) (sym is) (carried_fits ns (with_numbers m k) r facts.past.unreleased goes (numbered_fits ns m k fits))
+    let waits = all_more (λ (q : ParkedRequest). is_asked m.sessions q ≡ true) m.parked r fits.waiting (or_right (is_some r.stream) (is_open r.session m.sessions) opened) in
+    subst (Fits ns) (sym (is ∙ ap (λ (x : Machine). with_parked x r) (taken_beside (with_numbers m k) r.stream)))
+    (record { released = fits.released; known = fits.known; waiting = waits; limits = fits.limits })
+becomes_fits ns m n r a facts fits opened (Becomes.goes_on k is told goes) =
+    let on = taken_on m r k in
+    let same : on.past ≡ m.past = ap (λ (x : Machine). x.past) (taken_beside (with_numbers m k) r.stream) in
+    subst (Fits ns) (sym is)
+    (carried_fits ns on r (subst UnreleasedRise (sym same) facts.past.unreleased) goes
+    (subst (Fits ns) (sym (taken_beside (with_numbers m k) r.stream)) (streams_fits ns (with_numbers m k) on.streams (numbered_fits ns m k fits))))
 
 asked_fits : (ns : List Named) (m : Machine) (number : ℕ) (e : Envelope) → Facts m → Fits ns m → is_open number m.sessions ≡ true → Fits ns (asked m number e)
-asked_fits ns m number e facts fits opened = becomes_fits ns m (asked m number e) (arrived m number e) (answered m number e) facts fits opened (asked_becomes m number e)
+asked_fits ns m number e facts fits opened =
+    becomes_fits ns m (asked m number e) (arrived m number e) (answered m number e) facts fits (subst (λ k. is_open k m.sessions ≡ true) (sym (arrived_session m number e)) opened) (asked_becomes m number e)
 
 -- ---- all that a line is made of
 
@@ -207,7 +226,7 @@ departed_fits ns m number name is facts fits = record {
 ticked_fits : (ns : List Named) (m : Machine) (now : ℤ) → Facts m → Fits ns m → Fits ns (ticked m now)
 ticked_fits ns m now facts fits =
     let n = advanced m now in
-    let same = all_numbers (replies_out n.past) m.sessions in
+    let same = numbers_answered (committed_out n.past) (desk_of m) in
     record {
       released = owes_nothing n.past (keeps m (Event.advancing now) facts).past.unreleased;
       known = fits.known ∙ sym same;

@@ -8,6 +8,7 @@ use Rattle.fs_history.specs.declared.batch.Batch.{Batch}
 use Rattle.fs_history.specs.declared.read.Read.{Read}
 use Rattle.fs_rpc.specs.declared.request.Request.{Request}
 use Rattle.fs_rpc.specs.declared.request.Request.TheVariants.{Commit, GetDocument, BatchGetDocuments, RunQuery, BeginTransaction, Rollback, AddTarget, RemoveTarget}
+use Rattle.fs_rpc.specs.declared.request.Request.TheVariants as request
 use Rattle.fs_rpc.specs.declared.when.When.{When}
 use Rattle.fs_status.specs.declared.refusal.Refusal.{Refusal}
 use Rattle.fs_txn.specs.Transactions.{is_read_write}
@@ -55,6 +56,7 @@ IsKept mode ts (BeginTransaction database options) = ⊥
 IsKept mode ts (Rollback database transaction) = ⊥
 IsKept mode ts (AddTarget database target t token) = ⊥
 IsKept mode ts (RemoveTarget database target) = ⊥
+IsKept mode ts (request.Write database asked) = ⊥
 
 reader_on : (mode : Mode) (ts us : List Txn) (ws : List Write) → ReadOn ts us → HasReader mode ts ws → HasReader mode us ws
 reader_on Pessimistic ts us ws on has = λ none. has (on ws none)
@@ -70,6 +72,7 @@ kept_on mode ts us (BeginTransaction database options) on kept = kept
 kept_on mode ts us (Rollback database transaction) on kept = kept
 kept_on mode ts us (AddTarget database target t token) on kept = kept
 kept_on mode ts us (RemoveTarget database target) on kept = kept
+kept_on mode ts us (request.Write database asked) on kept = kept
 
 -- where no transaction keeps any, it keeps none
 only_read : (ws : List Write) (ts : List Txn) → AllByRecursion (λ t. is_read_write t.kind ≡ false) ts → NoneReads ws ts
@@ -90,6 +93,7 @@ kept_none mode ts (BeginTransaction database options) none kept = kept
 kept_none mode ts (Rollback database transaction) none kept = kept
 kept_none mode ts (AddTarget database target t token) none kept = kept
 kept_none mode ts (RemoveTarget database target) none kept = kept
+kept_none mode ts (request.Write database asked) none kept = kept
 
 -- ---- what is held where no commit is under way
 
@@ -130,6 +134,7 @@ held_kept m (BeginTransaction database options) by idle is = absurd (cc)
 held_kept m (Rollback database transaction) by idle is = absurd (cc)
 held_kept m (AddTarget database target t token) by idle is = absurd (cc)
 held_kept m (RemoveTarget database target) by idle is = absurd (cc)
+held_kept m (request.Write database asked) by idle is = absurd (cc)
 
 -- ---- it is held as long as there is room for it
 
@@ -150,6 +155,7 @@ HasRoom l h us last (BeginTransaction database options) = ⊤
 HasRoom l h us last (Rollback database transaction) = ⊤
 HasRoom l h us last (AddTarget database target t token) = ⊤
 HasRoom l h us last (RemoveTarget database target) = ⊤
+HasRoom l h us last (request.Write database asked) = ⊤
 
 pub has_room : (m : Machine) (q : Request) → retry_refusal m q ≡ None → HasRoom m.limits m.past.history m.past.unreleased m.past.last q
 has_room m (Commit database writes None) none = none
@@ -161,6 +167,7 @@ has_room m (BeginTransaction database options) none = tt
 has_room m (Rollback database transaction) none = tt
 has_room m (AddTarget database target t token) none = tt
 has_room m (RemoveTarget database target) none = tt
+has_room m (request.Write database asked) none = tt
 
 -- one that waits is kept, and has room
 pub record StaysOn (m : Machine) (q : Request) : Type 0 where
@@ -176,9 +183,9 @@ held_parts (Some refusal) check found held = absurd held
 held_parts None (Some refusal) found held = absurd held
 held_parts None None found held = (refl, held_found found held)
 
-still_stays : (m : Machine) (q : Request) → m.past.unreleased ≡ [] → IsHeld (retry_decision m q) → StaysOn m q
-still_stays m q idle held =
-    let parts = held_parts (retry_refusal m q) (check_refusal m q) (held_by m q) held in
+still_stays : (m : Machine) (session : ℕ) (q : Request) → m.past.unreleased ≡ [] → IsHeld (retry_decision m session q) → StaysOn m q
+still_stays m session q idle held =
+    let parts = held_parts (retry_refusal m q) (check_refusal m session q) (held_by m q) held in
     record { kept = held_kept m q parts.1.0 idle parts.1.1; room = has_room m q parts.0 }
 
 none_behind : (xs ys : List ℕ) → least (xs ++ ys) ≡ None → least ys ≡ None
@@ -193,36 +200,38 @@ found_held : (found : Option ℕ) → (found ≡ None → ⊥) → IsHeld (unles
 found_held None some = some refl
 found_held (Some by) some = tt
 
-pub stays_held : (m : Machine) (q : Request) → StaysOn m q → IsHeld (retry_decision m q)
-stays_held m (Commit database writes None) stays =
+pub stays_held : (m : Machine) (session : ℕ) (q : Request) → StaysOn m q → IsHeld (retry_decision m session q)
+stays_held m session (Commit database writes None) stays =
     let found = plain_behind m.config.mode m.past m.txns.open writes in
     subst (λ first. IsHeld (unless_refused first (unless_held found))) (sym stays.room) (found_held found (kept_found m.config.mode m.past m.txns.open writes stays.kept))
-stays_held m (Commit database writes (Some id)) stays = absurd stays.kept
-stays_held m (GetDocument name mask when) stays = absurd stays.kept
-stays_held m (BatchGetDocuments database names mask when) stays = absurd stays.kept
-stays_held m (RunQuery database query when) stays = absurd stays.kept
-stays_held m (BeginTransaction database options) stays = absurd stays.kept
-stays_held m (Rollback database transaction) stays = absurd stays.kept
-stays_held m (AddTarget database target t token) stays = absurd stays.kept
-stays_held m (RemoveTarget database target) stays = absurd stays.kept
+stays_held m session (Commit database writes (Some id)) stays = absurd stays.kept
+stays_held m session (GetDocument name mask when) stays = absurd stays.kept
+stays_held m session (BatchGetDocuments database names mask when) stays = absurd stays.kept
+stays_held m session (RunQuery database query when) stays = absurd stays.kept
+stays_held m session (BeginTransaction database options) stays = absurd stays.kept
+stays_held m session (Rollback database transaction) stays = absurd stays.kept
+stays_held m session (AddTarget database target t token) stays = absurd stays.kept
+stays_held m session (RemoveTarget database target) stays = absurd stays.kept
+stays_held m session (request.Write database asked) stays = absurd stays.kept
 
 goes_free : (found : Option ℕ) → unless_held found ≡ Decision.goes_on → found ≡ None
 goes_free None goes = refl
 goes_free (Some by) goes = absurd (cc)
 
 -- one that is kept doesn't go on, whatever else holds it
-pub kept_waits : (m : Machine) (q : Request) → IsKept m.config.mode m.txns.open q → retry_decision m q ≡ Decision.goes_on → ⊥
-kept_waits m (Commit database writes None) kept goes =
+pub kept_waits : (m : Machine) (session : ℕ) (q : Request) → IsKept m.config.mode m.txns.open q → retry_decision m session q ≡ Decision.goes_on → ⊥
+kept_waits m session (Commit database writes None) kept goes =
     let found = plain_behind m.config.mode m.past m.txns.open writes in
     kept_found m.config.mode m.past m.txns.open writes kept (goes_free found (passes (retry_refusal m (Commit database writes None)) (unless_held found) goes).1)
-kept_waits m (Commit database writes (Some id)) kept goes = kept
-kept_waits m (GetDocument name mask when) kept goes = kept
-kept_waits m (BatchGetDocuments database names mask when) kept goes = kept
-kept_waits m (RunQuery database query when) kept goes = kept
-kept_waits m (BeginTransaction database options) kept goes = kept
-kept_waits m (Rollback database transaction) kept goes = kept
-kept_waits m (AddTarget database target t token) kept goes = kept
-kept_waits m (RemoveTarget database target) kept goes = kept
+kept_waits m session (Commit database writes (Some id)) kept goes = kept
+kept_waits m session (GetDocument name mask when) kept goes = kept
+kept_waits m session (BatchGetDocuments database names mask when) kept goes = kept
+kept_waits m session (RunQuery database query when) kept goes = kept
+kept_waits m session (BeginTransaction database options) kept goes = kept
+kept_waits m session (Rollback database transaction) kept goes = kept
+kept_waits m session (AddTarget database target t token) kept goes = kept
+kept_waits m session (RemoveTarget database target) kept goes = kept
+kept_waits m session (request.Write database asked) kept goes = kept
 
 -- ---- all that wait
 
@@ -234,11 +243,11 @@ AllKept m rs = AllByRecursion (λ r. IsKept m.config.mode m.txns.open r.envelope
 
 pub all_stay : (m : Machine) (rs : List ParkedRequest) → m.past.unreleased ≡ [] → AllByRecursion (IsHeldStill m) rs → AllStay m rs
 all_stay m [] idle all = tt
-all_stay m (r ∷ rs) idle all = (still_stays m r.envelope.request idle all.0, all_stay m rs idle all.1)
+all_stay m (r ∷ rs) idle all = (still_stays m r.session r.envelope.request idle all.0, all_stay m rs idle all.1)
 
 pub all_held : (m : Machine) (rs : List ParkedRequest) → AllStay m rs → AllByRecursion (IsHeldStill m) rs
 all_held m [] all = tt
-all_held m (r ∷ rs) all = (stays_held m r.envelope.request all.0, all_held m rs all.1)
+all_held m (r ∷ rs) all = (stays_held m r.session r.envelope.request all.0, all_held m rs all.1)
 
 kept_then : (m n : Machine) (q : Request) → ReadsOn m n → IsKept m.config.mode m.txns.open q → IsKept n.config.mode n.txns.open q
 kept_then m n q on kept = kept_on n.config.mode m.txns.open n.txns.open q on.reads (subst (λ (c : Config). IsKept c.mode m.txns.open q) (sym on.config) kept)

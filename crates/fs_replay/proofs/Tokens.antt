@@ -1,5 +1,5 @@
 -- The tokens of what is answered, as they are written one after another.
-use Rattle.std.proofs.Common.{◌≡◌, ℕ, ◌+◌, ◌<◌, drop, get_or, List, [], ◌∷◌, ◌++◌, Option, Some, None, codes, refl, sym, ap, ◌∙◌, append_assoc, length}
+use Rattle.std.proofs.Common.{◌≡◌, ℕ, ◌+◌, ◌<◌, Bool, cond, drop, get_or, List, [], ◌∷◌, ◌++◌, Option, Some, None, codes, refl, sym, ap, ◌∙◌, append_assoc, length}
 use Rattle.std.proofs.lemmas.List.{append-nil, at_drop_more}
 use Rattle.json.specs.Token.{Token, begin_object, end_object, key, string}
 use Rattle.serde_json.specs.Data as json
@@ -7,9 +7,9 @@ use Rattle.json.specs.Tree.{items_tokens}
 use Rattle.serde_json.specs.View.{items_of}
 use Rattle.serde_json.specs.Written.{items_outline}
 use Rattle.fs_rpc.specs.ListenJson.{listen_json}
-use Rattle.fs_rpc.specs.MessageJson.{begin_json, commit_json, error_json, error_members, message_json_on, message_members, query_answers_json, result_members, with_id, with_results as listed_results}
+use Rattle.fs_rpc.specs.MessageJson.{begin_json, commit_json, error_json, error_members, message_members, query_answers_json, result_members, with_id, with_results as listed_results}
 use Rattle.fs_rpc.specs.declared.message.Message.{Message}
-use Rattle.fs_rpc.specs.declared.message.Message.TheVariants.{Commit, GetDocument, BatchGetDocuments, RunQuery, BeginTransaction, Rollback, Listen, Error}
+use Rattle.fs_rpc.specs.declared.message.Message.TheVariants.{Commit, GetDocument, BatchGetDocuments, RunQuery, BeginTransaction, Rollback, Listen, Write, Error}
 use Rattle.fs_value.specs.Data.{Data}
 use Rattle.fs_valjson.specs.Document.{document_json}
 use Rattle.fs_valjson.proofs.Tokens.{object_tokens}
@@ -19,7 +19,7 @@ use Rattle.fs_write.specs.declared.write_result.WriteResult.{WriteResult}
 use Rattle.fs_writejson.specs.Results.{result_json, with_results}
 use Rattle.fs_machine.specs.declared.parked.Parked.{Parked}
 use Rattle.fs_replay.specs.Held.{held_json, with_held}
-use Rattle.fs_replay.specs.Tokens.{answers_json, result_head}
+use Rattle.fs_replay.specs.Tokens.{answers_json, result_head, session_first}
 use Rattle.std.specs.Prelude.{map}
 
 -- ---- results of commits
@@ -62,38 +62,37 @@ error_on : (id : Option (List ℕ)) (d : json.Data) (session : List ℕ)
 error_on None d session = one_member (codes "error") d (codes "session") session
 error_on (Some id) d session = ap (λ ts. key (codes "error") ∷ ts) (append_assoc (tokens_of d) (text_member (codes "id") id) (text_member (codes "session") session))
 
-session_last : (m : Message) (session : List ℕ)
-    → member_tokens (message_members m) ++ text_member (codes "session") session ≡ member_tokens (json.put (codes "session") (json.string session) (message_members m))
-session_last (Commit id time results) session = result_on id (commit_json time results) session
-session_last (GetDocument id document) session = result_on id (document_json document) session
-session_last (BatchGetDocuments id answers) session = result_on id (answers_json answers) session
-session_last (RunQuery id documents time) session = result_on id (json.array (query_answers_json documents time)) session
-session_last (BeginTransaction id transaction) session = result_on id (begin_json transaction) session
-session_last (Rollback id) session = result_on id (json.object json.no_members) session
-session_last (Listen told) session = one_member (codes "listen") (listen_json told) (codes "session") session
-session_last (Error id code message) session = error_on id (error_json code message) session
+-- with the session before or behind them
+abbrev pub placed : Bool → List Token → List Token → List Token
+placed first members session = cond first (session ++ members) (members ++ session)
 
--- a message on its session
-pub message_tokens : (m : Message) (session : List ℕ)
-    → begin_object ∷ ((member_tokens (message_members m) ++ text_member (codes "session") session) ++ end_object ∷ []) ≡ tokens_of (message_json_on session m)
-message_tokens m session =
-    ap (λ ts. begin_object ∷ (ts ++ end_object ∷ [])) (session_last m session) ∙ object_tokens (json.put (codes "session") (json.string session) (message_members m))
+pub session_placed : (m : Message) (session : List ℕ)
+    → placed (session_first m) (member_tokens (message_members m)) (text_member (codes "session") session) ≡ member_tokens (json.put (codes "session") (json.string session) (message_members m))
+session_placed (Commit id time results) session = result_on id (commit_json time results) session
+session_placed (GetDocument id document) session = result_on id (document_json document) session
+session_placed (BatchGetDocuments id answers) session = result_on id (answers_json answers) session
+session_placed (RunQuery id documents time) session = result_on id (json.array (query_answers_json documents time)) session
+session_placed (BeginTransaction id transaction) session = result_on id (begin_json transaction) session
+session_placed (Rollback id) session = result_on id (json.object json.no_members) session
+session_placed (Listen told) session = one_member (codes "listen") (listen_json told) (codes "session") session
+session_placed (Write stream token answer) session = refl
+session_placed (Error id code message) session = error_on id (error_json code message) session
 
 -- ---- what still waits
 
-held_members : (held : Option ℕ) (id : Option (List ℕ)) (session : List ℕ)
-    → (member_tokens (with_held held json.no_members) ++ member_tokens (with_id id json.no_members)) ++ text_member (codes "session") session
-    ≡ member_tokens (with_held held (with_id id (json.member (codes "session") (json.string session) json.no_members)))
-held_members None None session = refl
-held_members None (Some id) session = refl
-held_members (Some held) None session = refl
-held_members (Some held) (Some id) session = refl
+held_members : (held : Option ℕ) (id : Option (List ℕ)) (name text : List ℕ)
+    → (member_tokens (with_held held json.no_members) ++ member_tokens (with_id id json.no_members)) ++ text_member name text
+    ≡ member_tokens (with_held held (with_id id (json.member name (json.string text) json.no_members)))
+held_members None None name text = refl
+held_members None (Some id) name text = refl
+held_members (Some held) None name text = refl
+held_members (Some held) (Some id) name text = refl
 
-pub held_tokens : (p : Parked) (session : List ℕ)
-    → begin_object ∷ (((member_tokens (with_held p.held json.no_members) ++ member_tokens (with_id p.id json.no_members)) ++ text_member (codes "session") session) ++ end_object ∷ []) ≡ tokens_of (held_json session p)
-held_tokens p session =
-    ap (λ ts. begin_object ∷ (ts ++ end_object ∷ [])) (held_members p.held p.id session)
-    ∙ object_tokens (with_held p.held (with_id p.id (json.member (codes "session") (json.string session) json.no_members)))
+pub held_tokens : (p : Parked) (asker : List ℕ × List ℕ)
+    → begin_object ∷ (((member_tokens (with_held p.held json.no_members) ++ member_tokens (with_id p.id json.no_members)) ++ text_member asker.0 asker.1) ++ end_object ∷ []) ≡ tokens_of (held_json asker p)
+held_tokens p asker =
+    ap (λ ts. begin_object ∷ (ts ++ end_object ∷ [])) (held_members p.held p.id asker.0 asker.1)
+    ∙ object_tokens (with_held p.held (with_id p.id (json.member asker.0 (json.string asker.1) json.no_members)))
 
 -- ---- lists
 

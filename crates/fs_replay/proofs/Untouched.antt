@@ -1,6 +1,6 @@
 -- The document of a name stays through each thing that a line is made of, where nothing under way writes it, and no request does.
 use Rattle.std.proofs.Common.{◌≡◌, ℕ, ℤ, Bool, true, false, cond, List, [], ◌∷◌, Option, Some, None, Result, Ok, Err, refl, sym, ap, ◌∙◌, subst}
-use Rattle.std.specs.Prelude.{◌==◌, not, remove, slice_get}
+use Rattle.std.specs.Prelude.{not, remove, slice_get}
 use Rattle.std.specs.FinMap.{get}
 use Rattle.std.specs.List.{AllByRecursion, list_any}
 use Rattle.std.proofs.lemmas.Bool.{or_parts}
@@ -18,9 +18,10 @@ use Rattle.fs_write.specs.WrittenName.{is_written}
 use Rattle.fs_write.specs.declared.write.Write.{Write}
 use Rattle.fs_write.specs.declared.write_result.WriteResult.{WriteResult}
 use Rattle.fs_machine.specs.Commit.{next_commit}
+use Rattle.fs_machine.specs.Leave.{is_own}
 use Rattle.fs_machine.specs.Past.{Past}
 use Rattle.fs_machine.specs.Release.{free_to, freed, is_freed, joined, released}
-use Rattle.fs_machine.specs.Request.{Decision, answer_by, answered, arrived, asked, carried, decision, retry_refusal}
+use Rattle.fs_machine.specs.Request.{Decision, answer_by, answered, arrived, asked, carried, decision, retry_refusal, with_parked}
 use Rattle.fs_machine.specs.Retry.{retried, retry_decision, tried, unparked}
 use Rattle.fs_machine.specs.Settle.{accepted_in, decided, decided_if, decided_with, dropped_from, is_it, outcome_of, pending_of, settled}
 use Rattle.fs_machine.specs.State.{Machine}
@@ -36,10 +37,11 @@ use Rattle.fs_replay.specs.Step.{line_played}
 use Rattle.fs_replay.specs.declared.request.Line.{Line}
 use Rattle.fs_replay.specs.declared.request.Line.TheVariants as line
 use Rattle.fs_replay.specs.declared.state.State.{State}
-use Rattle.fs_replay.proofs.Becoming.{Becomes, asked_becomes, with_numbers}
+use Rattle.fs_replay.proofs.Becoming.{Becomes, asked_becomes, taken_beside, taken_on, with_numbers}
 use Rattle.fs_replay.proofs.Each.{all_at, all_filtered, all_more, all_removed}
 use Rattle.fs_replay.proofs.Falling.{retried_is}
 use Rattle.fs_replay.proofs.Going.{Goes, carried_goes, passes}
+use Rattle.fs_replay.proofs.Tellers.{arrived_writes}
 use Rattle.fs_replay.proofs.Kept.{KeepsAll, MayAsk, MayRead, keeps_beside, line_kept}
 
 -- a law of batches
@@ -109,19 +111,23 @@ module _ (unwritten : Unwritten) (name : DocName) (found : Option Document) wher
 
   -- ---- a request comes, or is tried again
 
-  goes_leaves : (m n : Machine) (r : ParkedRequest) (writes : List Write) (a : Answer) → Goes r writes m.past n.past a → n.parked ≡ m.parked → is_written name writes ≡ false → Untouched name found m → Untouched name found n
-  goes_leaves m n r writes a (Goes.answers same told) parked leaves is = record {
+  same_leaves : (m n : Machine) → n.past ≡ m.past → n.parked ≡ m.parked → Untouched name found m → Untouched name found n
+  same_leaves m n same parked is = record {
     under_way = subst (λ (p : Past). AllByRecursion (LeavesIt name) p.unreleased) (sym same) is.under_way;
     waiting = subst (AllByRecursion (WillLeaveIt name)) (sym parked) is.waiting;
     stays = ap (λ (p : Past). get (whole p.history) name) same ∙ is.stays;
   }
+
+  goes_leaves : (m n : Machine) (r : ParkedRequest) (writes : List Write) (a : Answer) → Goes r writes m.past n.past a → n.parked ≡ m.parked → is_written name writes ≡ false → Untouched name found m → Untouched name found n
+  goes_leaves m n r writes a (Goes.answers same told) parked leaves is = same_leaves m n same parked is
+  goes_leaves m n r writes a (Goes.repeats finished same told) parked leaves is = same_leaves m n same parked is
   goes_leaves m n r writes a (Goes.prepares id reads same told) parked leaves is = record {
     under_way = subst (λ (p : Past). AllByRecursion (LeavesIt name) p.unreleased) (sym same) (all_more (LeavesIt name) m.past.unreleased (next_commit m.past id r writes reads) is.under_way leaves);
     waiting = subst (AllByRecursion (WillLeaveIt name)) (sym parked) is.waiting;
     stays = ap (λ (p : Past). get (whole p.history) name) same ∙ is.stays;
   }
 
-  carried_leaves : (m : Machine) (r : ParkedRequest) → decision m r.envelope.request ≡ Decision.goes_on → WillLeaveIt name r → Untouched name found m → Untouched name found (carried m r)
+  carried_leaves : (m : Machine) (r : ParkedRequest) → decision m r.session r.envelope.request ≡ Decision.goes_on → WillLeaveIt name r → Untouched name found m → Untouched name found (carried m r)
   carried_leaves m r goes leaves is =
       let q = r.envelope.request in
       goes_leaves m (carried m r) r (writes_of q) (answer_by m r q) (carried_goes m r q goes) (ap (λ (n : Machine). n.parked) (carried_rest m r q)) leaves is
@@ -129,28 +135,30 @@ module _ (unwritten : Unwritten) (name : DocName) (found : Option Document) wher
   left_leaves : (m : Machine) (place : ℕ) → Untouched name found m → Untouched name found (unparked m place)
   left_leaves m place is = record { under_way = is.under_way; waiting = all_removed (WillLeaveIt name) m.parked place is.waiting; stays = is.stays }
 
-  tried_leaves : (m : Machine) (place : ℕ) (r : ParkedRequest) (d : Decision) → retry_decision m r.envelope.request ≡ d → WillLeaveIt name r → Untouched name found m → Untouched name found (tried m place r d)
-  tried_leaves m place r (Decision.refused refusal) at leaves is = left_leaves m place is
+  tried_leaves : (m : Machine) (place : ℕ) (r : ParkedRequest) (d : Decision) → retry_decision m r.session r.envelope.request ≡ d → WillLeaveIt name r → Untouched name found m → Untouched name found (tried m place r d)
+  tried_leaves m place r (Decision.refused refusal) at leaves is = let less = left_leaves m place is in record { under_way = less.under_way; waiting = less.waiting; stays = less.stays }
   tried_leaves m place r (Decision.held id) at leaves is = is
   tried_leaves m place r Decision.goes_on at leaves is =
       let q = r.envelope.request in
-      let goes = decision_alike m m.numbers (remove m.parked place) q ∙ (passes (retry_refusal m q) (decision m q) at).1 in
+      let goes = decision_alike m m.numbers (remove m.parked place) r.session q ∙ (passes (retry_refusal m q) (decision m r.session q) at).1 in
       carried_leaves (unparked m place) r goes leaves (left_leaves m place is)
 
   retried_leaves : (m : Machine) (place : ℕ) (r : ParkedRequest) → slice_get m.parked place ≡ Some r → Untouched name found m → Untouched name found (retried m place)
   retried_leaves m place r at is =
-      subst (Untouched name found) (sym (retried_is m place r at)) (tried_leaves m place r (retry_decision m r.envelope.request) refl (all_at (WillLeaveIt name) m.parked place r at is.waiting) is)
+      subst (Untouched name found) (sym (retried_is m place r at)) (tried_leaves m place r (retry_decision m r.session r.envelope.request) refl (all_at (WillLeaveIt name) m.parked place r at is.waiting) is)
 
   becomes_leaves : (m n : Machine) (r : ParkedRequest) (a : Answer) → WillLeaveIt name r → Untouched name found m → Becomes m r n a → Untouched name found n
   becomes_leaves m n r a leaves is (Becomes.refused k same told) = subst (Untouched name found) (sym same) (record { under_way = is.under_way; waiting = is.waiting; stays = is.stays })
   becomes_leaves m n r a leaves is (Becomes.held k by same told behind may) =
       let waits = all_more (WillLeaveIt name) m.parked r is.waiting leaves in
-      subst (Untouched name found) (sym same) (record { under_way = is.under_way; waiting = waits; stays = is.stays })
+      subst (Untouched name found) (sym (same ∙ ap (λ (x : Machine). with_parked x r) (taken_beside (with_numbers m k) r.stream))) (record { under_way = is.under_way; waiting = waits; stays = is.stays })
   becomes_leaves m n r a leaves is (Becomes.goes_on k same told goes) =
-      subst (Untouched name found) (sym same) (carried_leaves (with_numbers m k) r goes leaves (record { under_way = is.under_way; waiting = is.waiting; stays = is.stays }))
+      let on = subst (Untouched name found) (sym (taken_beside (with_numbers m k) r.stream)) (record { under_way = is.under_way; waiting = is.waiting; stays = is.stays }) in
+      subst (Untouched name found) (sym same) (carried_leaves (taken_on m r k) r goes leaves on)
 
   asked_leaves : (m : Machine) (session : ℕ) (e : Envelope) → LeavesName name e.request → Untouched name found m → Untouched name found (asked m session e)
-  asked_leaves m session e leaves is = becomes_leaves m (asked m session e) (arrived m session e) (answered m session e) leaves is (asked_becomes m session e)
+  asked_leaves m session e leaves is =
+      becomes_leaves m (asked m session e) (arrived m session e) (answered m session e) (subst (λ ws. is_written name ws ≡ false) (sym (arrived_writes m session e)) leaves) is (asked_becomes m session e)
 
   -- ---- all that a line is made of
 
@@ -167,7 +175,7 @@ module _ (unwritten : Unwritten) (name : DocName) (found : Option Document) wher
     };
     by_leaving = λ s number of at is. record {
       under_way = is.under_way;
-      waiting = all_filtered (WillLeaveIt name) (λ r. not (r.session == number)) s.server.parked is.waiting;
+      waiting = all_filtered (WillLeaveIt name) (λ r. not (is_own number r)) s.server.parked is.waiting;
       stays = is.stays;
     };
     by_ticking = λ s now is. released_leaves (advanced s.server now) (record { under_way = is.under_way; waiting = is.waiting; stays = is.stays });

@@ -3,7 +3,7 @@ use Rattle.std.proofs.Common.{◌≡◌, ℕ, Bool, true, false, cond, List, [],
 use Rattle.std.specs.Prelude.{◌==◌, ◌||◌}
 use Rattle.std.specs.List.{AllByRecursion}
 use Rattle.fs_rpc.specs.declared.message.Message.{Message}
-use Rattle.fs_machine.specs.Sessions.{emptied, outbox_in, delivered, with_outbox, without}
+use Rattle.fs_machine.specs.Sessions.{emptied, outbox_in, delivered, owning, with_outbox, without}
 use Rattle.fs_machine.specs.declared.session.Session.{Session}
 use Rattle.fs_replay.specs.BetweenLines.{HasNothing, is_open}
 use Rattle.fs_replay.proofs.Known.{apart}
@@ -28,7 +28,7 @@ pub emptied_same : (ss : List Session) (number : ℕ) → outbox_in number ss �
 emptied_same [] number none = refl
 emptied_same (s ∷ ss) number none = emptied_next s ss number (s.number == number) none (emptied_same ss number)
 
-pub nothing_more : (ss : List Session) (number : ℕ) → AllByRecursion HasNothing ss → AllByRecursion HasNothing (ss ++ record { number = number; outbox = [] } ∷ [])
+pub nothing_more : (ss : List Session) (number : ℕ) → AllByRecursion HasNothing ss → AllByRecursion HasNothing (ss ++ record { number = number; outbox = []; has_owned = false } ∷ [])
 nothing_more [] number all = (refl, tt)
 nothing_more (s ∷ ss) number all = (all.0, nothing_more ss number all.1)
 
@@ -39,6 +39,16 @@ left_next s ss number false none all more = (none, more)
 pub nothing_left : (ss : List Session) (number : ℕ) → AllByRecursion HasNothing ss → AllByRecursion HasNothing (without number ss)
 nothing_left [] number all = tt
 nothing_left (s ∷ ss) number all = left_next s ss number (s.number == number) all.0 all.1 (nothing_left ss number all.1)
+
+-- a session that owns a stream from now on has none either
+owning_next : (s : Session) (ss : List Session) (number : ℕ) (b : Bool) → AllByRecursion HasNothing (s ∷ ss) → AllByRecursion HasNothing (owning number ss)
+    → AllByRecursion HasNothing (cond b (record s { has_owned = true } ∷ ss) (s ∷ owning number ss))
+owning_next s ss number true all more = all
+owning_next s ss number false all more = (all.0, more)
+
+pub nothing_owning : (ss : List Session) (number : ℕ) → AllByRecursion HasNothing ss → AllByRecursion HasNothing (owning number ss)
+nothing_owning [] number all = tt
+nothing_owning (s ∷ ss) number all = owning_next s ss number (s.number == number) all (nothing_owning ss number all.1)
 
 -- ---- where some wait for one session, and are taken
 

@@ -1,5 +1,5 @@
 -- What stands between two lines of a script.
-use Rattle.std.specs.Prelude.{◌≡◌, ℕ, ◌<◌, Bool, true, false, ◌==◌, ⊤, List, [], None, map}
+use Rattle.std.specs.Prelude.{◌≡◌, ℕ, ◌<◌, Bool, true, false, ◌==◌, ◌||◌, is_some, ⊤, List, [], None, map}
 use Rattle.std.specs.FinMap.{entries}
 use Rattle.std.specs.List.{list_any, AllByRecursion}
 use Rattle.fs_listen.specs.Cuts.{first_loading}
@@ -40,7 +40,11 @@ IsHeld Decision.goes_on = ⊥
 
 -- a request that waits is held still: to try it again does nothing
 abbrev pub IsHeldStill : Machine → ParkedRequest → Type 0
-IsHeldStill m r = IsHeld (retry_decision m r.envelope.request)
+IsHeldStill m r = IsHeld (retry_decision m r.session r.envelope.request)
+
+-- a session that is open asks for it, or a stream does
+abbrev pub is_asked : List Session → ParkedRequest → Bool
+is_asked ss r = is_some r.stream || is_open r.session ss
 
 -- nothing is left to settle
 pub record IsSettled (m : Machine) : Type 0 where
@@ -64,7 +68,7 @@ pub record IsBetweenLines (s : State) : Type 0 where
   pub empty : AllByRecursion HasNothing s.server.sessions
   -- the script knows the sessions that are open, in the order of opening
   pub known : numbers_in s.directory ≡ map (λ x. x.number) s.server.sessions
-  -- and what waits is of one of them
-  pub waiting : AllByRecursion (λ r. is_open r.session s.server.sessions ≡ true) s.server.parked
+  -- and what waits is of one of them, or of a stream
+  pub waiting : AllByRecursion (λ r. is_asked s.server.sessions r ≡ true) s.server.parked
   pub facts : Facts s.server
   pub limits : AreAllowed s.server.limits

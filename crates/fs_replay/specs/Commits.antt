@@ -7,10 +7,13 @@ use Rattle.fs_machine.specs.Open.{open_answer, opened}
 use Rattle.fs_machine.specs.Request.{answered}
 use Rattle.fs_machine.specs.State.{Machine}
 use Rattle.fs_machine.specs.declared.answer.Answer.{Answer}
-use Rattle.fs_machine.specs.declared.answer.Answer.TheVariants.{Reply, Prepared, Held, Refused}
+use Rattle.fs_machine.specs.declared.answer.Answer.TheVariants.{Reply, Prepared, Held, InProgress, Refused}
 use Rattle.fs_rpc.specs.declared.envelope.SessionRequest.{SessionRequest}
 use Rattle.fs_rpc.specs.declared.request.Request.{Request}
 use Rattle.fs_rpc.specs.declared.request.Request.TheVariants.{Commit, GetDocument, BatchGetDocuments, RunQuery, BeginTransaction, Rollback, AddTarget, RemoveTarget}
+use Rattle.fs_rpc.specs.declared.request.Request.TheVariants as request
+use Rattle.fs_rpc.specs.declared.stream_request.StreamRequest.{StreamRequest}
+use Rattle.fs_rpc.specs.declared.stream_request.StreamRequest.TheVariants.{Open, Resume, Batch, Ask, Mixed}
 use Rattle.fs_status.specs.declared.refusal.Refusal.{Refusal}
 use Rattle.fs_write.specs.WrittenName.{is_written}
 use Rattle.fs_write.specs.declared.write.Write.{Write}
@@ -20,6 +23,14 @@ use Rattle.fs_replay.specs.Step.{after_line}
 use Rattle.fs_replay.specs.declared.request.Line.{Line}
 use Rattle.fs_replay.specs.declared.request.Line.TheVariants as line
 use Rattle.fs_replay.specs.declared.state.State.{State}
+
+-- the writes of a batch; a stream that is named with them takes none
+abbrev pub writes_in : StreamRequest → List Write
+writes_in Open = []
+writes_in (Resume n token) = []
+writes_in (Batch token writes) = writes
+writes_in (Ask token) = []
+writes_in (Mixed n token writes) = []
 
 -- the writes that a request asks for
 abbrev pub writes_of : Request → List Write
@@ -31,6 +42,7 @@ writes_of (BeginTransaction database options) = []
 writes_of (Rollback database transaction) = []
 writes_of (AddTarget database id t token) = []
 writes_of (RemoveTarget database id) = []
+writes_of (request.Write database asked) = writes_in asked
 
 -- and those that a line asks for
 abbrev pub writes_read : Result Request Bad → List Write
@@ -62,6 +74,7 @@ abbrev pub is_prepared : Answer → Bool
 is_prepared (Reply message) = false
 is_prepared (Prepared id time) = true
 is_prepared (Held id) = false
+is_prepared (InProgress finished) = false
 is_prepared (Refused refusal) = false
 
 -- whether a request on the session of a number is a commit that goes on: no limit is passed, it waits for nobody, and isn't aborted

@@ -1,14 +1,13 @@
 -- The lines of a script that are no requests: what the members of each form are read as.
 use Rattle.std.specs.Prelude.{ℕ, ℤ, pos, negsuc, ◌^◌, nat_lt, Bool, List, [], ◌∷◌, Option, Some, None, Result, Ok, codes, option_and_then, if◌then◌else◌, ⊤}
 use Rattle.serde_json.specs.Data.{Data}
-use Rattle.serde_json.specs.Find.{as_bool, as_str}
+use Rattle.serde_json.specs.Find.{as_bool}
 use Rattle.fs_path.specs.declared.place.Rule.TheVariants.{G}
 use Rattle.fs_json.specs.Answer.{or_fault, ◌>>=◌}
 use Rattle.fs_json.specs.Members.{only_at, required_as, required_at}
 use Rattle.fs_json.specs.Scalars.{integer_at, text_at}
 use Rattle.fs_json.specs.Time.{optional_time_at}
 use Rattle.fs_json.specs.declared.bad.Bad.{Bad}
-use Rattle.fs_replay.specs.IdText.{id_in_text}
 use Rattle.fs_replay.specs.declared.request.Line.{Line}
 use Rattle.fs_replay.specs.declared.request.Line.TheVariants.{Load}
 
@@ -27,10 +26,6 @@ only_true b = if b then Some tt else None
 -- a member that may only be `true`
 abbrev pub true_at : Data → List ℕ → Result ⊤ Bad
 true_at d place = or_fault G place (option_and_then only_true (as_bool d))
-
--- the number of a commit, in a string
-abbrev pub id_at : Data → List ℕ → Result ℕ Bad
-id_at d place = or_fault G place (option_and_then id_in_text (as_str d))
 
 -- the name of a session that leaves
 abbrev pub leave_at : Data → Result (List ℕ) Bad

@@ -1,5 +1,4 @@
 pub mod Limits
-pub mod IdText
 pub mod Forms
 pub mod Line
 pub mod Directory

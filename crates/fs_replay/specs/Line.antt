@@ -18,7 +18,8 @@ use Rattle.fs_rpc.specs.Envelope.{session_request_at}
 use Rattle.fs_status.specs.declared.reason.Reason.{Reason}
 use Rattle.fs_status.specs.declared.reason.Reason.TheVariants as reasons
 use Rattle.fs_status.specs.declared.reason.LineFault.TheVariants.{NotAnObject, HasBytes}
-use Rattle.fs_replay.specs.Forms.{id_at, leave_at, load_at, number_at, sole_as, true_at}
+use Rattle.fs_rpc.specs.Decimal.{decimal_at}
+use Rattle.fs_replay.specs.Forms.{leave_at, load_at, number_at, sole_as, true_at}
 use Rattle.fs_replay.specs.Limits.{longest_line}
 use Rattle.fs_replay.specs.declared.request.Line.{Line}
 use Rattle.fs_replay.specs.declared.request.Line.TheVariants as line
@@ -89,7 +90,7 @@ form_at root d =
     else if is_there (codes "clock") d then made line.Clock (sole_as time_at (codes "clock") d)
     else if is_there (codes "compact") d then made line.Compact (sole_as time_at (codes "compact") d)
     else if is_there (codes "manual") d then made line.Manual (sole_as truth_at (codes "manual") d)
-    else if is_there (codes "settle") d then made line.Settle (sole_as id_at (codes "settle") d)
+    else if is_there (codes "settle") d then made line.Settle (sole_as decimal_at (codes "settle") d)
     else if is_there (codes "retry") d then made (λ _. line.Retry) (sole_as true_at (codes "retry") d)
     else if is_there (codes "load") d then sole_as load_at (codes "load") d
     else if is_there (codes "match") d then made line.Match (sole_as number_at (codes "match") d)

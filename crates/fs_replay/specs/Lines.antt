@@ -11,6 +11,7 @@ use Rattle.fs_machine.specs.declared.config.Mode.TheVariants.{Pessimistic, Optim
 use Rattle.fs_machine.specs.declared.parked_request.ParkedRequest.{ParkedRequest}
 use Rattle.fs_rpc.specs.declared.request.Request.{Request}
 use Rattle.fs_rpc.specs.declared.request.Request.TheVariants.{Commit, GetDocument, BatchGetDocuments, RunQuery, BeginTransaction, Rollback, AddTarget, RemoveTarget}
+use Rattle.fs_rpc.specs.declared.request.Request.TheVariants as request
 use Rattle.fs_txn.specs.Transactions.{is_read_write}
 use Rattle.fs_txn.specs.declared.txn.Txn.{Txn}
 use Rattle.fs_replay.specs.Line.{line_of}
@@ -94,6 +95,7 @@ ends_one (BeginTransaction database options) = false
 ends_one (Rollback database transaction) = true
 ends_one (AddTarget database id t token) = false
 ends_one (RemoveTarget database id) = false
+ends_one (request.Write database asked) = false
 
 abbrev pub ends_read : Result Request Bad → Bool
 ends_read (Ok request) = ends_one request

@@ -2,7 +2,7 @@
 -- is written on a line of its own.
 use Rattle.std.specs.Prelude.{ℕ, List, [], ◌∷◌, ◌++◌, Option}
 use Rattle.fs_machine.specs.declared.answer.Answer.{Answer}
-use Rattle.fs_machine.specs.declared.answer.Answer.TheVariants.{Reply, Prepared, Held, Refused}
+use Rattle.fs_machine.specs.declared.answer.Answer.TheVariants.{Reply, Prepared, Held, InProgress, Refused}
 use Rattle.fs_machine.specs.Outbox.{outbox_of, taken}
 use Rattle.fs_machine.specs.State.{Machine}
 use Rattle.fs_rpc.specs.MessageJson.{message_json_on, refused}
@@ -28,9 +28,10 @@ abbrev pub drain_output : List Named → Machine → List ℕ
 drain_output [] m = []
 drain_output (n ∷ ns) m = message_lines n.name (outbox_of m n.number) ++ drain_output ns (taken m n.number)
 
--- what is told at once; the reply to a commit comes to the outbox, and what waits is told when it goes on
+-- what is told at once; the reply to a commit comes to the outbox, and so does that to a batch in progress; what waits is told when it goes on
 abbrev pub reply_output : List ℕ → Option (List ℕ) → Answer → List ℕ
 reply_output name id (Reply message) = message_line name message
 reply_output name id (Prepared commit time) = []
 reply_output name id (Held commit) = []
+reply_output name id (InProgress finished) = []
 reply_output name id (Refused refusal) = message_line name (refused id refusal)

@@ -32,7 +32,7 @@ use Rattle.fs_machine.specs.Pending.{next_pending}
 use Rattle.fs_machine.specs.Retry.{retry_answer, tried_answer}
 use Rattle.fs_machine.specs.State.{Machine}
 use Rattle.fs_machine.specs.declared.answer.Answer.{Answer}
-use Rattle.fs_machine.specs.declared.answer.Answer.TheVariants.{Reply, Prepared, Held, Refused}
+use Rattle.fs_machine.specs.declared.answer.Answer.TheVariants.{Reply, Prepared, Held, InProgress, Refused}
 use Rattle.fs_machine.specs.declared.parked_request.ParkedRequest.{ParkedRequest}
 use Rattle.fs_replay.specs.Directory.{name_of}
 use Rattle.fs_replay.specs.Outboxes.{drained, drain_output, message_lines, reply_output}
@@ -64,9 +64,14 @@ settles_next s = settles_if s (next_pending s.server.past)
 
 -- ---- requests that wait
 
--- what a request is told that was tried again: what a read answers, or why it is refused. A commit is answered as it is released
+-- what a request is told that was tried again: what a read answers, or why it is refused. A commit is answered as it is released, and of a batch
+-- the owner of its stream is told, by the outbox
+abbrev pub told_in : List Named → ParkedRequest → Answer → Option ℕ → List ℕ
+told_in ns r answer None = option_map_or (λ name. reply_output name r.envelope.id answer) (name_of r.session ns) []
+told_in ns r answer (Some stream) = []
+
 abbrev pub retry_output : List Named → ParkedRequest → Answer → List ℕ
-retry_output ns r answer = option_map_or (λ name. reply_output name r.envelope.id answer) (name_of r.session ns) []
+retry_output ns r answer = told_in ns r answer r.stream
 
 abbrev pub tries_it : State → ℕ → ParkedRequest → Played
 tries_it s place r =
@@ -85,6 +90,7 @@ waits_on None = false
 waits_on (Some (Reply message)) = false
 waits_on (Some (Prepared id time)) = false
 waits_on (Some (Held id)) = true
+waits_on (Some (InProgress finished)) = false
 waits_on (Some (Refused refusal)) = false
 
 -- where the next one stands then: one that waits on stays where it is, and any other is taken out

@@ -1,13 +1,27 @@
 -- For private clauses: the tokens of parts of answers.
-use Rattle.std.specs.Prelude.{ℕ, List, [], ◌∷◌, ◌++◌, Option, codes, decimal, map}
+use Rattle.std.specs.Prelude.{ℕ, Bool, true, false, List, [], ◌∷◌, ◌++◌, Option, codes, decimal, map}
 use Rattle.json.specs.Token.{Token, begin_object, end_object, key, number}
 use Rattle.serde_json.specs.Data.{Data, array, no_members}
 use Rattle.serde_json.specs.View.{items_of}
 use Rattle.fs_rpc.specs.MessageJson.{batch_answer_json, with_id}
 use Rattle.fs_rpc.specs.declared.message.BatchAnswer.{BatchAnswer}
+use Rattle.fs_rpc.specs.declared.message.Message.{Message}
+use Rattle.fs_rpc.specs.declared.message.Message.TheVariants.{Commit, GetDocument, BatchGetDocuments, RunQuery, BeginTransaction, Rollback, Listen, Write, Error}
 use Rattle.fs_status.specs.Status.{http_of}
 use Rattle.fs_status.specs.declared.code.Code.{Code}
 use Rattle.fs_valjson.specs.Tokens.{member_tokens}
+
+-- whether the session stands before the members of a message
+abbrev pub session_first : Message → Bool
+session_first (Commit id time results) = false
+session_first (GetDocument id document) = false
+session_first (BatchGetDocuments id answers) = false
+session_first (RunQuery id documents time) = false
+session_first (BeginTransaction id transaction) = false
+session_first (Rollback id) = false
+session_first (Listen told) = false
+session_first (Write stream token answer) = true
+session_first (Error id code message) = false
 
 -- what stands before a result
 abbrev pub result_head : Option (List ℕ) → List Token

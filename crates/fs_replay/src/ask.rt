@@ -141,6 +141,7 @@ pub fn say_answer(
         Answer::Reply(message) => say(alloc, name, message, out),
         Answer::Prepared(_, _) => Ok(()),
         Answer::Held(_) => Ok(()),
+        Answer::InProgress(_) => Ok(()),
         Answer::Refused(refusal) => refuse(alloc, name, id, refusal, out),
     }
 }

@@ -121,9 +121,12 @@ fn say_tried(
     answer: &Answer,
     out: &mut Vec<u8>,
 ) -> Result<(), AllocError>
-    ensures { OnOk result ((r : ParkedRequest) → r.session ≡ parked.now.session → r.envelope.id ≡ parked.now.id
+    ensures { OnOk result ((r : ParkedRequest) → r.session ≡ parked.now.session → r.envelope.id ≡ parked.now.id → r.stream ≡ parked.now.stream
         → out.new.items ≡ out.old.items ++ retry_output directory.now r answer.now) }
 {
+    if parked.stream.is_some() {
+        return Ok(());
+    }
     match directory.name_of(parked.session) {
         Some(name) => say_answer(alloc, name, &parked.id, answer, out),
         None => Ok(()),

@@ -49,8 +49,8 @@ fn push_timed(
     line.end_object()
 }
 
-// The results, which are left out where there are none.
-fn push_results(
+/// Writes the results, which are left out where there are none, with the text of the time.
+pub fn push_results(
     alloc: Global,
     line: &mut Writer,
     time: Micros,

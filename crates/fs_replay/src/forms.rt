@@ -1,12 +1,11 @@
 //! Reading the lines of a script that are no requests: the members of each form.
-ghost use Rattle.std.specs.Prelude.{◌≡◌};
 ghost use Rattle.serde_json.specs.View.{view as json};
 ghost use Rattle.fs_path.specs.Way.{place_of};
 ghost use Rattle.fs_json.specs.Answer.{Gives};
 ghost use Rattle.fs_json.specs.Scalars.{text_at, truth_at};
 ghost use Rattle.fs_json.specs.Time.{time_at};
-ghost use Rattle.fs_replay.specs.Forms.{id_at, leave_at, load_at, number_at, sole_as, sole_at, true_at};
-ghost use Rattle.fs_replay.specs.IdText.{id_in_text};
+ghost use Rattle.fs_rpc.specs.Decimal.{decimal_at};
+ghost use Rattle.fs_replay.specs.Forms.{leave_at, load_at, number_at, sole_as, sole_at, true_at};
 
 use crate::request::Line;
 use fs_json::{
@@ -14,6 +13,7 @@ use fs_json::{
     read_truth, required,
 };
 use fs_path::{Rule, Text, Way};
+use fs_rpc::read_decimal;
 use fs_status::Id;
 use fs_time::Micros;
 use serde_json::Value;
@@ -54,7 +54,7 @@ pub fn truth_in(alloc: Global, v: &Value, name: &str) -> Result<bool, Bad>
 
 /// The number of a commit on a line that has nothing else.
 pub fn id_in(alloc: Global, v: &Value, name: &str) -> Result<Id, Bad>
-    ensures { Gives (λ id. id) result (sole_as id_at name.now (json v.now)) }
+    ensures { Gives (λ id. id) result (sole_as decimal_at name.now (json v.now)) }
 {
     let found = sole(alloc, v, name)?;
     read_id(alloc, found, &Way::method(name))
@@ -139,23 +139,7 @@ fn read_true(alloc: Global, v: &Value, way: &Way<'_>) -> Result<(), Bad>
 }
 
 fn read_id(alloc: Global, v: &Value, way: &Way<'_>) -> Result<Id, Bad>
-    ensures { Gives (λ id. id) result (id_at (json v.now) (place_of way.now)) }
+    ensures { Gives (λ id. id) result (decimal_at (json v.now) (place_of way.now)) }
 {
-    match v.as_str().and_then(id_in_text) {
-        Some(n) => Ok(Id::new(n)),
-        None => Err(Bad::at(alloc, Rule::G, way)),
-    }
-}
-
-// The most digits that the number of a commit may have: those of the largest one.
-const MAX_DIGITS: usize = 20;
-
-// Only digits: `parse` would take a `+` too.
-fn id_in_text(text: &str) -> Option<u64>
-    ensures { result ≡ id_in_text text.now }
-{
-    if text.len() > MAX_DIGITS || text.starts_with('+') {
-        return None;
-    }
-    text.parse::<u64>().ok()
+    Ok(Id::new(read_decimal(alloc, v, way)?))
 }

@@ -5,6 +5,7 @@ ghost use Rattle.serde_json.specs.Written.{compact_text};
 ghost use Rattle.fs_valjson.specs.Tokens.{member_tokens, tokens_of};
 ghost use Rattle.fs_machine.specs.declared.parked_request.ParkedRequest.{ParkedRequest};
 ghost use Rattle.fs_replay.specs.Held.{held_json, held_line, held_lines, with_held};
+ghost use Rattle.fs_replay.specs.Reply.{json_line};
 
 use crate::directory::Directory;
 use crate::message_line::push_id;
@@ -40,38 +41,61 @@ fn say_one(
         → out.new.items ≡ out.old.items ++ held_line directory.now server.now r) }
 {
     let parked = server.parked_at(alloc, place)?;
-    match directory.name_of(parked.session) {
-        Some(name) => {
-            let line = held_bytes(alloc, name, &parked)?;
-            out.extend_from_slice(&line)?;
-            Ok(out.push(b'\n')?)
+    match parked.stream {
+        Some(stream) => {
+            let number = stream.to_string(alloc)?;
+            say_waits(alloc, "stream", &number, &parked, out)
         }
-        None => Ok(()),
+        None => match directory.name_of(parked.session) {
+            Some(name) => say_waits(alloc, "session", name, &parked, out),
+            None => Ok(()),
+        },
     }
 }
 
+// The line of a request, by the member that tells who asks.
+fn say_waits(
+    alloc: Global,
+    member: &str,
+    asker: &str,
+    parked: &Parked,
+    out: &mut Vec<u8>,
+) -> Result<(), AllocError>
+    ensures { OnOk result (out.new.items ≡ out.old.items ++ json_line (held_json (member.now, asker.now) parked.now)) }
+{
+    let line = held_bytes(alloc, member, asker, parked)?;
+    out.extend_from_slice(&line)?;
+    Ok(out.push(b'\n')?)
+}
+
 // `{"held":"1","id":"9","session":"s"}`
-fn held_bytes(alloc: Global, name: &str, parked: &Parked) -> Result<Vec<u8>, AllocError>
-    ensures { IfOk result (λ b. b.items ≡ compact_text (held_json name.now parked.now)) }
+fn held_bytes(
+    alloc: Global,
+    member: &str,
+    asker: &str,
+    parked: &Parked,
+) -> Result<Vec<u8>, AllocError>
+    ensures { IfOk result (λ b. b.items ≡ compact_text (held_json (member.now, asker.now) parked.now)) }
 {
     let mut line = Writer::new(Vec::with_capacity(alloc, ROOM)?);
-    push_held(alloc, &mut line, name, parked)?;
+    push_held(alloc, &mut line, member, asker, parked)?;
     Ok(line.into_inner())
 }
 
 fn push_held(
     alloc: Global,
     line: &mut Writer,
-    name: &str,
+    member: &str,
+    asker: &str,
     parked: &Parked,
 ) -> Result<(), AllocError>
-    ensures tokens { OnOk result (line.new.tokens ≡ line.old.tokens ++ tokens_of (held_json name.now parked.now)) }
+    ensures tokens { OnOk result (line.new.tokens ≡ line.old.tokens ++ tokens_of (held_json (member.now, asker.now) parked.now)) }
     ensures before { line.new.before ≡ line.old.before }
 {
     line.begin_object()?;
     push_holder(alloc, line, parked.held)?;
     push_id(line, &parked.id)?;
-    push_text(line, "session", name)?;
+    push_text(line, member, asker)?;
     line.end_object()
 }
 

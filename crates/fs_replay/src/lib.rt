@@ -24,6 +24,7 @@ mod script;
 mod serve;
 mod state;
 mod step;
+mod write_line;
 
 pub use fs_server::{Config, Limits, Mode};
 pub use laws::scripts_are_lawful;

@@ -1,17 +1,18 @@
 //! What is answered, written straight to its line: a tree of JSON values for each answer would take a third of the time of a
 //! read.
-ghost use Rattle.std.specs.Prelude.{◌≡◌, ◌++◌, IfOk, OnOk};
-ghost use Rattle.serde_json.specs.Data.{array, no_members, object};
+ghost use Rattle.std.specs.Prelude.{◌≡◌, ◌++◌, IfOk, OnOk, codes};
+ghost use Rattle.serde_json.specs.Data.{array, no_members, object, put, string};
 ghost use Rattle.serde_json.specs.Written.{compact_text};
 ghost use Rattle.fs_rpc.specs.MessageJson.{begin_json, commit_json, error_json, error_members, message_json_on, message_members, query_answers_json, result_members, with_id};
-ghost use Rattle.fs_rpc.specs.Transaction.{transaction_text};
+ghost use Rattle.fs_rpc.specs.Eight.{eight_text};
 ghost use Rattle.fs_valjson.specs.Document.{document_json};
 ghost use Rattle.fs_valjson.specs.Tokens.{member_tokens, tokens_of};
-ghost use Rattle.fs_replay.specs.Tokens.{answers_json, code_member, result_head};
+ghost use Rattle.fs_replay.specs.Tokens.{answers_json, code_member, result_head, session_first};
 
 use crate::commit_line::push_commit;
 use crate::listen_line::push_listen;
 use crate::reads_line::{push_answers, push_query_answers};
+use crate::write_line::push_write;
 use fs_path::Text;
 use fs_rpc::{BatchAnswer, Message, print_transaction};
 use fs_status::{Code, Id};
@@ -49,9 +50,34 @@ fn push_message(
     ensures before { line.new.before ≡ line.old.before }
 {
     line.begin_object()?;
-    push_members(alloc, line, message)?;
-    push_text(line, "session", session)?;
+    push_on(alloc, line, session, message)?;
     line.end_object()
+}
+
+// Its members, with the session in its place among them.
+fn push_on(
+    alloc: Global,
+    line: &mut Writer,
+    session: &str,
+    message: &Message,
+) -> Result<(), AllocError>
+    ensures tokens { OnOk result (line.new.tokens
+        ≡ line.old.tokens ++ member_tokens (put (codes "session") (string session.now) (message_members message.now))) }
+    ensures before { line.new.before ≡ line.old.before }
+{
+    if session_first(message) {
+        push_text(line, "session", session)?;
+        return push_members(alloc, line, message);
+    }
+    push_members(alloc, line, message)?;
+    push_text(line, "session", session)
+}
+
+// Members stand in the order of their names: the session before `write`, and behind all others.
+fn session_first(message: &Message) -> bool
+    ensures { result ≡ session_first message.now }
+{
+    matches!(message, Message::Write { .. })
 }
 
 // The members that a message has without a session.
@@ -75,6 +101,11 @@ fn push_members(alloc: Global, line: &mut Writer, message: &Message) -> Result<(
         Message::BeginTransaction { id, transaction } => push_begun(alloc, line, id, *transaction),
         Message::Rollback { id } => push_rolled_back(line, id),
         Message::Listen(told) => push_listen(alloc, line, told),
+        Message::Write {
+            stream,
+            token,
+            answer,
+        } => push_write(alloc, line, *stream, *token, answer),
         Message::Error { id, code, message } => push_error(line, id, *code, message.as_str()),
     }
 }
@@ -154,7 +185,7 @@ fn push_begun(
 
 // `{"transaction":"AAAAAAAAAAI="}`
 fn push_transaction(line: &mut Writer, transaction: Id, text: &str) -> Result<(), AllocError>
-    requires { text.now ≡ transaction_text transaction }
+    requires { text.now ≡ eight_text transaction }
     ensures tokens { OnOk result (line.new.tokens ≡ line.old.tokens ++ tokens_of (begin_json transaction)) }
     ensures before { line.new.before ≡ line.old.before }
 {
@@ -217,7 +248,8 @@ fn push_error(
     push_id(line, id)
 }
 
-fn push_status(line: &mut Writer, code: Code, message: &str) -> Result<(), AllocError>
+/// Writes an error. (`google.rpc.Status`, as REST prints it.)
+pub fn push_status(line: &mut Writer, code: Code, message: &str) -> Result<(), AllocError>
     ensures tokens { OnOk result (line.new.tokens ≡ line.old.tokens ++ tokens_of (error_json code message.now)) }
     ensures before { line.new.before ≡ line.old.before }
 {

@@ -3,7 +3,7 @@ use Rattle.std.proofs.Common.{◌≡◌, ℕ, ℤ, ◌+◌, true, false, List, [
 use Rattle.std.proofs.lemmas.Cmp.{int_eq_equiv}
 use Rattle.std.specs.List.{AllByRecursion, list_all}
 use Rattle.std.specs.Ordering.{int_eq}
-use Rattle.serde_json.specs.Data.{Data, Items, item, no_members, member, array, object}
+use Rattle.serde_json.specs.Data.{Data, Items, item, Members, no_members, member, array, object}
 use Rattle.serde_json.specs.Find.{as_array}
 use Rattle.serde_json.specs.View.{items_of}
 use Rattle.fs_path.specs.Document.{document_of, document_text, IsDocumentOf}
@@ -12,9 +12,8 @@ use Rattle.fs_path.specs.Place.{item_place, member_place}
 use Rattle.fs_path.specs.declared.name.DocName.{DocName}
 use Rattle.fs_path.specs.declared.name.Root.{Root}
 use Rattle.fs_status.specs.declared.code.Code.{Code}
-use Rattle.fs_status.specs.declared.code.Code.TheVariants.{InvalidArgument, FailedPrecondition, NotFound, AlreadyExists, Aborted, ResourceExhausted, Unimplemented, OutOfMemory}
 use Rattle.fs_path.specs.declared.place.Rule.TheVariants.{G}
-use Rattle.fs_json.specs.Answer.{or_fault, ◌>>=◌}
+use Rattle.fs_json.specs.Answer.{made, or_fault, ◌>>=◌}
 use Rattle.fs_json.specs.Members.{is_given}
 use Rattle.fs_json.specs.declared.bad.Bad.{Bad}
 use Rattle.fs_valjson.specs.Document.{document_at, document_json}
@@ -28,28 +27,23 @@ use Rattle.fs_json.specs.Walk.{each_at}
 use Rattle.fs_rpc.specs.ListenJson.{listen_json}
 use Rattle.fs_query.specs.declared.listen.ListenMessage.{ListenMessage}
 use Rattle.fs_query.specs.declared.listen.ListenMessage.TheVariants.{Add, Remove, Reset, Current, NoChange, Changed, Deleted, Removed}
-use Rattle.fs_rpc.specs.MessageJson.{batch_answer_json, begin_json, commit_json, error_json, error_members, message_json, query_answer_json, query_answers_json, read_at, result_members}
+use Rattle.fs_rpc.specs.MessageJson.{batch_answer_json, begin_json, commit_json, error_json, error_members, message_json, query_answer_json, query_answers_json, read_at, result_members, stream_answer_members}
 use Rattle.fs_rpc.specs.MessageSteps.{IsAnswerHeld, IsDocumentHeld, IsMessageHeld}
 use Rattle.fs_rpc.specs.ReadListen.{listen_at}
 use Rattle.fs_rpc.specs.ReadMessage.{answers_begin, answers_commit, answers_names, answers_rollback, begin_result_at, commit_result_at, error_at, message_at, query_result_at, result_at}
+use Rattle.fs_rpc.specs.ReadStreamAnswer.{stream_answer_at}
 use Rattle.fs_rpc.specs.ReadResults.{answered, batch_answer_at, query_answer_at}
-use Rattle.fs_rpc.specs.Transaction.{IsTransactionHeld}
+use Rattle.fs_rpc.specs.Eight.{IsEightHeld}
 use Rattle.fs_rpc.specs.ValidMessage.{IsAnswerOf, IsMessageOf}
 use Rattle.fs_rpc.specs.declared.message.BatchAnswer.{BatchAnswer}
 use Rattle.fs_rpc.specs.declared.message.BatchAnswer.TheVariants.{Found, Missing}
 use Rattle.fs_rpc.specs.declared.message.Message.{Message}
-use Rattle.fs_rpc.specs.declared.message.Message.TheVariants.{Commit, GetDocument, BatchGetDocuments, RunQuery, BeginTransaction, Rollback, Listen, Error}
+use Rattle.fs_rpc.specs.declared.message.Message.TheVariants.{Commit, GetDocument, BatchGetDocuments, RunQuery, BeginTransaction, Rollback, Listen, Write, Error}
 use Rattle.fs_rpc.proofs.ListenAgain.{listen_again}
-use Rattle.fs_writejson.proofs.WriteResults.{write_result_again}
+use Rattle.fs_rpc.proofs.StreamAnswerAgain.{refusal_again, results_again, stream_answer_again}
 use Rattle.fs_writejson.specs.Valid.{ResultHasNames}
 
--- ---- results of writes
-
-results_again : (rs : List WriteResult) (i : ℕ) (place : List ℕ) → AllByRecursion IsResultHeld rs → AllByRecursion ResultHasNames rs
-    → each_at write_result_at (items_of (map result_json rs)) i place ≡ Ok rs
-results_again [] i place held names = refl
-results_again (r ∷ rs) i place held names =
-    rw (write_result_again r (item_place place i) held.0 names.0, results_again rs (i + 1) place held.1 names.1) refl
+-- ---- commits
 
 commit_again : (id : Option (List ℕ)) (time : ℤ) (rs : List WriteResult) (place : List ℕ) → IsTimeHeld time
     → each_at write_result_at (items_of (map result_json rs)) 0 (member_place place (codes "writeResults")) ≡ Ok rs → commit_result_at id (commit_json time rs) place ≡ Ok (Commit id time rs)
@@ -176,7 +170,7 @@ commit_result : (root : Root) (id : Option (List ℕ)) (time : ℤ) (rs : List W
 unfolding result_at
 commit_result root id time rs place t held names = commit_again id time rs place t (results_again rs 0 (member_place place (codes "writeResults")) held names)
 
-begin_result : (root : Root) (id : Option (List ℕ)) (n : ℕ) (place : List ℕ) → IsTransactionHeld n → result_at root id (begin_json n) place ≡ Ok (BeginTransaction id n)
+begin_result : (root : Root) (id : Option (List ℕ)) (n : ℕ) (place : List ℕ) → IsEightHeld n → result_at root id (begin_json n) place ≡ Ok (BeginTransaction id n)
 unfolding result_at begin_result_at
 begin_result root id n place held = rw (held (member_place place (codes "transaction"))) refl
 
@@ -206,15 +200,7 @@ query_result root id (d ∷ ds) time place held t valid = query_again root id (d
 -- ---- errors
 
 error_again : (id : Option (List ℕ)) (code : Code) (message : List ℕ) (place : List ℕ) → error_at id (error_json code message) place ≡ Ok (Error id code message)
-unfolding error_at
-error_again id InvalidArgument message place = refl
-error_again id FailedPrecondition message place = refl
-error_again id NotFound message place = refl
-error_again id AlreadyExists message place = refl
-error_again id Aborted message place = refl
-error_again id ResourceExhausted message place = refl
-error_again id Unimplemented message place = refl
-error_again id OutOfMemory message place = refl
+error_again id code message place = ap (made (λ told. Error id told.0 told.1)) (refusal_again code message place)
 
 -- ---- messages
 
@@ -244,6 +230,11 @@ listen_read : (root : Root) (d : Data) (m : ListenMessage) → is_given (codes "
 unfolding message_at
 listen_read root d m given h = rw (given, h) refl
 
+stream_read : (root : Root) (ms : Members) (m : Message) → stream_answer_at (object ms) (codes "write") ≡ Ok m
+    → message_at root (object (member (codes "write") (object ms) no_members)) ≡ Ok m
+unfolding message_at
+stream_read root ms m h = rw h refl
+
 pub message_again : (root : Root) (m : Message) → IsMessageHeld m → IsMessageOf root m → message_at root (message_json m) ≡ Ok m
 message_again root (Commit id time results) held valid =
     result_read root id (commit_json time results) (Commit id time results) refl (commit_result root id time results (codes "result") held.0 held.1 valid)
@@ -257,4 +248,6 @@ message_again root (BeginTransaction id transaction) held valid =
     result_read root id (begin_json transaction) (BeginTransaction id transaction) refl (begin_result root id transaction (codes "result") held)
 message_again root (Rollback id) held valid = result_read root id (object no_members) (Rollback id) refl (rollback_result root id (codes "result"))
 message_again root (Listen told) held valid = listen_read root (listen_json told) told (listen_given told) (listen_again root told (codes "listen") held valid)
+message_again root (Write stream token answer) held valid =
+    stream_read root (stream_answer_members stream token answer) (Write stream token answer) (stream_answer_again stream token answer (codes "write") held valid)
 message_again root (Error id code message) held valid = error_read root id code message

@@ -19,7 +19,7 @@ use Rattle.fs_rpc.specs.Id.{with_id_put}
 use Rattle.fs_rpc.specs.RequestJson.{commit_json, writes_json}
 use Rattle.fs_rpc.specs.RequestSteps.{IsWriteHeld}
 use Rattle.fs_rpc.specs.Requests.{commit_at}
-use Rattle.fs_rpc.specs.Transaction.{IsTransactionHeld}
+use Rattle.fs_rpc.specs.Eight.{IsEightHeld}
 use Rattle.fs_rpc.specs.declared.request.Request.{Request}
 use Rattle.fs_rpc.specs.declared.request.Request.TheVariants.{Commit}
 use Rattle.fs_path.proofs.Databases.{database_taken}
@@ -43,18 +43,18 @@ drafted (Err bad) place w h = absurd (cc)
 
 -- ---- writes, from this number on
 
-record AllDrafted (root : Root) (ds : Items) (i : ℕ) (place : List ℕ) (ws : List Write) : Type 0 where
-  drafts : List Draft
-  read : each_at (draft_at root) ds i place ≡ Ok drafts
-  allowed : rules_at drafts i place ≡ Ok tt
-  writes : map (λ draft. draft.write) drafts ≡ ws
+pub record AllDrafted (root : Root) (ds : Items) (i : ℕ) (place : List ℕ) (ws : List Write) : Type 0 where
+  pub drafts : List Draft
+  pub read : each_at (draft_at root) ds i place ≡ Ok drafts
+  pub allowed : rules_at drafts i place ≡ Ok tt
+  pub writes : map (λ draft. draft.write) drafts ≡ ws
 
 one_more : (root : Root) (d : Data) (w : Write) (ds : Items) (ws : List Write) (i : ℕ) (place : List ℕ) → Drafted (draft_at root d (item_place place i)) w
     → AllDrafted root ds (i + 1) place ws → AllDrafted root (item d ds) i place (w ∷ ws)
 one_more root d w ds ws i place first rest =
     record { drafts = first.draft ∷ rest.drafts; read = rw (first.read, rest.read) refl; allowed = rw first.allowed rest.allowed; writes = rw (first.write, rest.writes) refl }
 
-all_drafted : (root : Root) (ws : List Write) (i : ℕ) (place : List ℕ) → AllByRecursion IsWriteHeld ws → AllByRecursion (IsWriteOf root) ws → AllDrafted root (writes_json ws) i place ws
+pub all_drafted : (root : Root) (ws : List Write) (i : ℕ) (place : List ℕ) → AllByRecursion IsWriteHeld ws → AllByRecursion (IsWriteOf root) ws → AllDrafted root (writes_json ws) i place ws
 all_drafted root [] i place held valid = record { drafts = []; read = refl; allowed = refl; writes = refl }
 all_drafted root (w ∷ ws) i place held valid =
     let inside = item_place place i in
@@ -63,24 +63,24 @@ all_drafted root (w ∷ ws) i place held valid =
 
 -- ---- the commit
 
-judged : (root : Root) (ds : Items) (place : List ℕ) (ws : List Write) → (all : AllDrafted root ds 0 place ws) → judged_at all.drafts place ≡ Ok ws
+pub judged : (root : Root) (ds : Items) (place : List ℕ) (ws : List Write) → (all : AllDrafted root ds 0 place ws) → judged_at all.drafts place ≡ Ok ws
 judged root ds place ws all = rw (all.allowed, all.writes) refl
 
 some_again : (root : Root) (w : Write) (ws : List Write) (transaction : Option ℕ) (place : List ℕ) → IsDatabase root → AllDrafted root (writes_json (w ∷ ws)) 0 (member_place place (codes "writes")) (w ∷ ws)
-    → IfSome transaction IsTransactionHeld → commit_at root (commit_json root (w ∷ ws) transaction) place ≡ Ok (Commit root (w ∷ ws) transaction)
+    → IfSome transaction IsEightHeld → commit_at root (commit_json root (w ∷ ws) transaction) place ≡ Ok (Commit root (w ∷ ws) transaction)
 unfolding commit_at
 some_again root w ws None place named all told =
     rw ((database_taken root (database_text root)).1 (named, refl), all.read, judged root (writes_json (w ∷ ws)) (member_place place (codes "writes")) (w ∷ ws) all) refl
 some_again root w ws (Some n) place named all told =
     rw ((database_taken root (database_text root)).1 (named, refl), all.read, told (member_place place (codes "transaction")), judged root (writes_json (w ∷ ws)) (member_place place (codes "writes")) (w ∷ ws) all) refl
 
-none_again : (root : Root) (transaction : Option ℕ) (place : List ℕ) → IsDatabase root → IfSome transaction IsTransactionHeld → commit_at root (commit_json root [] transaction) place ≡ Ok (Commit root [] transaction)
+none_again : (root : Root) (transaction : Option ℕ) (place : List ℕ) → IsDatabase root → IfSome transaction IsEightHeld → commit_at root (commit_json root [] transaction) place ≡ Ok (Commit root [] transaction)
 unfolding commit_at
 none_again root None place named told = rw ((database_taken root (database_text root)).1 (named, refl)) refl
 none_again root (Some n) place named told = rw ((database_taken root (database_text root)).1 (named, refl), told (member_place place (codes "transaction"))) refl
 
 pub commit_again : (root : Root) (ws : List Write) (transaction : Option ℕ) (place : List ℕ) → IsDatabase root → AllByRecursion IsWriteHeld ws → AllByRecursion (IsWriteOf root) ws
-    → IfSome transaction IsTransactionHeld → commit_at root (commit_json root ws transaction) place ≡ Ok (Commit root ws transaction)
+    → IfSome transaction IsEightHeld → commit_at root (commit_json root ws transaction) place ≡ Ok (Commit root ws transaction)
 commit_again root [] transaction place named held valid told = none_again root transaction place named told
 commit_again root (w ∷ ws) transaction place named held valid told =
     some_again root w ws transaction place named (all_drafted root (w ∷ ws) 0 (member_place place (codes "writes")) held valid) told

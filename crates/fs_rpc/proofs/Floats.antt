@@ -12,11 +12,13 @@ use Rattle.fs_writejson.specs.Results.{result_json}
 use Rattle.fs_query.specs.declared.listen.ListenMessage.{ListenMessage}
 use Rattle.fs_query.specs.declared.listen.ListenMessage.TheVariants.{Add, Remove, Reset, Current, NoChange, Changed, Deleted, Removed}
 use Rattle.fs_rpc.specs.ListenJson.{listen_json, number_json, with_targets}
-use Rattle.fs_rpc.specs.MessageJson.{batch_answer_json, begin_json, commit_json, error_json, error_members, message_json, query_answer_json, query_answers_json, result_members}
+use Rattle.fs_rpc.specs.MessageJson.{batch_answer_json, begin_json, commit_json, error_json, error_members, message_json, query_answer_json, query_answers_json, result_members, stream_answer_json}
 use Rattle.fs_rpc.specs.declared.message.BatchAnswer.{BatchAnswer}
 use Rattle.fs_rpc.specs.declared.message.BatchAnswer.TheVariants.{Found, Missing}
+use Rattle.fs_rpc.specs.declared.message.StreamAnswer.{StreamAnswer}
+use Rattle.fs_rpc.specs.declared.message.StreamAnswer.TheVariants.{Stands, Committed, Refused}
 use Rattle.fs_rpc.specs.declared.message.Message.{Message}
-use Rattle.fs_rpc.specs.declared.message.Message.TheVariants.{Commit, GetDocument, BatchGetDocuments, RunQuery, BeginTransaction, Rollback, Listen, Error}
+use Rattle.fs_rpc.specs.declared.message.Message.TheVariants.{Commit, GetDocument, BatchGetDocuments, RunQuery, BeginTransaction, Rollback, Listen, Write, Error}
 
 -- ---- the parts of a message
 
@@ -69,6 +71,14 @@ listen_float (Changed document targets left) =
 listen_float (Deleted name time left) = rw (targets_float _ left no_members refl) refl
 listen_float (Removed name time left) = rw (targets_float _ left no_members refl) refl
 
+-- ---- write streams
+
+stream_answer_float : (stream token : ℕ) (answer : StreamAnswer) → has_float (stream_answer_json stream token answer) ≡ false
+stream_answer_float stream token Stands = refl
+stream_answer_float stream token (Committed time []) = refl
+stream_answer_float stream token (Committed time (r ∷ rs)) = rw (result_float r, results_float rs) refl
+stream_answer_float stream token (Refused code message) = refl
+
 -- ---- messages
 
 with_result : (id : Option (List ℕ)) (d : Data) → has_float d ≡ false → members_have_float (result_members id d) ≡ false
@@ -87,4 +97,5 @@ message_float (RunQuery id documents time) = with_result id _ (query_float time 
 message_float (BeginTransaction id transaction) = with_result id (begin_json transaction) refl
 message_float (Rollback id) = with_result id (object no_members) refl
 message_float (Listen told) = rw (listen_float told) refl
+message_float (Write stream token answer) = rw (stream_answer_float stream token answer) refl
 message_float (Error id code message) = with_error id (error_json code message) refl

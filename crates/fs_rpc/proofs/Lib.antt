@@ -9,7 +9,10 @@ pub mod Put
 pub mod Once
 pub mod Structured
 pub mod Numbers
+pub mod Decimals
 pub mod CommitAgain
+pub mod StreamsAgain
+pub mod StreamAnswerAgain
 pub mod GetAgain
 pub mod BatchGetAgain
 pub mod RunQueryAgain

@@ -8,29 +8,34 @@ use Rattle.fs_path.specs.Place.{member_place}
 use Rattle.fs_path.specs.declared.name.Root.{Root}
 use Rattle.fs_path.specs.declared.place.Rule.TheVariants.{G}
 use Rattle.fs_json.specs.Answer.{or_fault, ◌>>=◌}
-use Rattle.fs_json.specs.Members.{one_of_at, only_at, required_as}
-use Rattle.fs_json.specs.Scalars.{text_at}
+use Rattle.fs_json.specs.Members.{at_most_one_at, one_of_at, only_at, required_as}
 use Rattle.fs_json.specs.Paths.{document_name_at}
 use Rattle.fs_json.specs.Walk.{all_at, each_at}
 use Rattle.fs_value.specs.declared.document.Document.{Document}
-use Rattle.fs_json.proofs.Readings.{at_last_holds, either, in_turn_holds}
+use Rattle.fs_json.proofs.Readings.{at_last_holds, either, found_or, in_turn_holds}
 use Rattle.fs_json.proofs.Walks.{each_inside, list_inside}
 use Rattle.fs_json.proofs.Depths.{inside_or, one_falls}
-use Rattle.fs_json.specs.Time.{required_time_at}
+use Rattle.fs_json.specs.Time.{required_time_at, time_at}
 use Rattle.fs_valjson.proofs.Depths.{document_within}
 use Rattle.fs_valjson.specs.Document.{document_at, document_json}
 use Rattle.fs_write.specs.declared.write_result.WriteResult.{WriteResult}
 use Rattle.fs_writejson.specs.Results.{result_json, write_result_at}
 use Rattle.fs_rpc.specs.Id.{id_at}
 use Rattle.fs_rpc.specs.MessageJson.{batch_answer_json, begin_json, commit_json, error_json, error_members, message_json, query_answer_json, query_answers_json, result_members}
-use Rattle.fs_rpc.specs.ReadMessage.{answers_begin, answers_commit, answers_names, answers_rollback, begin_result_at, begin_result_members, code_named, commit_result_at, commit_result_members, documents_result_at, error_at, if_numbered, list_result_at, message_at, message_members, object_result_at, outcome_at, outcomes, query_result_at, required_integer_at, result_at, unasked_at}
-use Rattle.fs_rpc.specs.ReadMessage as read
+use Rattle.fs_rpc.specs.ReadMessage.{answers_begin, answers_commit, answers_names, answers_rollback, begin_result_at, begin_result_members, commit_result_at, commit_result_members, documents_result_at, error_at, list_result_at, message_at, message_members, no_id_at, object_result_at, outcomes, query_result_at, result_at, streamed_at, unasked_at}
+use Rattle.fs_rpc.specs.Decimal.{decimal_at}
+use Rattle.fs_rpc.specs.ReadError.{refusal_at}
+use Rattle.fs_rpc.specs.ReadStreamAnswer as stream
+use Rattle.fs_rpc.specs.ReadStreamAnswer.{stream_answer_at}
 use Rattle.fs_rpc.specs.ListenJson.{listen_json}
-use Rattle.fs_rpc.specs.ReadListen.{listen_at}
+use Rattle.fs_rpc.specs.ReadListen.{absent_at, listen_at}
 use Rattle.fs_rpc.specs.ReadResults.{answered, batch_answer_at, batch_answer_members, document_in, found_or_missing, query_answer_at, query_answer_members, results_in, answers_time}
-use Rattle.fs_rpc.specs.Transaction.{transaction_at}
+use Rattle.fs_rpc.specs.Eight.{eight_at}
 use Rattle.fs_rpc.specs.declared.message.BatchAnswer.{BatchAnswer}
 use Rattle.fs_rpc.specs.declared.message.Message.{Message}
+use Rattle.fs_rpc.specs.declared.message.Message.TheVariants.{Write}
+use Rattle.fs_rpc.specs.declared.message.StreamAnswer.{StreamAnswer}
+use Rattle.fs_rpc.specs.declared.message.StreamAnswer.TheVariants.{Stands, Committed, Refused}
 use Rattle.fs_query.specs.declared.listen.ListenMessage.{ListenMessage}
 use Rattle.fs_rpc.proofs.ListenDepth.{listen_within}
 use Rattle.fs_writejson.proofs.WriteResults.{write_result_within}
@@ -62,16 +67,19 @@ with_error : (id : Option (List ℕ)) (d : Data) (n : ℕ) → depth d ≤ n →
 with_error None d n h = omega (arith, h)
 with_error (Some id) d n h = omega (arith, h)
 
+results_within : (d : Data) (place : List ℕ) (n : ℕ) → depth d ≤ n + 3 → 0 < n → IfOk (results_in d place) (AllByRecursion (ResultWithin n))
+results_within d place n h some =
+    let inner = member_place place (codes "writeResults") in
+    inside_or (AllByRecursion (ResultWithin n)) (codes "writeResults") d place (λ x. all_at write_result_at x inner) (Ok [])
+    (λ x falls. list_inside (ResultWithin n) write_result_at x (n + 1) inner (omega (arith, falls, h)) (λ y p low. write_result_within y p n low some)) tt
+
 commit_within : (id : Option (List ℕ)) (d : Data) (place : List ℕ) (n : ℕ) → depth d ≤ n + 3 → 0 < n → IfOk (commit_result_at id d place) (IsWithin (n + 3))
 unfolding commit_result_at
 commit_within id d place n h some =
     let P = IsWithin (n + 3) in
-    let inner = member_place place (codes "writeResults") in
     at_last_holds P (only_at commit_result_members d place) _
     (λ u. at_last_holds P (required_time_at (codes "commitTime") d place) _
-    (λ time. in_turn_holds (AllByRecursion (ResultWithin n)) P (results_in d place) _
-    (inside_or (AllByRecursion (ResultWithin n)) (codes "writeResults") d place (λ x. all_at write_result_at x inner) (Ok [])
-    (λ x falls. list_inside (ResultWithin n) write_result_at x (n + 1) inner (omega (arith, falls, h)) (λ y p low. write_result_within y p n low some)) tt)
+    (λ time. in_turn_holds (AllByRecursion (ResultWithin n)) P (results_in d place) _ (results_within d place n h some)
     (λ rs each. omega (arith, with_result id (commit_json time rs) (n + 3) (commit_fits time rs n each)))))
 
 -- ---- names that were asked for
@@ -157,7 +165,7 @@ unfolding begin_result_at
 begin_within id d place n =
     let P = IsWithin (n + 3) in
     at_last_holds P (only_at begin_result_members d place) _
-    (λ u. at_last_holds P (required_as transaction_at (codes "transaction") d place) _
+    (λ u. at_last_holds P (required_as eight_at (codes "transaction") d place) _
     (λ transaction. omega (arith, with_result id (begin_json transaction) (n + 3) (omega arith))))
 
 rollback_within : (id : Option (List ℕ)) (n : ℕ) → depth (object (result_members id (object no_members))) ≤ n + 3 + 1
@@ -182,25 +190,53 @@ result_at_within root id (array ds) place n h some =
     IfOk-weaker (list_result_at root id ds place) (IsWithin (n + 2 + 1)) (IsWithin (n + 3)) (λ m is. omega (arith, is)) (list_result_within root id ds place (n + 2) (omega (arith, h)) (omega arith))
 result_at_within root id (object ms) place n h some = object_within root id (object ms) place n h some
 
+-- ---- write streams
+
+-- the results of a batch
+abbrev AnsweredWithin : ℕ → StreamAnswer → Type 0
+AnsweredWithin n Stands = Unit {0}
+AnsweredWithin n (Committed time rs) = AllByRecursion (ResultWithin n) rs
+AnsweredWithin n (Refused code message) = Unit {0}
+
+answered_fits : (stream token : ℕ) (answer : StreamAnswer) (n : ℕ) → AnsweredWithin n answer → IsWithin (n + 3) (Write stream token answer)
+answered_fits stream token Stands n each = omega arith
+answered_fits stream token (Committed time []) n each = omega arith
+answered_fits stream token (Committed time (r ∷ rs)) n each = omega (arith, results_fit (r ∷ rs) n each)
+answered_fits stream token (Refused code message) n each = omega arith
+
+told_within : (d : Data) (place : List ℕ) (n : ℕ) → depth d ≤ n + 3 → 0 < n → IfOk (stream.told_at d place) (AnsweredWithin n)
+told_within d place n h some =
+    let A = AnsweredWithin n in
+    at_last_holds A (at_most_one_at stream.batch_outcomes d place) _
+    (λ one. found_or A (λ x. stream.finished_at x.0 x.1 d place) one (stream.stands_at d place)
+    (λ x. either A (bytes_eq x.0 (codes "commitTime")) _ _
+    (at_last_holds A (time_at x.1 (member_place place (codes "commitTime"))) _
+    (λ time. in_turn_holds (AllByRecursion (ResultWithin n)) A (results_in d place) _ (results_within d place n h some) (λ rs each. each)))
+    (at_last_holds A (absent_at (codes "writeResults") d place) _ (λ u. at_last_holds A (refusal_at x.1 (member_place place (codes "error"))) _ (λ told. tt))))
+    (at_last_holds A (absent_at (codes "writeResults") d place) _ (λ u. tt)))
+
+stream_within : (id : Option (List ℕ)) (d : Data) (place : List ℕ) (n : ℕ) → depth d ≤ n + 3 → 0 < n → IfOk (streamed_at id d place) (IsWithin (n + 3))
+unfolding stream_answer_at
+stream_within id d place n h some =
+    let P = IsWithin (n + 3) in
+    at_last_holds P (no_id_at id) _
+    (λ u. at_last_holds P (only_at stream.stream_answer_members d place) _
+    (λ v. in_turn_holds (AnsweredWithin n) P (stream.told_at d place) _ (told_within d place n h some)
+    (λ answer is. at_last_holds P (required_as decimal_at (codes "streamId") d place) _
+    (λ number. at_last_holds P (required_as eight_at (codes "streamToken") d place) _ (λ token. answered_fits number token answer n is)))))
+
 -- ---- messages
 
 error_within : (root : Root) (id : Option (List ℕ)) (d : Data) (place : List ℕ) (n : ℕ) → IfOk (error_at id d place) (IsWithin (n + 3))
-unfolding error_at
 error_within root id d place n =
-    let P = IsWithin (n + 3) in
-    at_last_holds P (only_at read.error_members d place) _
-    (λ u. at_last_holds P (required_integer_at (codes "code") d place) _
-    (λ number. at_last_holds P (required_as text_at (codes "message") d place) _
-    (λ message. at_last_holds P (required_as text_at (codes "status") d place) _
-    (λ status. at_last_holds P (or_fault G (member_place place (codes "status")) (code_named status)) _
-    (λ named. at_last_holds P (or_fault G (member_place place (codes "code")) (if_numbered number named)) _
-    (λ code. let low : depth (error_json code message) ≤ n + 3 = omega arith in omega (arith, with_error id (error_json code message) (n + 3) low)))))))
+    at_last_holds (IsWithin (n + 3)) (refusal_at d place) _
+    (λ told. let low : depth (error_json told.0 told.1) ≤ n + 3 = omega arith in omega (arith, with_error id (error_json told.0 told.1) (n + 3) low))
 
 unasked_within : (root : Root) (id : Option (List ℕ)) (d : Data) (place : List ℕ) (n : ℕ) → depth d ≤ n + 3 → IfOk (unasked_at root id d place) (IsWithin (n + 3))
-unasked_within root None d place n h =
+unasked_within root id d place n h =
     let low : ListenMessage → Type 0 = λ m. depth (listen_json m) ≤ n + 3 in
-    in_turn_holds low (IsWithin (n + 3)) (listen_at root d place) _ (listen_within root d place n h) (λ m is. omega (arith, is))
-unasked_within root (Some id) d place n h = record {}
+    at_last_holds (IsWithin (n + 3)) (no_id_at id) _
+    (λ u. in_turn_holds low (IsWithin (n + 3)) (listen_at root d place) _ (listen_within root d place n h) (λ m is. omega (arith, is)))
 
 pub message_within : (root : Root) (d : Data) (n : ℕ) → depth d ≤ n + 4 → 0 < n → IfOk (message_at root d) (λ m. depth (message_json m) ≤ n + 4)
 unfolding message_at
@@ -210,4 +246,5 @@ message_within root d n h some =
     (λ u. at_last_holds (IsWithin (n + 3)) (id_at d) _
     (λ id. in_turn_holds (λ one. depth one.1 < depth d) (IsWithin (n + 3)) (one_of_at outcomes d []) _ (one_falls outcomes d [])
     (λ one falls. either (IsWithin (n + 3)) (bytes_eq one.0 (codes "result")) _ _ (result_at_within root id one.1 one.0 n (omega (arith, falls, h)) some)
-    (either (IsWithin (n + 3)) (bytes_eq one.0 (codes "listen")) _ _ (unasked_within root id one.1 one.0 n (omega (arith, falls, h))) (error_within root id one.1 one.0 n))))))
+    (either (IsWithin (n + 3)) (bytes_eq one.0 (codes "listen")) _ _ (unasked_within root id one.1 one.0 n (omega (arith, falls, h)))
+    (either (IsWithin (n + 3)) (bytes_eq one.0 (codes "write")) _ _ (stream_within id one.1 one.0 n (omega (arith, falls, h)) some) (error_within root id one.1 one.0 n)))))))

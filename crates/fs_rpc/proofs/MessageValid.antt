@@ -8,25 +8,27 @@ use Rattle.fs_path.specs.Place.{member_place}
 use Rattle.fs_path.specs.declared.name.Root.{Root}
 use Rattle.fs_path.specs.declared.place.Rule.TheVariants.{G}
 use Rattle.fs_json.specs.Answer.{or_fault}
-use Rattle.fs_json.specs.Members.{one_of_at, only_at, required_as}
-use Rattle.fs_json.specs.Scalars.{text_at}
+use Rattle.fs_json.specs.Members.{at_most_one_at, one_of_at, only_at, required_as}
 use Rattle.fs_json.specs.Paths.{document_name_at}
 use Rattle.fs_json.specs.Walk.{all_at, each_at}
 use Rattle.fs_value.specs.declared.document.Document.{Document}
 use Rattle.fs_json.proofs.Readings.{at_last_holds, either, found_or, in_turn_holds, member_holds, of_made}
 use Rattle.fs_json.proofs.Walks.{each_item, each_of_list}
 use Rattle.fs_json.proofs.Named.{document_name_is}
-use Rattle.fs_json.specs.Time.{required_time_at}
+use Rattle.fs_json.specs.Time.{required_time_at, time_at}
 use Rattle.fs_valjson.specs.Document.{document_at}
 use Rattle.fs_valjson.specs.Valid.{IsValid}
 use Rattle.fs_valjson.proofs.Valid.{document_valid}
 use Rattle.fs_rpc.specs.Id.{id_at}
-use Rattle.fs_rpc.specs.ReadMessage.{answers_begin, answers_commit, answers_names, answers_rollback, begin_result_at, begin_result_members, code_named, commit_result_at, commit_result_members, documents_result_at, error_at, if_numbered, list_result_at, message_at, message_members, object_result_at, outcome_at, outcomes, query_result_at, required_integer_at, result_at, unasked_at}
-use Rattle.fs_rpc.specs.ReadMessage as read
-use Rattle.fs_rpc.specs.ReadListen.{listen_at}
+use Rattle.fs_rpc.specs.ReadMessage.{answers_begin, answers_commit, answers_names, answers_rollback, begin_result_at, begin_result_members, commit_result_at, commit_result_members, documents_result_at, error_at, list_result_at, message_at, message_members, no_id_at, object_result_at, outcomes, query_result_at, result_at, streamed_at, unasked_at}
+use Rattle.fs_rpc.specs.Decimal.{decimal_at}
+use Rattle.fs_rpc.specs.ReadError.{refusal_at}
+use Rattle.fs_rpc.specs.ReadStreamAnswer as stream
+use Rattle.fs_rpc.specs.ReadStreamAnswer.{stream_answer_at}
+use Rattle.fs_rpc.specs.ReadListen.{absent_at, listen_at}
 use Rattle.fs_rpc.specs.ReadResults.{answered, batch_answer_at, batch_answer_members, document_in, found_at, found_or_missing, missing_at, query_answer_at, query_answer_members, results_in, answers_time}
-use Rattle.fs_rpc.specs.Transaction.{transaction_at}
-use Rattle.fs_rpc.specs.ValidMessage.{IsAnswerOf, IsListenOf, IsMessageOf}
+use Rattle.fs_rpc.specs.Eight.{eight_at}
+use Rattle.fs_rpc.specs.ValidMessage.{HasAnswerNames, IsAnswerOf, IsListenOf, IsMessageOf}
 use Rattle.fs_rpc.specs.declared.message.Message.TheVariants.{Listen}
 use Rattle.fs_rpc.proofs.ListenValid.{listen_valid}
 use Rattle.fs_writejson.proofs.WriteResults.{write_result_valid}
@@ -104,7 +106,7 @@ begin_valid : (root : Root) (id : Option (List ℕ)) (d : Data) (place : List �
 unfolding begin_result_at
 begin_valid root id d place =
     at_last_holds (IsMessageOf root) (only_at begin_result_members d place) _
-    (λ u. at_last_holds (IsMessageOf root) (required_as transaction_at (codes "transaction") d place) _ (λ transaction. tt))
+    (λ u. at_last_holds (IsMessageOf root) (required_as eight_at (codes "transaction") d place) _ (λ transaction. tt))
 
 object_valid : (root : Root) (id : Option (List ℕ)) (d : Data) (place : List ℕ) → IfOk (object_result_at root id d place) (IsMessageOf root)
 object_valid root id d place =
@@ -132,21 +134,36 @@ unfolding result_at
 result_valid root id d place =
     found_or (IsMessageOf root) (λ items. list_result_at root id items place) (as_array d) (object_result_at root id d place) (λ items. list_valid root id items place) (object_valid root id d place)
 
+-- ---- write streams
+
+told_valid : (d : Data) (place : List ℕ) → IfOk (stream.told_at d place) HasAnswerNames
+told_valid d place =
+    at_last_holds HasAnswerNames (at_most_one_at stream.batch_outcomes d place) _
+    (λ one. found_or HasAnswerNames (λ x. stream.finished_at x.0 x.1 d place) one (stream.stands_at d place)
+    (λ x. either HasAnswerNames (bytes_eq x.0 (codes "commitTime")) _ _
+    (at_last_holds HasAnswerNames (time_at x.1 (member_place place (codes "commitTime"))) _
+    (λ time. in_turn_holds (AllByRecursion ResultHasNames) HasAnswerNames (results_in d place) _ (results_valid d place) (λ results are. are)))
+    (at_last_holds HasAnswerNames (absent_at (codes "writeResults") d place) _
+    (λ u. at_last_holds HasAnswerNames (refusal_at x.1 (member_place place (codes "error"))) _ (λ told. tt))))
+    (at_last_holds HasAnswerNames (absent_at (codes "writeResults") d place) _ (λ u. tt)))
+
+stream_valid : (root : Root) (id : Option (List ℕ)) (d : Data) (place : List ℕ) → IfOk (streamed_at id d place) (IsMessageOf root)
+unfolding stream_answer_at
+stream_valid root id d place =
+    at_last_holds (IsMessageOf root) (no_id_at id) _
+    (λ u. at_last_holds (IsMessageOf root) (only_at stream.stream_answer_members d place) _
+    (λ v. in_turn_holds HasAnswerNames (IsMessageOf root) (stream.told_at d place) _ (told_valid d place)
+    (λ answer names. at_last_holds (IsMessageOf root) (required_as decimal_at (codes "streamId") d place) _
+    (λ number. at_last_holds (IsMessageOf root) (required_as eight_at (codes "streamToken") d place) _ (λ token. names)))))
+
 -- ---- messages
 
 error_valid : (root : Root) (id : Option (List ℕ)) (d : Data) (place : List ℕ) → IfOk (error_at id d place) (IsMessageOf root)
-unfolding error_at
-error_valid root id d place =
-    at_last_holds (IsMessageOf root) (only_at read.error_members d place) _
-    (λ u. at_last_holds (IsMessageOf root) (required_integer_at (codes "code") d place) _
-    (λ number. at_last_holds (IsMessageOf root) (required_as text_at (codes "message") d place) _
-    (λ message. at_last_holds (IsMessageOf root) (required_as text_at (codes "status") d place) _
-    (λ status. at_last_holds (IsMessageOf root) (or_fault G (member_place place (codes "status")) (code_named status)) _
-    (λ named. at_last_holds (IsMessageOf root) (or_fault G (member_place place (codes "code")) (if_numbered number named)) _ (λ code. tt))))))
+error_valid root id d place = at_last_holds (IsMessageOf root) (refusal_at d place) _ (λ told. tt)
 
 unasked_valid : (root : Root) (id : Option (List ℕ)) (d : Data) (place : List ℕ) → IfOk (unasked_at root id d place) (IsMessageOf root)
-unasked_valid root None d place = of_made (IsListenOf root) (IsMessageOf root) Listen (listen_at root d place) (listen_valid root d place) (λ m is. is)
-unasked_valid root (Some id) d place = record {}
+unasked_valid root id d place =
+    at_last_holds (IsMessageOf root) (no_id_at id) _ (λ u. of_made (IsListenOf root) (IsMessageOf root) Listen (listen_at root d place) (listen_valid root d place) (λ m is. is))
 
 pub message_valid : (root : Root) (d : Data) → IfOk (message_at root d) (IsMessageOf root)
 unfolding message_at
@@ -155,4 +172,5 @@ message_valid root d =
     (λ u. at_last_holds (IsMessageOf root) (id_at d) _
     (λ id. at_last_holds (IsMessageOf root) (one_of_at outcomes d []) _
     (λ one. either (IsMessageOf root) (bytes_eq one.0 (codes "result")) _ _ (result_valid root id one.1 one.0)
-    (either (IsMessageOf root) (bytes_eq one.0 (codes "listen")) _ _ (unasked_valid root id one.1 one.0) (error_valid root id one.1 one.0)))))
+    (either (IsMessageOf root) (bytes_eq one.0 (codes "listen")) _ _ (unasked_valid root id one.1 one.0)
+    (either (IsMessageOf root) (bytes_eq one.0 (codes "write")) _ _ (stream_valid root id one.1 one.0) (error_valid root id one.1 one.0))))))

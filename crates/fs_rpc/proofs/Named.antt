@@ -5,7 +5,7 @@ use Rattle.std.specs.Str.{bytes_eq}
 use Rattle.fs_status.specs.Status.{status_text}
 use Rattle.fs_status.specs.declared.code.Code.{Code}
 use Rattle.fs_status.specs.declared.code.Code.TheVariants.{InvalidArgument, FailedPrecondition, NotFound, AlreadyExists, Aborted, ResourceExhausted, Unimplemented, OutOfMemory}
-use Rattle.fs_rpc.specs.ReadMessage.{all_codes, code_named}
+use Rattle.fs_rpc.specs.ReadError.{all_codes, code_named}
 
 -- whether a text is a code's status
 abbrev names : List ℕ → Code → Bool

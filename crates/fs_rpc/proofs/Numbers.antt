@@ -1,4 +1,4 @@
--- The 8 bytes of a number are those of no other, so what is written of a transaction is read as the same.
+-- The 8 bytes of a number are those of no other, so what is written of a number is read as the same.
 use Rattle.std.proofs.Common.{◌≡◌, ◌==◌, ◌↔◌, ℕ, ◌<◌, ◌^◌, Bool, true, false, List, length, get_or, Option, Some, None, cond, refl, sym, ap, ◌∙◌, arith}
 use Rattle.std.proofs.lemmas.Bool.Decides.{nat_tests}
 use Rattle.std.proofs.lemmas.Nat.{be_bytes_8, from_be_bytes-to_be_bytes_8}
@@ -6,7 +6,7 @@ use Rattle.std.specs.Int.{w64, from_be_bytes, to_be_bytes}
 use Rattle.fs_path.specs.declared.place.Rule.TheVariants.{G}
 use Rattle.fs_json.specs.Answer.{or_fault, ◌>>=◌}
 use Rattle.fs_json.specs.Base64.{decoded}
-use Rattle.fs_rpc.specs.Transaction.{number_of, transaction_text, IsTransactionHeld}
+use Rattle.fs_rpc.specs.Eight.{number_of, eight_text, IsEightHeld}
 
 number_again : (n : ℕ) → n < 2 ^ 64 → number_of (to_be_bytes w64 n) ≡ Some n
 unfolding number_of
@@ -24,6 +24,6 @@ unfolding number_of
 number_both_ways found bytes n read each fits =
     (λ e. only_at (length bytes == 8) bytes n refl each (sym read ∙ e), λ is. read ∙ ap number_of is ∙ number_again n fits)
 
-pub transaction_again : (n : ℕ) → n < 2 ^ 64 → decoded (transaction_text n) ≡ Some (to_be_bytes w64 n) → IsTransactionHeld n
-transaction_again n fits read = λ place.
+pub eight_again : (n : ℕ) → n < 2 ^ 64 → decoded (eight_text n) ≡ Some (to_be_bytes w64 n) → IsEightHeld n
+eight_again n fits read = λ place.
     ap (λ o. or_fault G place o >>= λ bytes. or_fault G place (number_of bytes)) read ∙ ap (or_fault G place) (number_again n fits)

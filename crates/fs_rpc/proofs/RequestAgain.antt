@@ -8,11 +8,12 @@ use Rattle.fs_rpc.specs.RequestSteps.{IsRequestHeld}
 use Rattle.fs_rpc.specs.ValidRequest.{IsAddingOf, IsRequestOf}
 use Rattle.fs_rpc.specs.declared.request.Envelope.{Envelope}
 use Rattle.fs_rpc.specs.declared.request.Request.{Request}
-use Rattle.fs_rpc.specs.declared.request.Request.TheVariants.{Commit, GetDocument, BatchGetDocuments, RunQuery, BeginTransaction, Rollback, AddTarget, RemoveTarget}
+use Rattle.fs_rpc.specs.declared.request.Request.TheVariants.{Commit, GetDocument, BatchGetDocuments, RunQuery, BeginTransaction, Rollback, AddTarget, RemoveTarget, Write}
 use Rattle.fs_rpc.proofs.BatchGetAgain.{batch_get_again, batch_get_read}
 use Rattle.fs_rpc.proofs.CommitAgain.{commit_again, commit_read}
 use Rattle.fs_rpc.proofs.GetAgain.{get_again, get_read}
 use Rattle.fs_rpc.proofs.RunQueryAgain.{run_query_again, run_query_read}
+use Rattle.fs_rpc.proofs.StreamsAgain.{stream_again, stream_read}
 use Rattle.fs_rpc.proofs.TargetsAgain.{listen_add_again, listen_read, listen_remove_again}
 use Rattle.fs_rpc.proofs.TransactionAgain.{begin_again, begin_read, rollback_again, rollback_read}
 
@@ -40,6 +41,9 @@ content_again root (AddTarget database id t token) held valid =
 content_again root (RemoveTarget database id) held valid =
     subst (λ d. request_at root (codes "listen") (request_json (RemoveTarget d id)) ≡ Ok (RemoveTarget d id)) (sym valid.same)
     (listen_remove_again root id (codes "listen") valid.named held)
+content_again root (Write database asked) held valid =
+    subst (λ d. request_at root (codes "write") (request_json (Write d asked)) ≡ Ok (Write d asked)) (sym valid.database.same)
+    (stream_again root asked (codes "write") valid.database.named held valid.asked)
 
 -- a request with this id
 abbrev with_id : Option (List ℕ) → Request → Envelope
@@ -54,6 +58,7 @@ read_again root id (BeginTransaction database options) h = begin_read root id _ 
 read_again root id (Rollback database transaction) h = rollback_read root id _ (Rollback database transaction) h
 read_again root id (AddTarget database n t token) h = listen_read root id _ (AddTarget database n t token) h
 read_again root id (RemoveTarget database n) h = listen_read root id _ (RemoveTarget database n) h
+read_again root id (Write database asked) h = stream_read root id _ (Write database asked) h
 
 pub envelope_again : (root : Root) (e : Envelope) → IsRequestHeld e.request → IsRequestOf root e.request → envelope_at root (envelope_json e) ≡ Ok e
 envelope_again root e held valid = read_again root e.id e.request (content_again root e.request held valid)

@@ -27,16 +27,19 @@ use Rattle.fs_rpc.specs.Envelope.{envelope_at}
 use Rattle.fs_rpc.specs.Id.{id_at}
 use Rattle.fs_rpc.specs.Methods.{envelope_head, methods}
 use Rattle.fs_rpc.specs.Options.{options_in}
-use Rattle.fs_rpc.specs.ReadTargets.{listen_request_at}
-use Rattle.fs_rpc.specs.RequestJson.{envelope_json, name_json, with_mask, writes_json, writes_member}
+use Rattle.fs_rpc.specs.ReadStreams.{asked_with, stream_in, stream_request_at, token_for, write_members}
+use Rattle.fs_rpc.specs.ReadTargets.{labels_in, listen_request_at}
+use Rattle.fs_rpc.specs.RequestJson.{envelope_json, name_json, stream_of, token_of, with_mask, with_stream, writes_json, writes_member, writes_of}
 use Rattle.fs_rpc.specs.Requests.{batch_get_at, batch_get_members, begin_at, begin_members, commit_at, commit_members, database_at, drafts_in, get_at, get_members, mask_in, names_at, parent_at, rollback_at, rollback_members, run_query_at, run_query_members, structured_at}
-use Rattle.fs_rpc.specs.Transaction.{optional_transaction_at, transaction_at, with_transaction}
+use Rattle.fs_rpc.specs.Eight.{optional_eight_at, eight_at, with_eight}
 use Rattle.fs_rpc.specs.When.{time_of, transaction_of, when_at, with_read_time, with_when}
 use Rattle.fs_rpc.specs.declared.options.TransactionOptions.{TransactionOptions}
 use Rattle.fs_rpc.specs.declared.options.TransactionOptions.TheVariants.{ReadWrite, ReadOnly}
 use Rattle.fs_rpc.specs.declared.request.Envelope.{Envelope}
 use Rattle.fs_rpc.specs.declared.request.Request.{Request}
 use Rattle.fs_rpc.specs.declared.request.Request.TheVariants.{Commit, GetDocument, BatchGetDocuments, RunQuery, BeginTransaction, Rollback, AddTarget, RemoveTarget}
+use Rattle.fs_rpc.specs.declared.request.Request.TheVariants as requests
+use Rattle.fs_rpc.specs.declared.stream_request.StreamRequest.{StreamRequest}
 use Rattle.fs_rpc.specs.declared.when.When.{When}
 use Rattle.fs_rpc.proofs.TargetsDepth.{IsWithin, listen_within, names_flat}
 
@@ -46,12 +49,12 @@ time_fits : (time : Option ℤ) (rest : Members) (n : ℕ) → members_depth res
 time_fits None rest n h = h
 time_fits (Some time) rest n h = omega (arith, h)
 
-transaction_fits : (transaction : Option ℕ) (rest : Members) (n : ℕ) → members_depth rest ≤ n → members_depth (with_transaction transaction rest) ≤ n
-transaction_fits None rest n h = h
-transaction_fits (Some transaction) rest n h = omega (arith, h)
+eight_fits : (name : List ℕ) (number : Option ℕ) (rest : Members) (n : ℕ) → members_depth rest ≤ n → members_depth (with_eight name number rest) ≤ n
+eight_fits name None rest n h = h
+eight_fits name (Some number) rest n h = omega (arith, h)
 
 when_fits : (when : When) (rest : Members) (n : ℕ) → members_depth rest ≤ n → members_depth (with_when when rest) ≤ n
-when_fits when rest n h = time_fits (time_of when) (with_transaction (transaction_of when) rest) n (transaction_fits (transaction_of when) rest n h)
+when_fits when rest n h = time_fits (time_of when) (with_eight (codes "transaction") (transaction_of when) rest) n (eight_fits (codes "transaction") (transaction_of when) rest n h)
 
 mask_fits : (mask : Option (List FieldPath)) (rest : Members) (n : ℕ) → members_depth rest ≤ n + 2 → members_depth (with_mask mask rest) ≤ n + 2
 mask_fits None rest n h = h
@@ -68,7 +71,7 @@ member_fits [] n each = omega arith
 member_fits (w ∷ ws) n each = omega (arith, each.0, writes_fit ws n each.1)
 
 commit_fits : (root : Root) (ws : List Write) (transaction : Option ℕ) (n : ℕ) → AllByRecursion (λ w. depth (write_json w) ≤ n) ws → IsWithin (n + 2) (Commit root ws transaction)
-commit_fits root ws transaction n each = omega (arith, transaction_fits transaction (writes_member ws) (n + 1) (member_fits ws n each))
+commit_fits root ws transaction n each = omega (arith, eight_fits (codes "transaction") transaction (writes_member ws) (n + 1) (member_fits ws n each))
 
 commit_within : (root : Root) (d : Data) (place : List ℕ) (n : ℕ) → depth d ≤ n + 5 → 0 < n → IfOk (commit_at root d place) (IsWithin (n + 5))
 unfolding commit_at
@@ -80,9 +83,45 @@ commit_within root d place n h some =
     (λ u. at_last_holds P (database_at root d place) _
     (λ v. in_turn_holds D P (drafts_in root d place) _
     (inside_or D (codes "writes") d place (λ x. drafts_at root x inner) (Ok []) (λ x falls. drafts_within root x inner n (omega (arith, falls, h)) some) tt)
-    (λ drafts are. at_last_holds P (optional_transaction_at (codes "transaction") d place) _
+    (λ drafts are. at_last_holds P (optional_eight_at (codes "transaction") d place) _
     (λ transaction. in_turn_holds (AllByRecursion (λ x. depth (write_json x) ≤ n + 3)) P (judged_at drafts inner) _ (judged_within drafts inner (n + 3) are)
     (λ writes each. omega (arith, commit_fits root writes transaction (n + 3) each))))))
+
+-- ---- write streams
+
+stream_fits : (stream : Option ℕ) (rest : Members) (n : ℕ) → members_depth rest ≤ n → members_depth (with_stream stream rest) ≤ n
+stream_fits None rest n h = h
+stream_fits (Some stream) rest n h = omega (arith, h)
+
+asked_fits : (root : Root) (asked : StreamRequest) (n : ℕ) → AllByRecursion (λ w. depth (write_json w) ≤ n) (writes_of asked) → IsWithin (n + 2) (requests.Write root asked)
+asked_fits root asked n each =
+    let behind = with_eight (codes "streamToken") (token_of asked) (writes_member (writes_of asked)) in
+    omega (arith, stream_fits (stream_of asked) behind (n + 1) (eight_fits (codes "streamToken") (token_of asked) (writes_member (writes_of asked)) (n + 1) (member_fits (writes_of asked) n each)))
+
+-- what is asked has the writes that are there, or none
+asked_each : (P : Write → Type 0) (stream token : Option ℕ) (ws : List Write) → AllByRecursion P ws → AllByRecursion P (writes_of (asked_with stream token ws))
+asked_each P stream None ws each = tt
+asked_each P None (Some token) [] each = tt
+asked_each P None (Some token) (w ∷ ws) each = each
+asked_each P (Some stream) (Some token) [] each = tt
+asked_each P (Some stream) (Some token) (w ∷ ws) each = each
+
+stream_within : (root : Root) (d : Data) (place : List ℕ) (n : ℕ) → depth d ≤ n + 5 → 0 < n → IfOk (stream_request_at root d place) (IsWithin (n + 5))
+unfolding stream_request_at
+stream_within root d place n h some =
+    let P = IsWithin (n + 5) in
+    let inner = member_place place (codes "writes") in
+    let D : List Draft → Type 0 = AllByRecursion (λ draft. depth (write_json draft.write) ≤ n + 3) in
+    let W : Write → Type 0 = λ x. depth (write_json x) ≤ n + 3 in
+    at_last_holds P (only_at write_members d place) _
+    (λ u. at_last_holds P (database_at root d place) _
+    (λ v. at_last_holds P (stream_in d place) _
+    (λ stream. in_turn_holds D P (drafts_in root d place) _
+    (inside_or D (codes "writes") d place (λ x. drafts_at root x inner) (Ok []) (λ x falls. drafts_within root x inner n (omega (arith, falls, h)) some) tt)
+    (λ drafts are. at_last_holds P (token_for stream drafts d place) _
+    (λ token. at_last_holds P (labels_in d place) _
+    (λ labels. in_turn_holds (AllByRecursion W) P (judged_at drafts inner) _ (judged_within drafts inner (n + 3) are)
+    (λ writes each. omega (arith, asked_fits root (asked_with stream token writes) (n + 3) (asked_each W stream token writes each)))))))))
 
 -- ---- reads
 
@@ -119,9 +158,9 @@ batch_get_within root d place n =
 
 query_fits : (root : Root) (q : Asked) (when : When) (n : ℕ) → depth (query_json q) ≤ n → IsWithin (n + 1) (RunQuery root q when)
 query_fits root q when n h =
-    let behind = with_transaction (transaction_of when) no_members in
+    let behind = with_eight (codes "transaction") (transaction_of when) no_members in
     let rest = member (codes "structuredQuery") (query_json q) behind in
-    let all : members_depth rest ≤ n = omega (arith, h, transaction_fits (transaction_of when) no_members n (omega arith)) in
+    let all : members_depth rest ≤ n = omega (arith, h, eight_fits (codes "transaction") (transaction_of when) no_members n (omega arith)) in
     omega (arith, time_fits (time_of when) rest n all)
 
 structured_within : (parent : List (List ℕ)) (d : Data) (place : List ℕ) (n : ℕ) → depth d ≤ n + 5 → IfOk (structured_at parent d place) (λ asked. depth (query_json asked.0) ≤ n + 4)
@@ -165,7 +204,7 @@ rollback_within root d place n =
     let P = IsWithin (n + 5) in
     at_last_holds P (only_at rollback_members d place) _
     (λ u. at_last_holds P (database_at root d place) _
-    (λ v. at_last_holds P (required_as transaction_at (codes "transaction") d place) _ (λ transaction. omega arith)))
+    (λ v. at_last_holds P (required_as eight_at (codes "transaction") d place) _ (λ transaction. omega arith)))
 
 -- ---- requests with their ids
 
@@ -179,7 +218,8 @@ request_within root method d n h some =
     (either P (bytes_eq method (codes "beginTransaction")) _ _ (begin_within root d method n)
     (either P (bytes_eq method (codes "rollback")) _ _ (rollback_within root d method n)
     (either P (bytes_eq method (codes "listen")) _ _
-    (IfOk-weaker (listen_request_at root d method) (IsWithin (n - 2 + 7)) P (λ r is. omega (arith, is)) (listen_within root d method (n - 2) (omega (arith, h)))) (record {})))))))
+    (IfOk-weaker (listen_request_at root d method) (IsWithin (n - 2 + 7)) P (λ r is. omega (arith, is)) (listen_within root d method (n - 2) (omega (arith, h))))
+    (either P (bytes_eq method (codes "write")) _ _ (stream_within root d method n h (omega arith)) (record {}))))))))
 
 envelope_fits : (id : Option (List ℕ)) (r : Request) (n : ℕ) → IsWithin n r → depth (envelope_json (record { id = id; request = r })) ≤ n + 1
 envelope_fits None r n h = omega (arith, h)
@@ -191,6 +231,7 @@ envelope_fits (Some id) (BeginTransaction root options) n h = omega (arith, h)
 envelope_fits (Some id) (Rollback root transaction) n h = omega (arith, h)
 envelope_fits (Some id) (AddTarget root k t token) n h = omega (arith, h)
 envelope_fits (Some id) (RemoveTarget root k) n h = omega (arith, h)
+envelope_fits (Some id) (requests.Write root asked) n h = omega (arith, h)
 
 pub envelope_within : (root : Root) (d : Data) (n : ℕ) → depth d ≤ n + 6 → 1 < n → IfOk (envelope_at root d) (λ e. depth (envelope_json e) ≤ n + 6)
 unfolding envelope_at

@@ -15,14 +15,15 @@ use Rattle.fs_query.specs.declared.target.Target.{Target}
 use Rattle.fs_query.specs.declared.target.Target.TheVariants as target
 use Rattle.fs_write.specs.declared.write.Write.{Write}
 use Rattle.fs_rpc.specs.Id.{with_id_put}
-use Rattle.fs_rpc.specs.RequestJson.{envelope_json, envelope_members, method_of, names_json, request_json, with_mask, with_target, with_token, writes_json, writes_member}
+use Rattle.fs_rpc.specs.RequestJson.{envelope_json, envelope_members, method_of, names_json, request_json, stream_of, token_of, with_mask, with_stream, with_target, with_token, writes_json, writes_member, writes_of}
 use Rattle.fs_rpc.specs.RequestSteps.{IsMaskHeld, IsRequestHeld, IsTargetHeld, IsWriteHeld}
-use Rattle.fs_rpc.specs.Transaction.{with_transaction}
+use Rattle.fs_rpc.specs.Eight.{with_eight}
 use Rattle.fs_rpc.specs.When.{time_of, transaction_of, with_read_time, with_when}
 use Rattle.fs_rpc.specs.declared.options.TransactionOptions.TheVariants.{ReadWrite, ReadOnly}
 use Rattle.fs_rpc.specs.declared.request.Envelope.{Envelope}
 use Rattle.fs_rpc.specs.declared.request.Request.{Request}
 use Rattle.fs_rpc.specs.declared.request.Request.TheVariants.{Commit, GetDocument, BatchGetDocuments, RunQuery, BeginTransaction, Rollback, AddTarget, RemoveTarget}
+use Rattle.fs_rpc.specs.declared.request.Request.TheVariants as requests
 use Rattle.fs_rpc.specs.declared.when.When.{When}
 
 -- ---- the parts of a request
@@ -47,12 +48,16 @@ time_float : (time : Option ℤ) (rest : Members) → members_have_float rest �
 time_float None rest h = h
 time_float (Some time) rest h = h
 
-transaction_float : (transaction : Option ℕ) (rest : Members) → members_have_float rest ≡ false → members_have_float (with_transaction transaction rest) ≡ false
-transaction_float None rest h = h
-transaction_float (Some n) rest h = h
+eight_float : (name : List ℕ) (n : Option ℕ) (rest : Members) → members_have_float rest ≡ false → members_have_float (with_eight name n rest) ≡ false
+eight_float name None rest h = h
+eight_float name (Some n) rest h = h
 
 when_float : (when : When) (rest : Members) → members_have_float rest ≡ false → members_have_float (with_when when rest) ≡ false
-when_float when rest h = time_float (time_of when) (with_transaction (transaction_of when) rest) (transaction_float (transaction_of when) rest h)
+when_float when rest h = time_float (time_of when) (with_eight (codes "transaction") (transaction_of when) rest) (eight_float _ (transaction_of when) rest h)
+
+stream_float : (stream : Option ℕ) (rest : Members) → members_have_float rest ≡ false → members_have_float (with_stream stream rest) ≡ false
+stream_float None rest h = h
+stream_float (Some n) rest h = h
 
 target_float : (root : Root) (t : Target) (rest : Members) → IsTargetHeld t → members_have_float rest ≡ false → members_have_float (with_target root t rest) ≡ false
 target_float root (target.Query q) rest held h = rw (held.float, h) refl
@@ -63,18 +68,20 @@ token_float None rest h = h
 token_float (Some token) rest h = h
 
 content_float : (r : Request) → IsRequestHeld r → has_float (request_json r) ≡ false
-content_float (Commit database writes transaction) held = transaction_float transaction (writes_member writes) (member_float writes held.0)
+content_float (Commit database writes transaction) held = eight_float _ transaction (writes_member writes) (member_float writes held.0)
 content_float (GetDocument name mask when) held = mask_float mask _ held.0 (when_float when no_members refl)
 content_float (BatchGetDocuments database documents mask when) held =
     rw (names_float documents, mask_float mask (with_when when no_members) held.0 (when_float when no_members refl)) refl
 content_float (RunQuery database query when) held =
-    time_float (time_of when) _ (rw (held.0.float, transaction_float (transaction_of when) no_members refl) refl)
+    time_float (time_of when) _ (rw (held.0.float, eight_float _ (transaction_of when) no_members refl) refl)
 content_float (BeginTransaction database ReadWrite) held = refl
 content_float (BeginTransaction database (ReadOnly time)) held = rw (time_float time no_members refl) refl
 content_float (Rollback database transaction) held = refl
 content_float (AddTarget database id t token) held = rw (target_float database t _ held.0 (token_float token _ refl)) refl
 content_float (RemoveTarget database (pos n)) held = refl
 content_float (RemoveTarget database (negsuc n)) held = refl
+content_float (requests.Write database asked) held =
+    stream_float (stream_of asked) _ (eight_float (codes "streamToken") (token_of asked) (writes_member (writes_of asked)) (member_float (writes_of asked) held.writes))
 
 -- ---- members that are put in
 

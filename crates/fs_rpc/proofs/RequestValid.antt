@@ -1,5 +1,5 @@
 -- What is read as a request is a request of the root's documents.
-use Rattle.std.proofs.Common.{ℕ, List, [], IfOk, codes, bytes_eq, refl, sym, subst}
+use Rattle.std.proofs.Common.{ℕ, List, [], ◌∷◌, Option, Some, None, IfOk, codes, bytes_eq, refl, sym, subst}
 use Rattle.std.specs.List.{AllByRecursion}
 use Rattle.serde_json.specs.Data.{Data}
 use Rattle.fs_path.specs.Database.{IsDatabase}
@@ -15,6 +15,7 @@ use Rattle.fs_queryjson.specs.Valid.{IsReadBelow, IsWalked}
 use Rattle.fs_queryjson.proofs.QueryValid.{permitted_valid, walked_valid}
 use Rattle.fs_json.proofs.Readings.{at_last_holds, either, in_turn_holds, member_holds}
 use Rattle.fs_json.proofs.Named.{document_name_is, parent_is}
+use Rattle.fs_write.specs.declared.write.Write.{Write}
 use Rattle.fs_writejson.specs.Draft.{drafts_at}
 use Rattle.fs_writejson.specs.Rules.{judged_at}
 use Rattle.fs_writejson.specs.Valid.{IsDraftOf, IsWriteOf}
@@ -23,8 +24,10 @@ use Rattle.fs_writejson.proofs.WriteValid.{drafts_valid}
 use Rattle.fs_rpc.specs.ByMethod.{request_at}
 use Rattle.fs_rpc.specs.Options.{options_in}
 use Rattle.fs_rpc.specs.Requests.{batch_get_at, batch_get_members, begin_at, begin_members, commit_at, commit_members, database_at, drafts_in, get_at, get_members, mask_in, names_at, parent_at, rollback_at, rollback_members, run_query_at, run_query_members, structured_at}
-use Rattle.fs_rpc.specs.Transaction.{optional_transaction_at, transaction_at}
-use Rattle.fs_rpc.specs.ValidRequest.{IsRequestOf}
+use Rattle.fs_rpc.specs.Eight.{optional_eight_at, eight_at}
+use Rattle.fs_rpc.specs.ReadStreams.{asked_with, stream_in, stream_request_at, token_for, write_members}
+use Rattle.fs_rpc.specs.ReadTargets.{labels_in}
+use Rattle.fs_rpc.specs.ValidRequest.{IsAskedOf, IsRequestOf}
 use Rattle.fs_rpc.specs.When.{when_at}
 use Rattle.fs_rpc.specs.declared.when.When.{When}
 use Rattle.fs_rpc.proofs.NamesValid.{AreNames, database_valid, names_valid}
@@ -42,7 +45,7 @@ commit_valid root d place =
     at_last_holds (IsRequestOf root) (only_at commit_members d place) _
     (λ u. in_turn_holds (λ v. IsDatabase root) (IsRequestOf root) (database_at root d place) _ (database_valid root d place)
     (λ v named. in_turn_holds (AllByRecursion (IsDraftOf root)) (IsRequestOf root) (drafts_in root d place) _ (drafts_in_valid root d place)
-    (λ drafts are. at_last_holds (IsRequestOf root) (optional_transaction_at (codes "transaction") d place) _
+    (λ drafts are. at_last_holds (IsRequestOf root) (optional_eight_at (codes "transaction") d place) _
     (λ transaction. in_turn_holds (AllByRecursion (IsWriteOf root)) (IsRequestOf root) (judged_at drafts (member_place place (codes "writes"))) _
     (judged_valid root drafts (member_place place (codes "writes")) are) (λ writes allowed. record { same = refl; named = named; allowed = allowed })))))
 
@@ -97,7 +100,28 @@ unfolding rollback_at
 rollback_valid root d place =
     at_last_holds (IsRequestOf root) (only_at rollback_members d place) _
     (λ u. in_turn_holds (λ v. IsDatabase root) (IsRequestOf root) (database_at root d place) _ (database_valid root d place)
-    (λ v named. at_last_holds (IsRequestOf root) (required_as transaction_at (codes "transaction") d place) _ (λ transaction. record { same = refl; named = named })))
+    (λ v named. at_last_holds (IsRequestOf root) (required_as eight_at (codes "transaction") d place) _ (λ transaction. record { same = refl; named = named })))
+
+-- what is asked of a stream: there is a batch only where there are writes
+asked_valid : (root : Root) (stream token : Option ℕ) (ws : List Write) → AllByRecursion (IsWriteOf root) ws → IsAskedOf root (asked_with stream token ws)
+asked_valid root stream None ws allowed = tt
+asked_valid root None (Some token) [] allowed = tt
+asked_valid root None (Some token) (w ∷ ws) allowed = (allowed, λ e. cc)
+asked_valid root (Some stream) (Some token) [] allowed = tt
+asked_valid root (Some stream) (Some token) (w ∷ ws) allowed = (allowed, λ e. cc)
+
+stream_valid : (root : Root) (d : Data) (place : List ℕ) → IfOk (stream_request_at root d place) (IsRequestOf root)
+unfolding stream_request_at
+stream_valid root d place =
+    let inside = member_place place (codes "writes") in
+    at_last_holds (IsRequestOf root) (only_at write_members d place) _
+    (λ u. in_turn_holds (λ v. IsDatabase root) (IsRequestOf root) (database_at root d place) _ (database_valid root d place)
+    (λ v named. at_last_holds (IsRequestOf root) (stream_in d place) _
+    (λ stream. in_turn_holds (AllByRecursion (IsDraftOf root)) (IsRequestOf root) (drafts_in root d place) _ (drafts_in_valid root d place)
+    (λ drafts are. at_last_holds (IsRequestOf root) (token_for stream drafts d place) _
+    (λ token. at_last_holds (IsRequestOf root) (labels_in d place) _
+    (λ labels. in_turn_holds (AllByRecursion (IsWriteOf root)) (IsRequestOf root) (judged_at drafts inside) _ (judged_valid root drafts inside are)
+    (λ writes allowed. record { database = record { same = refl; named = named }; asked = asked_valid root stream token writes allowed })))))))
 
 -- what stands under a method
 pub request_valid : (root : Root) (method : List ℕ) (d : Data) → IfOk (request_at root method d) (IsRequestOf root)
@@ -108,4 +132,5 @@ request_valid root method d =
     (either (IsRequestOf root) (bytes_eq method (codes "runQuery")) _ _ (run_query_valid root d method)
     (either (IsRequestOf root) (bytes_eq method (codes "beginTransaction")) _ _ (begin_valid root d method)
     (either (IsRequestOf root) (bytes_eq method (codes "rollback")) _ _ (rollback_valid root d method)
-    (either (IsRequestOf root) (bytes_eq method (codes "listen")) _ _ (listen_request_valid root d method) (record {})))))))
+    (either (IsRequestOf root) (bytes_eq method (codes "listen")) _ _ (listen_request_valid root d method)
+    (either (IsRequestOf root) (bytes_eq method (codes "write")) _ _ (stream_valid root d method) (record {}))))))))

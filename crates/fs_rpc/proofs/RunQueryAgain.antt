@@ -16,7 +16,7 @@ use Rattle.fs_rpc.specs.Id.{with_id_put}
 use Rattle.fs_rpc.specs.RequestJson.{run_query_json}
 use Rattle.fs_rpc.specs.RequestSteps.{IsWhenHeld}
 use Rattle.fs_rpc.specs.Requests.{run_query_at, structured_at}
-use Rattle.fs_rpc.specs.Transaction.{with_transaction}
+use Rattle.fs_rpc.specs.Eight.{with_eight}
 use Rattle.fs_rpc.specs.When.{time_of, transaction_of, when_at, with_read_time}
 use Rattle.fs_rpc.specs.declared.request.Request.{Request}
 use Rattle.fs_rpc.specs.declared.request.Request.TheVariants.{RunQuery}
@@ -41,7 +41,7 @@ permitted_again parent d s place q when (Err bad) there told is h = absurd (cc)
 -- the members of a request whose query is this
 abbrev asked_by : List ℕ → When → Data → Data
 asked_by parent when s =
-    object (member (codes "parent") (string parent) (with_read_time (time_of when) (member (codes "structuredQuery") s (with_transaction (transaction_of when) no_members))))
+    object (member (codes "parent") (string parent) (with_read_time (time_of when) (member (codes "structuredQuery") s (with_eight (codes "transaction") (transaction_of when) no_members))))
 
 query_there : (parent : List ℕ) (when : When) (s : Data) (place : List ℕ) → is_given (codes "structuredQuery") s ≡ true
     → required_at (codes "structuredQuery") (asked_by parent when s) place ≡ Ok s

@@ -20,7 +20,7 @@ use Rattle.fs_rpc.specs.ReadTargets.{add_target_at, add_target_members, change_n
 use Rattle.fs_rpc.specs.RequestJson.{names_json, request_json, with_target, with_token}
 use Rattle.fs_rpc.specs.Requests.{database_at, names_at, parent_at}
 use Rattle.fs_rpc.specs.declared.request.Request.{Request}
-use Rattle.fs_rpc.specs.declared.request.Request.TheVariants.{Commit, GetDocument, BatchGetDocuments, RunQuery, BeginTransaction, Rollback, AddTarget, RemoveTarget}
+use Rattle.fs_rpc.specs.declared.request.Request.TheVariants.{Commit, GetDocument, BatchGetDocuments, RunQuery, BeginTransaction, Rollback, AddTarget, RemoveTarget, Write}
 
 -- what is written under the method
 abbrev pub IsWithin : ℕ → Request → Type 0
@@ -119,6 +119,7 @@ permitted_within (BatchGetDocuments database documents mask when) place n h = h
 permitted_within (RunQuery database query when) place n h = h
 permitted_within (BeginTransaction database options) place n h = h
 permitted_within (Rollback database transaction) place n h = h
+permitted_within (Write database asked) place n h = h
 
 pub listen_within : (root : Root) (d : Data) (place : List ℕ) (n : ℕ) → depth d ≤ n + 7 → IfOk (listen_request_at root d place) (IsWithin (n + 7))
 unfolding listen_request_at

@@ -26,7 +26,7 @@ use Rattle.fs_rpc.specs.Requests.{database_at, names_at, parent_at}
 use Rattle.fs_rpc.specs.ValidMessage.{IsSmall}
 use Rattle.fs_rpc.specs.ValidRequest.{IsRequestOf, IsTargetOf}
 use Rattle.fs_rpc.specs.declared.request.Request.{Request}
-use Rattle.fs_rpc.specs.declared.request.Request.TheVariants.{Commit, GetDocument, BatchGetDocuments, RunQuery, BeginTransaction, Rollback, AddTarget, RemoveTarget}
+use Rattle.fs_rpc.specs.declared.request.Request.TheVariants.{Commit, GetDocument, BatchGetDocuments, RunQuery, BeginTransaction, Rollback, AddTarget, RemoveTarget, Write}
 use Rattle.fs_rpc.proofs.ListenValid.{number_small}
 use Rattle.fs_rpc.proofs.NamesValid.{AreNames, database_valid, names_valid}
 
@@ -89,6 +89,7 @@ IsChangeOf root (BatchGetDocuments database documents mask when) = ⊥
 IsChangeOf root (RunQuery database query when) = ⊥
 IsChangeOf root (BeginTransaction database options) = ⊥
 IsChangeOf root (Rollback database transaction) = ⊥
+IsChangeOf root (Write database asked) = ⊥
 
 add_valid : (root : Root) (d : Data) (place : List ℕ) → IfOk (add_target_at root d place) (IsChangeOf root)
 unfolding add_target_at
@@ -136,6 +137,7 @@ permitted_valid root (BatchGetDocuments database documents mask when) place name
 permitted_valid root (RunQuery database query when) place named is = absurd is
 permitted_valid root (BeginTransaction database options) place named is = absurd is
 permitted_valid root (Rollback database transaction) place named is = absurd is
+permitted_valid root (Write database asked) place named is = absurd is
 
 pub listen_request_valid : (root : Root) (d : Data) (place : List ℕ) → IfOk (listen_request_at root d place) (IsRequestOf root)
 unfolding listen_request_at

@@ -10,7 +10,7 @@ use Rattle.fs_rpc.specs.Options.{options_at, options_json, read_only_at, read_wr
 use Rattle.fs_rpc.specs.RequestJson.{begin_json, rollback_json}
 use Rattle.fs_rpc.specs.RequestSteps.{AreOptionsHeld}
 use Rattle.fs_rpc.specs.Requests.{begin_at, rollback_at}
-use Rattle.fs_rpc.specs.Transaction.{IsTransactionHeld}
+use Rattle.fs_rpc.specs.Eight.{IsEightHeld}
 use Rattle.fs_rpc.specs.declared.options.TransactionOptions.{TransactionOptions}
 use Rattle.fs_rpc.specs.declared.options.TransactionOptions.TheVariants.{ReadWrite, ReadOnly}
 use Rattle.fs_rpc.specs.declared.request.Request.{Request}
@@ -31,7 +31,7 @@ begin_again root ReadWrite place named held =
 begin_again root (ReadOnly time) place named held =
     rw ((database_taken root (database_text root)).1 (named, refl), options_again (ReadOnly time) (member_place place (codes "options")) held) refl
 
-pub rollback_again : (root : Root) (n : ℕ) (place : List ℕ) → IsDatabase root → IsTransactionHeld n → rollback_at root (rollback_json root n) place ≡ Ok (Rollback root n)
+pub rollback_again : (root : Root) (n : ℕ) (place : List ℕ) → IsDatabase root → IsEightHeld n → rollback_at root (rollback_json root n) place ≡ Ok (Rollback root n)
 unfolding rollback_at
 rollback_again root n place named held = rw ((database_taken root (database_text root)).1 (named, refl), held (member_place place (codes "transaction"))) refl
 

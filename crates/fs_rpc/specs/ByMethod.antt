@@ -5,6 +5,7 @@ use Rattle.serde_json.specs.Data.{Data}
 use Rattle.fs_path.specs.declared.name.Root.{Root}
 use Rattle.fs_json.specs.declared.bad.Bad.{Bad}
 use Rattle.fs_json.specs.declared.bad.Bad.TheVariants.{Method}
+use Rattle.fs_rpc.specs.ReadStreams.{stream_request_at}
 use Rattle.fs_rpc.specs.ReadTargets.{listen_request_at}
 use Rattle.fs_rpc.specs.Requests.{batch_get_at, begin_at, commit_at, get_at, rollback_at, run_query_at}
 use Rattle.fs_rpc.specs.declared.request.Request.{Request}
@@ -18,4 +19,5 @@ request_at root method d =
     else if bytes_eq method (codes "beginTransaction") then begin_at root d method
     else if bytes_eq method (codes "rollback") then rollback_at root d method
     else if bytes_eq method (codes "listen") then listen_request_at root d method
+    else if bytes_eq method (codes "write") then stream_request_at root d method
     else Err (Method method)

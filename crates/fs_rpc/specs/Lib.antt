@@ -1,4 +1,6 @@
 pub mod ByMethod
+pub mod Decimal
+pub mod Eight
 pub mod Envelope
 pub mod Id
 pub mod ListenJson
@@ -6,15 +8,17 @@ pub mod MessageJson
 pub mod MessageSteps
 pub mod Methods
 pub mod Options
+pub mod ReadError
 pub mod ReadListen
 pub mod ReadMessage
 pub mod ReadResults
+pub mod ReadStreamAnswer
+pub mod ReadStreams
 pub mod ReadTargets
 pub mod RequestJson
 pub mod RequestSteps
 pub mod Requests
 pub mod Steps
-pub mod Transaction
 pub mod ValidMessage
 pub mod ValidRequest
 pub mod When

@@ -1,11 +1,14 @@
 -- The JSON of messages. On a line of a transcript each has its session too, at its place in the order of names.
 -- (v1 reference: `CommitResponse`, "WriteResult", "Document", `BatchGetDocumentsResponse`, `RunQueryResponse`,
 -- `BeginTransactionResponse`, and `google.rpc.Status` as REST prints it; a rollback is answered by an empty object.)
--- What a session that listens is told answers no request, so it has no id.
+-- What a session is told of its targets and its stream has no id. (`ListenResponse`, `WriteResponse`.)
 --
 --     transaction 2 was begun    {"id":"1","result":{"transaction":"AAAAAAAAAAI="}}
 --     it was rolled back         {"id":"2","result":{}}
 --     target 1 was added         {"listen":{"targetChange":{"targetChangeType":"ADD","targetIds":[1]}}}
+--     stream 1 was opened        {"write":{"streamId":"1","streamToken":"AAAAAAAAAAA="}}
+--     a delete was committed there
+--                                {"write":{"commitTime":"..","streamId":"1","streamToken":"AAAAAAAAAAE=","writeResults":[{}]}}
 use Rattle.std.specs.Prelude.{ℕ, ℤ, List, [], ◌∷◌, Option, Some, None, map, codes}
 use Rattle.serde_json.specs.Data.{Data, unsigned, number, string, array, object, Items, no_items, item, Members, no_members, member, put}
 use Rattle.serde_json.specs.View.{items_of}
@@ -21,11 +24,14 @@ use Rattle.fs_value.specs.declared.document.Document.{Document}
 use Rattle.fs_write.specs.declared.write_result.WriteResult.{WriteResult}
 use Rattle.fs_writejson.specs.Results.{result_json}
 use Rattle.fs_rpc.specs.ListenJson.{listen_json}
-use Rattle.fs_rpc.specs.Transaction.{transaction_json}
+use Rattle.fs_rpc.specs.Decimal.{decimal_json}
+use Rattle.fs_rpc.specs.Eight.{eight_json}
 use Rattle.fs_rpc.specs.declared.message.BatchAnswer.{BatchAnswer}
 use Rattle.fs_rpc.specs.declared.message.BatchAnswer.TheVariants.{Found, Missing}
+use Rattle.fs_rpc.specs.declared.message.StreamAnswer.{StreamAnswer}
+use Rattle.fs_rpc.specs.declared.message.StreamAnswer.TheVariants.{Stands, Committed, Refused}
 use Rattle.fs_rpc.specs.declared.message.Message.{Message}
-use Rattle.fs_rpc.specs.declared.message.Message.TheVariants.{Commit, GetDocument, BatchGetDocuments, RunQuery, BeginTransaction, Rollback, Listen, Error}
+use Rattle.fs_rpc.specs.declared.message.Message.TheVariants.{Commit, GetDocument, BatchGetDocuments, RunQuery, BeginTransaction, Rollback, Listen, Write, Error}
 
 -- ---- errors
 
@@ -66,7 +72,23 @@ query_answers_json (d ∷ ds) time = items_of (map (query_answer_json time) (d �
 
 -- `{"transaction":".."}`
 abbrev pub begin_json : ℕ → Data
-begin_json transaction = with_one (codes "transaction") (transaction_json transaction)
+begin_json transaction = with_one (codes "transaction") (eight_json transaction)
+
+-- ---- write streams
+
+-- a stream and its token, in front of what follows
+abbrev pub with_stream_and_token : ℕ → ℕ → Members → Members
+with_stream_and_token stream token rest = member (codes "streamId") (decimal_json stream) (member (codes "streamToken") (eight_json token) rest)
+
+-- what is told of a stream
+abbrev pub stream_answer_members : ℕ → ℕ → StreamAnswer → Members
+stream_answer_members stream token Stands = with_stream_and_token stream token no_members
+stream_answer_members stream token (Committed time results) =
+    member (codes "commitTime") (time_json time) (with_stream_and_token stream token (with_results (items_of (map result_json results))))
+stream_answer_members stream token (Refused code message) = member (codes "error") (error_json code message) (with_stream_and_token stream token no_members)
+
+abbrev pub stream_answer_json : ℕ → ℕ → StreamAnswer → Data
+stream_answer_json stream token answer = object (stream_answer_members stream token answer)
 
 -- ---- messages
 
@@ -90,6 +112,7 @@ message_members (RunQuery id documents time) = result_members id (array (query_a
 message_members (BeginTransaction id transaction) = result_members id (begin_json transaction)
 message_members (Rollback id) = result_members id (object no_members)
 message_members (Listen told) = member (codes "listen") (listen_json told) no_members
+message_members (Write stream token answer) = member (codes "write") (stream_answer_json stream token answer) no_members
 message_members (Error id code message) = error_members id (error_json code message)
 
 abbrev pub message_json : Message → Data

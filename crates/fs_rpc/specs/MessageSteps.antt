@@ -1,9 +1,10 @@
 -- What only private clauses cite: a part of a message as its members are put in one after another, and that the parts of it,
 -- as they are written, are read back.
-use Rattle.std.specs.Prelude.{◌≡◌, ℕ, ℤ, List, Option, Some, None, Ok, codes}
+use Rattle.std.specs.Prelude.{◌≡◌, ℕ, ℤ, List, Option, Some, None, Ok, codes, map}
 use Rattle.std.specs.List.{AllByRecursion}
 use Rattle.fs_path.specs.declared.name.Root.{Root}
 use Rattle.serde_json.specs.Data.{Data, object, Members, no_members, put}
+use Rattle.serde_json.specs.View.{items_of}
 use Rattle.fs_json.specs.Base64.{bytes_json, bytes_of}
 use Rattle.fs_json.specs.Time.{time_json, IsTimeHeld}
 use Rattle.fs_query.specs.declared.listen.Cause.{Cause}
@@ -12,13 +13,19 @@ use Rattle.fs_query.specs.declared.listen.ListenMessage.TheVariants.{Add, Remove
 use Rattle.fs_value.specs.declared.document.Document.{Document}
 use Rattle.fs_valjson.specs.Document.{document_at, document_json}
 use Rattle.fs_valjson.specs.Valid.{IsValid}
-use Rattle.fs_writejson.specs.Results.{IsResultHeld}
+use Rattle.fs_write.specs.declared.write_result.WriteResult.{WriteResult}
+use Rattle.fs_writejson.specs.Results.{IsResultHeld, result_json}
 use Rattle.fs_rpc.specs.ListenJson.{cause_json}
-use Rattle.fs_rpc.specs.Transaction.{IsTransactionHeld}
+use Rattle.fs_rpc.specs.Decimal.{IsDecimalHeld, decimal_json}
+use Rattle.fs_rpc.specs.Eight.{IsEightHeld, eight_json}
+use Rattle.fs_rpc.specs.MessageJson.{error_json}
+use Rattle.fs_rpc.specs.Steps.{with_list_put}
 use Rattle.fs_rpc.specs.declared.message.BatchAnswer.{BatchAnswer}
 use Rattle.fs_rpc.specs.declared.message.BatchAnswer.TheVariants.{Found, Missing}
+use Rattle.fs_rpc.specs.declared.message.StreamAnswer.{StreamAnswer}
+use Rattle.fs_rpc.specs.declared.message.StreamAnswer.TheVariants.{Stands, Committed, Refused}
 use Rattle.fs_rpc.specs.declared.message.Message.{Message}
-use Rattle.fs_rpc.specs.declared.message.Message.TheVariants.{Commit, GetDocument, BatchGetDocuments, RunQuery, BeginTransaction, Rollback, Listen, Error}
+use Rattle.fs_rpc.specs.declared.message.Message.TheVariants.{Commit, GetDocument, BatchGetDocuments, RunQuery, BeginTransaction, Rollback, Listen, Write, Error}
 
 -- an object of this member and the time of the read
 abbrev pub timed_put : List ℕ → Data → ℤ → Data
@@ -32,6 +39,20 @@ with_cause_put (Some cause) others = put (codes "cause") (cause_json cause) othe
 -- a time and the token of it
 abbrev pub with_moment_put : ℤ → List ℕ → Members → Members
 with_moment_put time token others = put (codes "resumeToken") (bytes_json token) (put (codes "readTime") (time_json time) others)
+
+-- a stream and its token
+abbrev pub with_stream_and_token_put : ℕ → ℕ → Members → Members
+with_stream_and_token_put stream token others = put (codes "streamToken") (eight_json token) (put (codes "streamId") (decimal_json stream) others)
+
+-- the time of a commit, and its results, where there are some
+abbrev pub with_committed_put : ℤ → List WriteResult → Members → Members
+with_committed_put time results others = with_list_put (codes "writeResults") (items_of (map result_json results)) (put (codes "commitTime") (time_json time) others)
+
+-- what is told of a batch
+abbrev pub with_answer_put : StreamAnswer → Members → Members
+with_answer_put Stands others = others
+with_answer_put (Committed time results) others = with_committed_put time results others
+with_answer_put (Refused code message) others = put (codes "error") (error_json code message) others
 
 -- ---- what is read back
 
@@ -59,13 +80,26 @@ IsListenHeld (Changed document targets left) = IsDocumentHeld document
 IsListenHeld (Deleted name time left) = IsTimeHeld time
 IsListenHeld (Removed name time left) = IsTimeHeld time
 
--- the documents, the times, the results and the transaction of a message
+-- the time and the results of a batch
+abbrev pub IsAnsweredHeld : StreamAnswer → Type 0
+IsAnsweredHeld Stands = Unit {0}
+IsAnsweredHeld (Committed time results) = IsTimeHeld time × AllByRecursion IsResultHeld results
+IsAnsweredHeld (Refused code message) = Unit {0}
+
+-- a stream, its token, and what is told of it
+pub record IsStreamHeld (n : ℕ) (finished : ℕ) (told : StreamAnswer) : Type 0 where
+  pub stream : IsDecimalHeld n
+  pub token : IsEightHeld finished
+  pub answer : IsAnsweredHeld told
+
+-- the documents, the times, the results, the transaction and the stream of a message
 abbrev pub IsMessageHeld : Message → Type 0
 IsMessageHeld (Commit id time results) = IsTimeHeld time × AllByRecursion IsResultHeld results
 IsMessageHeld (GetDocument id document) = IsDocumentHeld document
 IsMessageHeld (BatchGetDocuments id answers) = AllByRecursion IsAnswerHeld answers
 IsMessageHeld (RunQuery id documents time) = AllByRecursion IsDocumentHeld documents × IsTimeHeld time
-IsMessageHeld (BeginTransaction id transaction) = IsTransactionHeld transaction
+IsMessageHeld (BeginTransaction id transaction) = IsEightHeld transaction
 IsMessageHeld (Rollback id) = Unit {0}
 IsMessageHeld (Listen told) = IsListenHeld told
+IsMessageHeld (Write stream token answer) = IsStreamHeld stream token answer
 IsMessageHeld (Error id code message) = Unit {0}

@@ -1,7 +1,7 @@
 -- The methods of requests, and what stands beside one.
 use Rattle.std.specs.Prelude.{ℕ, List, [], ◌∷◌, codes}
 
--- in the order of the walk; the first seven are built
+-- in the order of the walk; the first eight are built
 abbrev pub methods : List (List ℕ)
 methods = codes "commit" ∷ codes "getDocument" ∷ codes "batchGetDocuments" ∷ codes "runQuery" ∷ codes "beginTransaction" ∷ codes "rollback" ∷ codes "listen" ∷ codes "write" ∷ codes "createIndex"
     ∷ codes "createDocument" ∷ codes "updateDocument" ∷ codes "deleteDocument" ∷ codes "partitionQuery" ∷ codes "runAggregationQuery" ∷ codes "listDocuments" ∷ codes "listCollectionIds" ∷ codes "batchWrite" ∷ []

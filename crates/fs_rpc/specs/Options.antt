@@ -14,7 +14,7 @@ use Rattle.fs_json.specs.Answer.{◌>>=◌}
 use Rattle.fs_json.specs.Members.{at_most_one_at, member_or, only_at, with_one}
 use Rattle.fs_json.specs.Time.{optional_time_at}
 use Rattle.fs_json.specs.declared.bad.Bad.{Bad}
-use Rattle.fs_rpc.specs.Transaction.{optional_transaction_at}
+use Rattle.fs_rpc.specs.Eight.{optional_eight_at}
 use Rattle.fs_rpc.specs.When.{with_read_time}
 use Rattle.fs_rpc.specs.declared.options.TransactionOptions.{TransactionOptions}
 use Rattle.fs_rpc.specs.declared.options.TransactionOptions.TheVariants.{ReadWrite, ReadOnly}
@@ -36,7 +36,7 @@ read_write_members = codes "retryTransaction" ∷ []
 unfoldable pub read_write_at : Data → List ℕ → Result TransactionOptions Bad
 read_write_at d place = do
   _ ← only_at read_write_members d place
-  _ ← optional_transaction_at (codes "retryTransaction") d place
+  _ ← optional_eight_at (codes "retryTransaction") d place
   Ok ReadWrite
 
 -- the members of options, of which at most one is given

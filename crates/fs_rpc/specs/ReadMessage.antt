@@ -1,73 +1,39 @@
 -- Which message a text is, or the first place in the walk where it is at fault.
 -- (v1 reference: `CommitResponse`, "Document", `BatchGetDocumentsResponse`, `RunQueryResponse`, `BeginTransactionResponse`, and
--- `google.rpc.Status` as REST prints it; `ListenResponse` for what a session that listens is told.)
+-- `google.rpc.Status` as REST prints it; `ListenResponse` for what a session that listens is told, and `WriteResponse` for what it is
+-- told of its stream.)
 --
 --     {"id":"1","result":{"transaction":"AAAAAAAAAAI="}}    transaction 2 was begun
 --     {"id":"2","result":{}}                                a transaction was rolled back
-use Rattle.std.specs.Prelude.{ℕ, ℤ, pos, Bool, true, false, ◌||◌, List, [], ◌∷◌, Option, Some, None, Result, Ok, Err, codes, find, if◌then◌else◌, option_and_then}
+use Rattle.std.specs.Prelude.{ℕ, Bool, true, false, ◌||◌, List, [], ◌∷◌, Option, Some, None, Result, Ok, Err, codes, if◌then◌else◌, ⊤}
 use Rattle.std.specs.Option.{option_map_or}
-use Rattle.std.specs.Ordering.{int_eq}
 use Rattle.std.specs.Str.{bytes_eq}
 use Rattle.serde_json.specs.Data.{Data, Items, no_items, item, Members, no_members, member}
-use Rattle.serde_json.specs.Find.{as_array, as_i64, as_number, as_object}
+use Rattle.serde_json.specs.Find.{as_array, as_object}
 use Rattle.serde_json.specs.Read.{read}
-use Rattle.fs_path.specs.Place.{member_place}
 use Rattle.fs_path.specs.declared.name.Root.{Root}
 use Rattle.fs_path.specs.declared.place.Rule.TheVariants.{G}
 use Rattle.fs_json.specs.Answer.{made, or_fault, ◌>>=◌}
-use Rattle.fs_json.specs.Members.{is_there, required_as, required_at, only_at, one_of_at}
-use Rattle.fs_json.specs.Scalars.{text_at}
+use Rattle.fs_json.specs.Members.{is_there, required_as, only_at, one_of_at}
 use Rattle.fs_json.specs.declared.bad.Bad.{Bad}
 use Rattle.fs_json.specs.declared.bad.Bad.TheVariants.{At}
-use Rattle.fs_status.specs.Status.{http_of, status_text}
-use Rattle.fs_status.specs.declared.code.Code.{Code}
-use Rattle.fs_status.specs.declared.code.Code.TheVariants.{InvalidArgument, FailedPrecondition, NotFound, AlreadyExists, Aborted, ResourceExhausted, Unimplemented, OutOfMemory}
 use Rattle.fs_valjson.specs.Document.{document_at}
 use Rattle.fs_json.specs.Walk.{each_at}
 use Rattle.fs_rpc.specs.Id.{id_at}
+use Rattle.fs_rpc.specs.ReadError.{refusal_at}
 use Rattle.fs_rpc.specs.ReadListen.{listen_at}
 use Rattle.fs_rpc.specs.ReadResults.{results_in, batch_answer_at, query_answer_at, answered}
+use Rattle.fs_rpc.specs.ReadStreamAnswer.{stream_answer_at}
 use Rattle.fs_json.specs.Time.{required_time_at}
-use Rattle.fs_rpc.specs.Transaction.{transaction_at}
+use Rattle.fs_rpc.specs.Eight.{eight_at}
 use Rattle.fs_rpc.specs.declared.message.Message.{Message}
 use Rattle.fs_rpc.specs.declared.message.Message.TheVariants.{Commit, GetDocument, BatchGetDocuments, RunQuery, BeginTransaction, Rollback, Listen, Error}
 
 -- ---- errors
 
--- the codes that refusals have
-abbrev pub all_codes : List Code
-all_codes = InvalidArgument ∷ FailedPrecondition ∷ NotFound ∷ AlreadyExists ∷ Aborted ∷ ResourceExhausted ∷ Unimplemented ∷ OutOfMemory ∷ []
-
--- the code whose status this text is
-abbrev pub code_named : List ℕ → Option Code
-code_named text = find (λ code. bytes_eq (status_text code) text) all_codes
-
--- that code, if this is its number in HTTP
-abbrev pub if_numbered : ℤ → Code → Option Code
-if_numbered number code = if int_eq number (pos (http_of code)) then Some code else None
-
--- a number that is an integer
-abbrev pub json_integer : Data → Option ℤ
-json_integer d = option_and_then as_i64 (as_number d)
-
--- such a number, which has to be there
-abbrev pub required_integer_at : List ℕ → Data → List ℕ → Result ℤ Bad
-required_integer_at name d place = required_at name d place >>= λ x. or_fault G (member_place place name) (json_integer x)
-
--- the members of an error, of which none may be absent
-abbrev pub error_members : List (List ℕ)
-error_members = codes "code" ∷ codes "message" ∷ codes "status" ∷ []
-
--- a refusal, whose code has to be the number of its status
-unfoldable pub error_at : Option (List ℕ) → Data → List ℕ → Result Message Bad
-error_at id d place = do
-  _ ← only_at error_members d place
-  number ← required_integer_at (codes "code") d place
-  message ← required_as text_at (codes "message") d place
-  status ← required_as text_at (codes "status") d place
-  named ← or_fault G (member_place place (codes "status")) (code_named status)
-  code ← or_fault G (member_place place (codes "code")) (if_numbered number named)
-  Ok (Error id code message)
+-- a refusal
+abbrev pub error_at : Option (List ℕ) → Data → List ℕ → Result Message Bad
+error_at id d place = made (λ told. Error id told.0 told.1) (refusal_at d place)
 
 -- ---- results
 
@@ -91,7 +57,7 @@ begin_result_members = codes "transaction" ∷ []
 unfoldable pub begin_result_at : Option (List ℕ) → Data → List ℕ → Result Message Bad
 begin_result_at id d place = do
   _ ← only_at begin_result_members d place
-  transaction ← required_as transaction_at (codes "transaction") d place
+  transaction ← required_as eight_at (codes "transaction") d place
   Ok (BeginTransaction id transaction)
 
 -- what is told of the names that were asked for
@@ -142,28 +108,37 @@ object_result_at root id d place =
 unfoldable pub result_at : Root → Option (List ℕ) → Data → List ℕ → Result Message Bad
 result_at root id d place = option_map_or (λ items. list_result_at root id items place) (as_array d) (object_result_at root id d place)
 
--- ---- what a session that listens is told
+-- ---- what answers no request
 
--- it answers no request, so an id is at fault
+-- so it has no id
+abbrev pub no_id_at : Option (List ℕ) → Result ⊤ Bad
+no_id_at None = Ok tt
+no_id_at (Some id) = Err (At G (codes "id"))
+
+-- what a session that listens is told
 abbrev pub unasked_at : Root → Option (List ℕ) → Data → List ℕ → Result Message Bad
-unasked_at root None d place = made Listen (listen_at root d place)
-unasked_at root (Some id) d place = Err (At G (codes "id"))
+unasked_at root id d place = no_id_at id >>= λ _. made Listen (listen_at root d place)
+
+-- what is told of a write stream
+abbrev pub streamed_at : Option (List ℕ) → Data → List ℕ → Result Message Bad
+streamed_at id d place = no_id_at id >>= λ _. stream_answer_at d place
 
 -- ---- messages
 
 -- the members of a message
 abbrev pub message_members : List (List ℕ)
-message_members = codes "error" ∷ codes "id" ∷ codes "listen" ∷ codes "result" ∷ []
+message_members = codes "error" ∷ codes "id" ∷ codes "listen" ∷ codes "result" ∷ codes "write" ∷ []
 
 -- those of which just one is there
 abbrev pub outcomes : List (List ℕ)
-outcomes = codes "result" ∷ codes "listen" ∷ codes "error" ∷ []
+outcomes = codes "result" ∷ codes "listen" ∷ codes "write" ∷ codes "error" ∷ []
 
 -- what stands under one of those
 abbrev pub outcome_at : Root → Option (List ℕ) → List ℕ → Data → Result Message Bad
 outcome_at root id name d =
     if bytes_eq name (codes "result") then result_at root id d name
     else if bytes_eq name (codes "listen") then unasked_at root id d name
+    else if bytes_eq name (codes "write") then streamed_at id d name
     else error_at id d name
 
 -- a JSON value, as a message of the root's documents

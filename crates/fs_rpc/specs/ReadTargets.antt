@@ -24,7 +24,7 @@ use Rattle.fs_queryjson.specs.Query.{listened_at, permitted_at}
 use Rattle.fs_rpc.specs.ReadListen.{number_at, token_at}
 use Rattle.fs_rpc.specs.Requests.{database_at, names_at, parent_at}
 use Rattle.fs_rpc.specs.declared.request.Request.{Request}
-use Rattle.fs_rpc.specs.declared.request.Request.TheVariants.{Commit, GetDocument, BatchGetDocuments, RunQuery, BeginTransaction, Rollback, AddTarget, RemoveTarget}
+use Rattle.fs_rpc.specs.declared.request.Request.TheVariants.{Commit, GetDocument, BatchGetDocuments, RunQuery, BeginTransaction, Rollback, AddTarget, RemoveTarget, Write}
 
 -- ---- what a target is
 
@@ -141,6 +141,7 @@ permitted_request (BatchGetDocuments database names mask when) place = Ok (Batch
 permitted_request (RunQuery database query when) place = Ok (RunQuery database query when)
 permitted_request (BeginTransaction database options) place = Ok (BeginTransaction database options)
 permitted_request (Rollback database transaction) place = Ok (Rollback database transaction)
+permitted_request (Write database asked) place = Ok (Write database asked)
 
 unfoldable pub listen_request_at : Root → Data → List ℕ → Result Request Bad
 listen_request_at root d place = do

@@ -2,7 +2,7 @@
 -- left out. So are writes where there are none; documents that are none are an empty list, since they have to be there. A
 -- query's parent, the root's documents or one of them, stands beside it. (v1 reference: `CommitRequest`,
 -- `GetDocumentRequest`, `BatchGetDocumentsRequest`, `RunQueryRequest`, `BeginTransactionRequest`, `RollbackRequest`,
--- `ListenRequest`; proto3 JSON.)
+-- `ListenRequest`, `WriteRequest`; proto3 JSON.)
 --
 --     a commit of a delete            {"commit":{"database":"projects/p/databases/d","writes":[{"delete":".."}]},"id":"1"}
 --     a read, without an id           {"getDocument":{"name":"projects/p/databases/d/documents/c/a"}}
@@ -18,6 +18,9 @@
 --     to a query from a token on      {"listen":{"addTarget":{"query":{"parent":"..","structuredQuery":{..}},
 --                                      "resumeToken":"RlNSMQAGDdcQISAB","targetId":2},"database":".."}}
 --     no longer to target 1           {"listen":{"database":"projects/p/databases/d","removeTarget":1}}
+--     opens a write stream            {"write":{"database":"projects/p/databases/d"}}
+--     the first batch of stream 1     {"write":{"database":"projects/p/databases/d","streamToken":"AAAAAAAAAAA=",
+--                                      "writes":[{"delete":".."}]}}
 use Rattle.std.specs.Prelude.{ℕ, ℤ, List, [], ◌∷◌, Option, Some, None, map, codes}
 use Rattle.fs_path.specs.Database.{database_text}
 use Rattle.fs_path.specs.Document.{document_text, under}
@@ -40,12 +43,16 @@ use Rattle.fs_writejson.specs.Written.{write_json}
 use Rattle.fs_rpc.specs.Id.{with_id_put}
 use Rattle.fs_rpc.specs.ListenJson.{number_json}
 use Rattle.fs_rpc.specs.Options.{options_json}
-use Rattle.fs_rpc.specs.Transaction.{transaction_json, with_transaction}
+use Rattle.fs_rpc.specs.Decimal.{decimal_json}
+use Rattle.fs_rpc.specs.Eight.{eight_json, with_eight}
 use Rattle.fs_rpc.specs.When.{time_of, transaction_of, with_read_time, with_when}
 use Rattle.fs_rpc.specs.declared.options.TransactionOptions.{TransactionOptions}
 use Rattle.fs_rpc.specs.declared.request.Envelope.{Envelope}
 use Rattle.fs_rpc.specs.declared.request.Request.{Request}
 use Rattle.fs_rpc.specs.declared.request.Request.TheVariants.{Commit, GetDocument, BatchGetDocuments, RunQuery, BeginTransaction, Rollback, AddTarget, RemoveTarget}
+use Rattle.fs_rpc.specs.declared.request.Request.TheVariants as requests
+use Rattle.fs_rpc.specs.declared.stream_request.StreamRequest.{StreamRequest}
+use Rattle.fs_rpc.specs.declared.stream_request.StreamRequest.TheVariants.{Open, Resume, Batch, Ask, Mixed}
 use Rattle.fs_rpc.specs.declared.when.When.{When}
 
 -- ---- parts
@@ -80,7 +87,7 @@ parent_json database scope = string (document_text (under database (scope_parent
 
 abbrev pub commit_json : Root → List Write → Option ℕ → Data
 commit_json database writes transaction =
-    object (member (codes "database") (database_json database) (with_transaction transaction (writes_member writes)))
+    object (member (codes "database") (database_json database) (with_eight (codes "transaction") transaction (writes_member writes)))
 
 abbrev pub get_json : DocName → Option (List FieldPath) → When → Data
 get_json name mask when = object (with_mask mask (member (codes "name") (name_json name) (with_when when no_members)))
@@ -93,7 +100,7 @@ batch_get_json database documents mask when =
 abbrev pub run_query_json : Root → Asked → When → Data
 run_query_json database query when =
     object (member (codes "parent") (parent_json database query.scope)
-    (with_read_time (time_of when) (member (codes "structuredQuery") (query_json query) (with_transaction (transaction_of when) no_members))))
+    (with_read_time (time_of when) (member (codes "structuredQuery") (query_json query) (with_eight (codes "transaction") (transaction_of when) no_members))))
 
 -- options are written also where they are what is meant without them
 abbrev pub begin_json : Root → TransactionOptions → Data
@@ -101,7 +108,7 @@ begin_json database options = object (member (codes "database") (database_json d
 
 abbrev pub rollback_json : Root → ℕ → Data
 rollback_json database transaction =
-    object (member (codes "database") (database_json database) (member (codes "transaction") (transaction_json transaction) no_members))
+    object (member (codes "database") (database_json database) (member (codes "transaction") (eight_json transaction) no_members))
 
 -- ---- targets
 
@@ -131,6 +138,40 @@ listen_add_json database id t token =
 abbrev pub listen_remove_json : Root → ℤ → Data
 listen_remove_json database id = object (member (codes "database") (database_json database) (member (codes "removeTarget") (small_json id) no_members))
 
+-- ---- write streams
+
+-- what there is of each member
+abbrev pub stream_of : StreamRequest → Option ℕ
+stream_of Open = None
+stream_of (Resume stream token) = Some stream
+stream_of (Batch token writes) = None
+stream_of (Ask token) = None
+stream_of (Mixed stream token writes) = Some stream
+
+abbrev pub token_of : StreamRequest → Option ℕ
+token_of Open = None
+token_of (Resume stream token) = Some token
+token_of (Batch token writes) = Some token
+token_of (Ask token) = Some token
+token_of (Mixed stream token writes) = Some token
+
+abbrev pub writes_of : StreamRequest → List Write
+writes_of Open = []
+writes_of (Resume stream token) = []
+writes_of (Batch token writes) = writes
+writes_of (Ask token) = []
+writes_of (Mixed stream token writes) = writes
+
+-- the number of a stream, where there is one, in front of what follows
+abbrev pub with_stream : Option ℕ → Members → Members
+with_stream None rest = rest
+with_stream (Some n) rest = member (codes "streamId") (decimal_json n) rest
+
+abbrev pub stream_request_json : Root → StreamRequest → Data
+stream_request_json database asked =
+    object (member (codes "database") (database_json database)
+    (with_stream (stream_of asked) (with_eight (codes "streamToken") (token_of asked) (writes_member (writes_of asked)))))
+
 -- ---- requests
 
 -- what stands under the method
@@ -143,6 +184,7 @@ request_json (BeginTransaction database options) = begin_json database options
 request_json (Rollback database transaction) = rollback_json database transaction
 request_json (AddTarget database id t token) = listen_add_json database id t token
 request_json (RemoveTarget database id) = listen_remove_json database id
+request_json (requests.Write database asked) = stream_request_json database asked
 
 abbrev pub method_of : Request → List ℕ
 method_of (Commit database writes transaction) = codes "commit"
@@ -153,6 +195,7 @@ method_of (BeginTransaction database options) = codes "beginTransaction"
 method_of (Rollback database transaction) = codes "rollback"
 method_of (AddTarget database id t token) = codes "listen"
 method_of (RemoveTarget database id) = codes "listen"
+method_of (requests.Write database asked) = codes "write"
 
 -- with their ids
 

@@ -25,12 +25,15 @@ use Rattle.fs_writejson.specs.Valid.{IsWriteOf}
 use Rattle.fs_writejson.specs.Written.{write_json}
 use Rattle.fs_rpc.specs.MessageSteps.{IsTokenHeld}
 use Rattle.fs_rpc.specs.ReadTargets.{labels_in, permitted_request}
-use Rattle.fs_rpc.specs.RequestJson.{documents_target_json, query_target_json}
-use Rattle.fs_rpc.specs.Transaction.{IsTransactionHeld, transaction_json}
+use Rattle.fs_rpc.specs.RequestJson.{documents_target_json, query_target_json, stream_of, token_of, writes_of}
+use Rattle.fs_rpc.specs.Decimal.{IsDecimalHeld, decimal_json}
+use Rattle.fs_rpc.specs.Eight.{IsEightHeld, eight_json}
 use Rattle.fs_rpc.specs.declared.options.TransactionOptions.{TransactionOptions}
 use Rattle.fs_rpc.specs.declared.options.TransactionOptions.TheVariants.{ReadWrite, ReadOnly}
 use Rattle.fs_rpc.specs.declared.request.Request.{Request}
 use Rattle.fs_rpc.specs.declared.request.Request.TheVariants.{Commit, GetDocument, BatchGetDocuments, RunQuery, BeginTransaction, Rollback, AddTarget, RemoveTarget}
+use Rattle.fs_rpc.specs.declared.request.Request.TheVariants as requests
+use Rattle.fs_rpc.specs.declared.stream_request.StreamRequest.{StreamRequest}
 use Rattle.fs_rpc.specs.declared.when.When.{When}
 use Rattle.fs_rpc.specs.declared.when.When.TheVariants.{Released, At, In}
 
@@ -47,16 +50,16 @@ abbrev pub with_mask_put : Option (List FieldPath) → Members → Members
 with_mask_put None others = others
 with_mask_put (Some paths) others = put (codes "mask") (mask_json paths) others
 
--- a transaction, where there is one
-abbrev pub with_transaction_put : Option ℕ → Members → Members
-with_transaction_put None others = others
-with_transaction_put (Some n) others = put (codes "transaction") (transaction_json n) others
+-- a number under this name, where there is one
+abbrev pub with_eight_put : List ℕ → Option ℕ → Members → Members
+with_eight_put name None others = others
+with_eight_put name (Some n) others = put name (eight_json n) others
 
 -- when documents are read, where it isn't as they are now
 abbrev pub with_when_put : When → Members → Members
 with_when_put Released others = others
 with_when_put (At time) others = put (codes "readTime") (time_json time) others
-with_when_put (In n) others = put (codes "transaction") (transaction_json n) others
+with_when_put (In n) others = put (codes "transaction") (eight_json n) others
 
 -- what is listened to
 abbrev pub with_target_put : Root → Target → Members → Members
@@ -67,6 +70,11 @@ with_target_put database (target.Documents names) others = put (codes "documents
 abbrev pub with_token_put : Option (List ℕ) → Members → Members
 with_token_put None others = others
 with_token_put (Some token) others = put (codes "resumeToken") (bytes_json token) others
+
+-- the number of a stream, where there is one
+abbrev pub with_stream_put : Option ℕ → Members → Members
+with_stream_put None others = others
+with_stream_put (Some n) others = put (codes "streamId") (decimal_json n) others
 
 -- ---- what is read back
 
@@ -94,7 +102,7 @@ pub record IsQueryHeld (q : Asked) : Type 0 where
 abbrev pub IsWhenHeld : When → Type 0
 IsWhenHeld Released = Unit {0}
 IsWhenHeld (At time) = IsTimeHeld time
-IsWhenHeld (In n) = IsTransactionHeld n
+IsWhenHeld (In n) = IsEightHeld n
 
 -- the options of a transaction
 abbrev pub AreOptionsHeld : TransactionOptions → Type 0
@@ -110,13 +118,20 @@ IsTargetHeld (target.Documents names) = Unit {0}
 abbrev pub IsNumberHeld : ℤ → Type 0
 IsNumberHeld n = small_of (small_json n) ≡ Some n
 
+-- the stream, the token and the writes of what is asked of a stream
+pub record IsAskedHeld (asked : StreamRequest) : Type 0 where
+  pub stream : IfSome (stream_of asked) IsDecimalHeld
+  pub token : IfSome (token_of asked) IsEightHeld
+  pub writes : AllByRecursion IsWriteHeld (writes_of asked)
+
 -- the parts of a request
 abbrev pub IsRequestHeld : Request → Type 0
-IsRequestHeld (Commit database writes transaction) = AllByRecursion IsWriteHeld writes × IfSome transaction IsTransactionHeld
+IsRequestHeld (Commit database writes transaction) = AllByRecursion IsWriteHeld writes × IfSome transaction IsEightHeld
 IsRequestHeld (GetDocument name mask when) = IsMaskHeld mask × IsWhenHeld when
 IsRequestHeld (BatchGetDocuments database documents mask when) = IsMaskHeld mask × IsWhenHeld when
 IsRequestHeld (RunQuery database query when) = IsQueryHeld query × IsWhenHeld when
 IsRequestHeld (BeginTransaction database options) = AreOptionsHeld options
-IsRequestHeld (Rollback database transaction) = IsTransactionHeld transaction
+IsRequestHeld (Rollback database transaction) = IsEightHeld transaction
 IsRequestHeld (AddTarget database id t token) = IsTargetHeld t × IfSome token IsTokenHeld
 IsRequestHeld (RemoveTarget database id) = IsNumberHeld id
+IsRequestHeld (requests.Write database asked) = IsAskedHeld asked

@@ -29,7 +29,7 @@ use Rattle.fs_writejson.specs.Rules.{judged_at}
 use Rattle.fs_json.specs.Walk.{each_at}
 use Rattle.fs_writejson.specs.declared.draft.Draft.{Draft}
 use Rattle.fs_rpc.specs.Options.{options_in}
-use Rattle.fs_rpc.specs.Transaction.{optional_transaction_at, transaction_at}
+use Rattle.fs_rpc.specs.Eight.{optional_eight_at, eight_at}
 use Rattle.fs_rpc.specs.When.{when_at, when_members}
 use Rattle.fs_rpc.specs.declared.request.Request.{Request}
 use Rattle.fs_rpc.specs.declared.request.Request.TheVariants.{Commit, GetDocument, BatchGetDocuments, RunQuery, BeginTransaction, Rollback}
@@ -79,7 +79,7 @@ commit_at root d place = do
   _ ← only_at commit_members d place
   _ ← database_at root d place
   drafts ← drafts_in root d place
-  transaction ← optional_transaction_at (codes "transaction") d place
+  transaction ← optional_eight_at (codes "transaction") d place
   writes ← judged_at drafts (member_place place (codes "writes"))
   Ok (Commit root writes transaction)
 
@@ -145,5 +145,5 @@ unfoldable pub rollback_at : Root → Data → List ℕ → Result Request Bad
 rollback_at root d place = do
   _ ← only_at rollback_members d place
   _ ← database_at root d place
-  transaction ← required_as transaction_at (codes "transaction") d place
+  transaction ← required_as eight_at (codes "transaction") d place
   Ok (Rollback root transaction)

@@ -8,8 +8,10 @@ use Rattle.fs_query.specs.declared.listen.ListenMessage.TheVariants.{Add, Remove
 use Rattle.fs_valjson.specs.Valid.{IsValid}
 use Rattle.fs_rpc.specs.declared.message.BatchAnswer.{BatchAnswer}
 use Rattle.fs_rpc.specs.declared.message.BatchAnswer.TheVariants.{Found, Missing}
+use Rattle.fs_rpc.specs.declared.message.StreamAnswer.{StreamAnswer}
+use Rattle.fs_rpc.specs.declared.message.StreamAnswer.TheVariants.{Stands, Committed, Refused}
 use Rattle.fs_rpc.specs.declared.message.Message.{Message}
-use Rattle.fs_rpc.specs.declared.message.Message.TheVariants.{Commit, GetDocument, BatchGetDocuments, RunQuery, BeginTransaction, Rollback, Listen, Error}
+use Rattle.fs_rpc.specs.declared.message.Message.TheVariants.{Commit, GetDocument, BatchGetDocuments, RunQuery, BeginTransaction, Rollback, Listen, Write, Error}
 use Rattle.fs_writejson.specs.Valid.{ResultHasNames}
 
 -- what is told of a name of the root
@@ -35,6 +37,12 @@ IsListenOf root (Changed document targets left) = IsValid root document × AreSm
 IsListenOf root (Deleted name time left) = IsDocumentOf root name × AreSmall left
 IsListenOf root (Removed name time left) = IsDocumentOf root name × AreSmall left
 
+-- the results of a batch, whose references are names of documents
+abbrev pub HasAnswerNames : StreamAnswer → Type 0
+HasAnswerNames Stands = Unit {0}
+HasAnswerNames (Committed time results) = AllByRecursion ResultHasNames results
+HasAnswerNames (Refused code message) = Unit {0}
+
 -- a message of the root's documents: those that it has, and the names of those that it hasn't found, are the root's
 abbrev pub IsMessageOf : Root → Message → Type 0
 IsMessageOf root (Commit id time results) = AllByRecursion ResultHasNames results
@@ -44,4 +52,5 @@ IsMessageOf root (RunQuery id documents time) = AllByRecursion (IsValid root) do
 IsMessageOf root (BeginTransaction id transaction) = Unit {0}
 IsMessageOf root (Rollback id) = Unit {0}
 IsMessageOf root (Listen told) = IsListenOf root told
+IsMessageOf root (Write stream token answer) = HasAnswerNames answer
 IsMessageOf root (Error id code message) = Unit {0}

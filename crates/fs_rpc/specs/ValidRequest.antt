@@ -16,6 +16,9 @@ use Rattle.fs_write.specs.declared.write.Write.{Write}
 use Rattle.fs_writejson.specs.Valid.{IsWriteOf}
 use Rattle.fs_rpc.specs.declared.request.Request.{Request}
 use Rattle.fs_rpc.specs.declared.request.Request.TheVariants.{Commit, GetDocument, BatchGetDocuments, RunQuery, BeginTransaction, Rollback, AddTarget, RemoveTarget}
+use Rattle.fs_rpc.specs.declared.request.Request.TheVariants as requests
+use Rattle.fs_rpc.specs.declared.stream_request.StreamRequest.{StreamRequest}
+use Rattle.fs_rpc.specs.declared.stream_request.StreamRequest.TheVariants.{Open, Resume, Batch, Ask, Mixed}
 
 -- writes of the root's documents, none of which breaks a rule of writes
 pub record IsCommitOf (root : Root) (database : Root) (writes : List Write) : Type 0 where
@@ -54,6 +57,19 @@ pub record IsAddingOf (root : Root) (asked : Root) (id : ℕ) (t : Target) : Typ
   pub most : id < 2 ^ 31
   pub target : IsTargetOf root t
 
+-- any stream and any token, and of a batch writes of the root's documents, at least one, none of which breaks a rule of writes
+abbrev pub IsAskedOf : Root → StreamRequest → Type 0
+IsAskedOf root Open = Unit {0}
+IsAskedOf root (Resume stream token) = Unit {0}
+IsAskedOf root (Batch token writes) = AllByRecursion (IsWriteOf root) writes × (writes ≢ [])
+IsAskedOf root (Ask token) = Unit {0}
+IsAskedOf root (Mixed stream token writes) = AllByRecursion (IsWriteOf root) writes × (writes ≢ [])
+
+-- a request of a stream of the root's
+pub record IsStreamRequestOf (root : Root) (asking : Root) (request : StreamRequest) : Type 0 where
+  pub database : IsOfRoot root asking
+  pub asked : IsAskedOf root request
+
 -- a request of the root's documents; any token, any mask, any time, any transaction and any options may be given
 abbrev pub IsRequestOf : Root → Request → Type 0
 IsRequestOf root (Commit database writes transaction) = IsCommitOf root database writes
@@ -64,3 +80,4 @@ IsRequestOf root (BeginTransaction database options) = IsOfRoot root database
 IsRequestOf root (Rollback database transaction) = IsOfRoot root database
 IsRequestOf root (AddTarget database id t token) = IsAddingOf root database id t
 IsRequestOf root (RemoveTarget database id) = IsOfRoot root database
+IsRequestOf root (requests.Write database asked) = IsStreamRequestOf root database asked

@@ -13,7 +13,7 @@ use Rattle.fs_json.specs.Answer.{made, ◌>>=◌}
 use Rattle.fs_json.specs.Members.{at_most_one_at}
 use Rattle.fs_json.specs.Time.{time_at, time_json}
 use Rattle.fs_json.specs.declared.bad.Bad.{Bad}
-use Rattle.fs_rpc.specs.Transaction.{transaction_at, with_transaction}
+use Rattle.fs_rpc.specs.Eight.{eight_at, with_eight}
 use Rattle.fs_rpc.specs.declared.when.When.{When}
 use Rattle.fs_rpc.specs.declared.when.When.TheVariants.{Released, At, In}
 
@@ -26,7 +26,7 @@ when_members = codes "transaction" ∷ codes "readTime" ∷ []
 -- what one of them tells, by its name
 abbrev pub when_by : List ℕ → Data → List ℕ → Result When Bad
 when_by name d place =
-    if bytes_eq name (codes "transaction") then made In (transaction_at d (member_place place (codes "transaction")))
+    if bytes_eq name (codes "transaction") then made In (eight_at d (member_place place (codes "transaction")))
     else made At (time_at d (member_place place (codes "readTime")))
 
 unfoldable pub when_at : Data → List ℕ → Result When Bad
@@ -52,4 +52,4 @@ transaction_of (In n) = Some n
 
 -- the one that is given, in front of what follows
 abbrev pub with_when : When → Members → Members
-with_when when rest = with_read_time (time_of when) (with_transaction (transaction_of when) rest)
+with_when when rest = with_read_time (time_of when) (with_eight (codes "transaction") (transaction_of when) rest)

@@ -2,8 +2,11 @@
 #![tactic(auto)]
 
 mod answers;
+mod decimal;
 mod distinct;
+mod eight;
 mod envelope;
+mod error_read;
 mod id;
 mod list;
 mod listen_read;
@@ -17,18 +20,26 @@ mod read;
 mod request;
 mod request_write;
 mod results;
+mod stream_answer_read;
+mod stream_answer_write;
+mod stream_request;
+mod streams_read;
+mod streams_write;
 mod targets_read;
 mod targets_write;
 mod transaction;
 mod when;
 
+pub use decimal::read_decimal;
 pub use envelope::{SessionRequest, read_envelope, read_request, read_session_request};
 pub use id::copy_id;
-pub use message::{Answers, BatchAnswer, Message};
+pub use message::{Answers, BatchAnswer, Message, StreamAnswer};
 pub use message_read::read_message;
 pub use message_write::{error_json, write_message};
 pub use options::TransactionOptions;
 pub use request::{Envelope, Request};
 pub use request_write::write_request;
+pub use stream_request::StreamRequest;
+pub use streams_write::print_stream_token;
 pub use transaction::print_transaction;
 pub use when::When;

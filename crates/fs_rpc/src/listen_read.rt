@@ -149,7 +149,7 @@ fn read_no_change(alloc: Global, v: &Value, way: &Way<'_>) -> Result<ListenMessa
 }
 
 /// Refuses a member that is there.
-fn refuse_given(alloc: Global, v: &Value, name: &str, way: &Way<'_>) -> Result<(), Bad>
+pub(crate) fn refuse_given(alloc: Global, v: &Value, name: &str, way: &Way<'_>) -> Result<(), Bad>
     ensures { Gives (λ u. u) result (absent_at name.now (json v.now) (place_of way.now)) }
 {
     match member(alloc, v, name, way)? {

@@ -1,4 +1,4 @@
-//! Messages: the answers to requests, and what sessions that listen are told.
+//! Messages: the answers to requests, and what sessions are told of their targets and streams.
 use crate::id::copy_id;
 use fs_path::{Copied, DocName, List, Text};
 use fs_query::ListenMessage;
@@ -9,7 +9,7 @@ use fs_write::WriteResults;
 use std::alloc::{AllocError, Global};
 
 /// What a client is told: the answer to each method that is built, with the id of the request where that had one, what the
-/// targets that it listens to are, and the error.
+/// targets that it listens to are, what its streams are, and the error.
 #[derive(Drop, Debug)]
 pub enum Message {
     /// The writes were made at this time. (v1 reference, `CommitResponse`.)
@@ -44,6 +44,13 @@ pub enum Message {
     },
     /// How the targets of the session change. It answers no request, so it has no id. (`ListenResponse`.)
     Listen(ListenMessage),
+    /// A stream by its number, and its token: how many of its batches are finished. It answers by stream, so it has no id.
+    /// (`WriteResponse`.)
+    Write {
+        stream: u64,
+        token: u64,
+        answer: StreamAnswer,
+    },
     /// The request was refused. (`google.rpc.Status`.)
     Error {
         id: Option<Text>,
@@ -105,6 +112,15 @@ impl Message {
                 id: copy_id(alloc, id)?,
             },
             Message::Listen(told) => Message::Listen(told.copy(alloc)?),
+            Message::Write {
+                stream,
+                token,
+                answer,
+            } => Message::Write {
+                stream: *stream,
+                token: *token,
+                answer: answer.copy(alloc)?,
+            },
             Message::Error { id, code, message } => Message::Error {
                 id: copy_id(alloc, id)?,
                 code: *code,
@@ -142,3 +158,34 @@ impl Copied for BatchAnswer {
 
 /// Answers in their order.
 pub type Answers = List<BatchAnswer>;
+
+/// What is told of a write stream.
+#[derive(Drop, Debug)]
+pub enum StreamAnswer {
+    /// Nothing new: the stream was opened or resumed, or was asked for.
+    Stands,
+    /// A batch was committed at this time.
+    Committed { time: Micros, results: WriteResults },
+    /// A batch was refused.
+    Refused { code: Code, message: Text },
+}
+
+impl StreamAnswer {
+    ghost use Rattle.std.specs.Prelude.{◌≡◌, IfOk};
+
+    pub fn copy(&self, alloc: Global) -> Result<StreamAnswer, AllocError>
+        ensures { IfOk result (λ a. a ≡ self.now) }
+    {
+        Ok(match self {
+            StreamAnswer::Stands => StreamAnswer::Stands,
+            StreamAnswer::Committed { time, results } => StreamAnswer::Committed {
+                time: *time,
+                results: results.copy(alloc)?,
+            },
+            StreamAnswer::Refused { code, message } => StreamAnswer::Refused {
+                code: *code,
+                message: message.copy(alloc)?,
+            },
+        })
+    }
+}

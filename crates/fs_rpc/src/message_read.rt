@@ -1,38 +1,37 @@
 //! Reads messages.
-ghost use Rattle.std.specs.Prelude.{◌≡◌, ◌↔◌, ◌≤◌, Some, IfOk, []};
+ghost use Rattle.std.specs.Prelude.{◌≡◌, ◌≤◌, IfOk, []};
 ghost use Rattle.serde_json.specs.Data.{depth};
 ghost use Rattle.serde_json.specs.Read.{max_depth, read};
 ghost use Rattle.serde_json.specs.View.{items_view, members_view, view as json};
 ghost use Rattle.fs_path.specs.Way.{place_of};
 ghost use Rattle.fs_path.specs.declared.place.Rule.TheVariants.{G};
 ghost use Rattle.fs_json.specs.Answer.{Gives, or_fault};
-ghost use Rattle.fs_status.specs.Status.{status_text};
-ghost use Rattle.fs_status.specs.declared.code.Code.{Code};
 ghost use Rattle.fs_rpc.specs.MessageJson.{message_json};
-ghost use Rattle.fs_rpc.specs.ReadMessage.{answers_begin, answers_commit, answers_names, answers_rollback, begin_result_at, code_named, commit_result_at, documents_result_at, error_at, has_none, if_numbered, list_result_at, message_at, message_of, object_result_at, outcome_at, query_result_at, required_integer_at, result_at, unasked_at};
+ghost use Rattle.fs_rpc.specs.ReadMessage.{answers_begin, answers_commit, answers_names, answers_rollback, begin_result_at, commit_result_at, documents_result_at, error_at, has_none, list_result_at, message_at, message_of, no_id_at, object_result_at, outcome_at, query_result_at, result_at, streamed_at, unasked_at};
 ghost use Rattle.fs_rpc.specs.ValidMessage.{IsMessageOf};
 
 use crate::answers::{answered, read_answers, read_query_answers};
+use crate::error_read::read_refusal;
 use crate::id::read_id;
 use crate::listen_read::read_listen;
 use crate::message::Message;
 use crate::names::{
-    BEGIN_RESULT_MEMBERS, CODE, COMMIT_RESULT_MEMBERS, COMMIT_TIME, ERROR_MEMBERS, FOUND, ID,
-    LISTEN, MESSAGE, MESSAGE_MEMBERS, MISSING, OUTCOMES, RESULT, STATUS, TRANSACTION,
+    BEGIN_RESULT_MEMBERS, COMMIT_RESULT_MEMBERS, COMMIT_TIME, FOUND, ID, LISTEN, MESSAGE_MEMBERS,
+    MISSING, OUTCOMES, RESULT, TRANSACTION, WRITE,
 };
 use crate::results::read_results;
+use crate::stream_answer_read::read_stream_answer;
 use crate::transaction::read_transaction;
-use fs_json::{Bad, is_there, one_of, only, read_required_text, read_required_time, required};
+use fs_json::{Bad, is_there, one_of, only, read_required_time, required};
 use fs_path::{Root, Rule, Text, Way};
-use fs_status::Code;
 use fs_valjson::read_document;
 use serde_json::{Map, Value};
 use std::alloc::{AllocError, Global};
 
 /// Reads a message of this root's documents from its JSON. It is told by its shape what was asked for: a list whose first
 /// item has `found` or `missing`, and an empty one, answers names; any other list a query; an object with `commitTime` a
-/// commit, one with `transaction` a begin, and an empty one a rollback; and any other is a document. What a session that
-/// listens is told has a member of its own, `listen`, and no id.
+/// commit, one with `transaction` a begin, and an empty one a rollback; and any other is a document. What a session
+/// is told of its targets and its write stream has a member of its own, `listen` or `write`, and no id.
 ///
 /// A text that is no JSON object is refused at the empty place, and a query's items that have different times at `result`.
 pub fn read_message(alloc: Global, root: &Root, text: &str) -> Result<Message, Bad>
@@ -86,11 +85,12 @@ fn read_outcome(
     match name {
         RESULT => read_result(alloc, root, id, v, &Way::method(name)),
         LISTEN => read_unasked(alloc, root, &id, v, &Way::method(name)),
+        WRITE => read_streamed(alloc, &id, v, &Way::method(name)),
         _ => read_error(alloc, id, v, &Way::method(name)),
     }
 }
 
-/// Reads what a session that listens is told. It answers no request, so an id is at fault.
+/// Reads what a session that listens is told.
 fn read_unasked(
     alloc: Global,
     root: &Root,
@@ -100,75 +100,33 @@ fn read_unasked(
 ) -> Result<Message, Bad>
     ensures { Gives (λ m. m) result (unasked_at root.now id.now (json v.now) (place_of way.now)) }
 {
+    refuse_id(alloc, id)?;
+    Ok(Message::Listen(read_listen(alloc, root, v, way)?))
+}
+
+/// Reads what a session is told of its write stream.
+fn read_streamed(alloc: Global, id: &Option<Text>, v: &Value, way: &Way<'_>) -> Result<Message, Bad>
+    ensures { Gives (λ m. m) result (streamed_at id.now (json v.now) (place_of way.now)) }
+{
+    refuse_id(alloc, id)?;
+    read_stream_answer(alloc, v, way)
+}
+
+// Refuses the id of what answers no request.
+fn refuse_id(alloc: Global, id: &Option<Text>) -> Result<(), Bad>
+    ensures { Gives (λ u. u) result (no_id_at id.now) }
+{
     match id {
         Some(_) => Err(Bad::at(alloc, Rule::G, &Way::method(ID))),
-        None => Ok(Message::Listen(read_listen(alloc, root, v, way)?)),
+        None => Ok(()),
     }
 }
 
-/// Reads an error, whose code has to be the number of its status in HTTP.
-/// (docs/DECISIONS.md, "An error's code in JSON has to be that of its status".)
-#[tactic(auto, unfolding(crate::specs::ReadMessage::error_at))]
 fn read_error(alloc: Global, id: Option<Text>, v: &Value, way: &Way<'_>) -> Result<Message, Bad>
     ensures { Gives (λ m. m) result (error_at id (json v.now) (place_of way.now)) }
 {
-    only(alloc, v, &ERROR_MEMBERS, way)?;
-    let number = read_required_integer(alloc, v, CODE, way)?;
-    let message = read_required_text(alloc, v, MESSAGE, way)?;
-    let status = read_required_text(alloc, v, STATUS, way)?;
-    let Some(named) = code_named(status.as_str()) else {
-        return Err(Bad::at(alloc, Rule::G, &way.member(STATUS)));
-    };
-    let Some(code) = if_numbered(number, named) else {
-        return Err(Bad::at(alloc, Rule::G, &way.member(CODE)));
-    };
+    let (code, message) = read_refusal(alloc, v, way)?;
     Ok(Message::Error { id, code, message })
-}
-
-fn read_required_integer(alloc: Global, v: &Value, name: &str, way: &Way<'_>) -> Result<i64, Bad>
-    ensures { Gives (λ n. n) result (required_integer_at name.now (json v.now) (place_of way.now)) }
-{
-    match required(alloc, v, name, way)?.as_i64() {
-        Some(number) => Ok(number),
-        None => Err(Bad::at(alloc, Rule::G, &way.member(name))),
-    }
-}
-
-/// The codes that refusals have.
-const CODES: [Code; 8] = [
-    Code::InvalidArgument,
-    Code::FailedPrecondition,
-    Code::NotFound,
-    Code::AlreadyExists,
-    Code::Aborted,
-    Code::ResourceExhausted,
-    Code::Unimplemented,
-    Code::OutOfMemory,
-];
-
-/// The code whose status this text is.
-fn code_named(status: &str) -> Option<Code>
-    ensures value { result ≡ code_named status.now }
-    ensures both_ways { (code : Code) → (result ≡ Some code) ↔ (status_text code ≡ status.now) }
-{
-    find_code(status)
-}
-
-fn find_code(status: &str) -> Option<Code>
-    ensures { result ≡ code_named status.now }
-{
-    CODES.iter().copied().find(|code| code.status() == status)
-}
-
-/// The code, if this is its number in HTTP.
-fn if_numbered(number: i64, code: Code) -> Option<Code>
-    ensures { result ≡ if_numbered number code }
-{
-    if number == i64::from(code.http()) {
-        Some(code)
-    } else {
-        None
-    }
 }
 
 #[tactic(auto, unfolding(crate::specs::ReadMessage::result_at))]

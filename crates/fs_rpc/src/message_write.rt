@@ -12,18 +12,19 @@ ghost use Rattle.fs_writejson.specs.Results.{result_json, IsResultHeld};
 ghost use Rattle.fs_rpc.specs.MessageJson.{batch_answer_json, begin_json, commit_json, error_json, error_members, message_json, message_members, query_answer_json, query_answers_json, result_members};
 ghost use Rattle.fs_rpc.specs.MessageSteps.{IsAnswerHeld, IsDocumentHeld, IsMessageHeld, timed_put};
 ghost use Rattle.fs_rpc.specs.ReadMessage.{message_of};
-ghost use Rattle.fs_rpc.specs.Transaction.{IsTransactionHeld};
+ghost use Rattle.fs_rpc.specs.Eight.{IsEightHeld};
 ghost use Rattle.fs_rpc.specs.ValidMessage.{IsMessageOf};
 
+use crate::eight::write_eight;
 use crate::id::put_id;
 use crate::list::put_list;
 use crate::listen_write::write_listen;
 use crate::message::{BatchAnswer, Message};
 use crate::names::{
-    COMMIT_TIME, DOCUMENT, ERROR, FOUND, LISTEN, MISSING, READ_TIME, RESULT, TRANSACTION,
+    COMMIT_TIME, DOCUMENT, ERROR, FOUND, LISTEN, MISSING, READ_TIME, RESULT, TRANSACTION, WRITE,
     WRITE_RESULTS,
 };
-use crate::transaction::write_transaction;
+use crate::stream_answer_write::write_stream_answer;
 use fs_json::{with_one, write_time};
 use fs_path::{Text, print_document};
 use fs_status::{Code, Id};
@@ -93,6 +94,14 @@ fn write_members(alloc: Global, m: &Message) -> Result<Map<String, Value>, Alloc
             let written = write_listen(alloc, told)?;
             alone(alloc, LISTEN, written)
         }
+        Message::Write {
+            stream,
+            token,
+            answer,
+        } => {
+            let written = write_stream_answer(alloc, *stream, *token, answer)?;
+            alone(alloc, WRITE, written)
+        }
         Message::Error { id, code, message } => {
             let written = error_json(alloc, *code, message.as_str())?;
             with_error(alloc, id, written)
@@ -150,12 +159,15 @@ fn write_commit(alloc: Global, time: Micros, results: &[WriteResult]) -> Result<
 /// What a begin is answered. (v1 reference, `BeginTransactionResponse`.)
 fn write_begin(alloc: Global, transaction: Id) -> Result<Value, AllocError>
     ensures value { IfOk result (λ j. json j ≡ begin_json transaction) }
-    ensures held { OnOk result (IsTransactionHeld transaction) }
+    ensures held { OnOk result (IsEightHeld transaction) }
 {
-    with_one(alloc, TRANSACTION, write_transaction(alloc, transaction)?)
+    with_one(alloc, TRANSACTION, write_eight(alloc, transaction.get())?)
 }
 
-fn write_results(alloc: Global, results: &[WriteResult]) -> Result<Vec<Value>, AllocError>
+pub(crate) fn write_results(
+    alloc: Global,
+    results: &[WriteResult],
+) -> Result<Vec<Value>, AllocError>
     ensures value { IfOk result (λ l. items_view l.items ≡ items_of (map result_json results.now)) }
     ensures held { OnOk result (AllByRecursion IsResultHeld results.now) }
 {

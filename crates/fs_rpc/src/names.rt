@@ -1,6 +1,6 @@
 //! The names of methods and members.
 
-/// The method of each request, in the order of the walk. The first seven are built.
+/// The method of each request, in the order of the walk. The first eight are built.
 pub const METHODS: [&str; 17] = [
     COMMIT,
     GET_DOCUMENT,
@@ -9,7 +9,7 @@ pub const METHODS: [&str; 17] = [
     BEGIN_TRANSACTION,
     ROLLBACK,
     LISTEN,
-    "write",
+    WRITE,
     "createIndex",
     "createDocument",
     "updateDocument",
@@ -35,6 +35,9 @@ pub const ROLLBACK: &str = "rollback";
 
 /// The method of a change of targets, and the member of what a session that listens is told.
 pub const LISTEN: &str = "listen";
+
+/// The method of a request of a write stream, and the member of what is told of one.
+pub const WRITE: &str = "write";
 
 /// The members of an envelope beside its method.
 pub const ENVELOPE_HEAD: [&str; 1] = [ID];
@@ -95,10 +98,10 @@ pub const READ_WRITE_MEMBERS: [&str; 1] = [RETRY_TRANSACTION];
 pub const RETRY_TRANSACTION: &str = "retryTransaction";
 
 /// The members of a message.
-pub const MESSAGE_MEMBERS: [&str; 4] = [ERROR, ID, LISTEN, RESULT];
+pub const MESSAGE_MEMBERS: [&str; 5] = [ERROR, ID, LISTEN, RESULT, WRITE];
 
 /// Those of which just one is there.
-pub const OUTCOMES: [&str; 3] = [RESULT, LISTEN, ERROR];
+pub const OUTCOMES: [&str; 4] = [RESULT, LISTEN, WRITE, ERROR];
 
 pub const ERROR: &str = "error";
 
@@ -222,3 +225,22 @@ pub const ONCE: &str = "once";
 pub const QUERY_TARGET_MEMBERS: [&str; 2] = [PARENT, STRUCTURED_QUERY];
 
 pub const DOCUMENTS_TARGET_MEMBERS: [&str; 1] = [DOCUMENTS];
+
+/// The members of a request of a write stream.
+pub const WRITE_MEMBERS: [&str; 5] = [DATABASE, STREAM_ID, WRITES, STREAM_TOKEN, LABELS];
+
+pub const STREAM_ID: &str = "streamId";
+
+pub const STREAM_TOKEN: &str = "streamToken";
+
+/// The members of what is told of a write stream.
+pub const STREAM_ANSWER_MEMBERS: [&str; 5] = [
+    COMMIT_TIME,
+    ERROR,
+    STREAM_ID,
+    STREAM_TOKEN,
+    WRITE_RESULTS,
+];
+
+/// What is told of a batch, of which at most one is there.
+pub const BATCH_OUTCOMES: [&str; 2] = [COMMIT_TIME, ERROR];

@@ -12,11 +12,12 @@ use crate::distinct::read_names;
 use crate::names::{
     BATCH_GET_DOCUMENTS, BATCH_GET_MEMBERS, BEGIN_MEMBERS, BEGIN_TRANSACTION, COMMIT,
     COMMIT_MEMBERS, DATABASE, DOCUMENTS, GET_DOCUMENT, GET_MEMBERS, LISTEN, MASK, NAME, PARENT,
-    ROLLBACK, ROLLBACK_MEMBERS, RUN_QUERY, RUN_QUERY_MEMBERS, STRUCTURED_QUERY, TRANSACTION,
+    ROLLBACK, ROLLBACK_MEMBERS, RUN_QUERY, RUN_QUERY_MEMBERS, STRUCTURED_QUERY, TRANSACTION, WRITE,
     WRITES,
 };
 use crate::options::read_options_of;
 use crate::request::Request;
+use crate::streams_read::read_stream_request;
 use crate::targets_read::read_listen_request;
 use crate::transaction::{read_optional_transaction, read_transaction};
 use crate::when::{When, read_when};
@@ -41,6 +42,7 @@ pub fn read_method(alloc: Global, root: &Root, method: &str, v: &Value) -> Resul
         BEGIN_TRANSACTION => read_begin(alloc, root, v, &place),
         ROLLBACK => read_rollback(alloc, root, v, &place),
         LISTEN => read_listen_request(alloc, root, v, &place),
+        WRITE => read_stream_request(alloc, root, v, &place),
         _ => Err(Bad::Method(Text::from_str(alloc, method)?)),
     }
 }
@@ -185,8 +187,13 @@ pub(crate) fn read_parent(alloc: Global, root: &Root, v: &Value, way: &Way<'_>) 
     }
 }
 
-// The writes of a commit as they are walked, of which there are none where the list is absent.
-fn read_drafts_of(alloc: Global, root: &Root, v: &Value, way: &Way<'_>) -> Result<Drafts, Bad>
+// The writes of a request as they are walked, of which there are none where the list is absent.
+pub(crate) fn read_drafts_of(
+    alloc: Global,
+    root: &Root,
+    v: &Value,
+    way: &Way<'_>,
+) -> Result<Drafts, Bad>
     ensures { Gives (λ ds. ds) result (drafts_in root.now (json v.now) (place_of way.now)) }
 {
     match member(alloc, v, WRITES, way)? {

@@ -3,6 +3,7 @@ ghost use Rattle.std.specs.Prelude.{◌≡◌, IfOk};
 
 use crate::id::copy_id;
 use crate::options::TransactionOptions;
+use crate::stream_request::StreamRequest;
 use crate::when::When;
 use fs_path::{Bytes, DocName, Names, Paths, Root, Text};
 use fs_query::{Query, Target};
@@ -64,6 +65,11 @@ pub enum Request {
     RemoveTarget {
         database: Root,
         id: i32,
+    },
+    /// `write`: a stream of batches is opened or taken over, is given a batch, or is asked for. (`WriteRequest`.)
+    Write {
+        database: Root,
+        asked: StreamRequest,
     },
 }
 
@@ -150,6 +156,10 @@ impl Request {
             Request::RemoveTarget { database, id } => Request::RemoveTarget {
                 database: database.copy(alloc)?,
                 id: *id,
+            },
+            Request::Write { database, asked } => Request::Write {
+                database: database.copy(alloc)?,
+                asked: asked.copy(alloc)?,
             },
         })
     }

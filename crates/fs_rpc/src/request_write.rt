@@ -12,17 +12,18 @@ ghost use Rattle.fs_writejson.specs.Written.{write_json};
 ghost use Rattle.fs_rpc.specs.Envelope.{request_of};
 ghost use Rattle.fs_rpc.specs.RequestJson.{batch_get_json, begin_json, commit_json, database_json, envelope_json, envelope_members, get_json, method_of, names_json, parent_json, request_json, rollback_json, run_query_json, writes_json};
 ghost use Rattle.fs_rpc.specs.RequestSteps.{AreOptionsHeld, ArePathsHeld, IsMaskHeld, IsQueryHeld, IsRequestHeld, IsWhenHeld, IsWriteHeld, with_mask_put};
-ghost use Rattle.fs_rpc.specs.Transaction.{IsTransactionHeld};
+ghost use Rattle.fs_rpc.specs.Eight.{IsEightHeld};
 ghost use Rattle.fs_rpc.specs.ValidRequest.{IsRequestOf};
 
 use crate::id::put_id;
 use crate::list::put_list;
 use crate::names::{
     BATCH_GET_DOCUMENTS, BEGIN_TRANSACTION, COMMIT, DATABASE, DOCUMENTS, GET_DOCUMENT, LISTEN,
-    MASK, NAME, OPTIONS, PARENT, ROLLBACK, RUN_QUERY, STRUCTURED_QUERY, WRITES,
+    MASK, NAME, OPTIONS, PARENT, ROLLBACK, RUN_QUERY, STRUCTURED_QUERY, WRITE, WRITES,
 };
 use crate::options::{TransactionOptions, write_options};
 use crate::request::{Envelope, Request};
+use crate::streams_write::write_stream_request;
 use crate::targets_write::{write_listen_add, write_listen_remove};
 use crate::transaction::put_transaction;
 use crate::when::{When, put_when};
@@ -72,6 +73,7 @@ fn method_of(request: &Request) -> &'static str
         Request::Rollback { .. } => ROLLBACK,
         Request::AddTarget { .. } => LISTEN,
         Request::RemoveTarget { .. } => LISTEN,
+        Request::Write { .. } => WRITE,
     }
 }
 
@@ -110,6 +112,7 @@ fn write_content(alloc: Global, request: &Request) -> Result<Value, AllocError>
             token,
         } => write_listen_add(alloc, database, *id, target, token),
         Request::RemoveTarget { database, id } => write_listen_remove(alloc, database, *id),
+        Request::Write { database, asked } => write_stream_request(alloc, database, asked),
     }
 }
 
@@ -121,7 +124,7 @@ fn write_commit(
     transaction: Option<Id>,
 ) -> Result<Value, AllocError>
     ensures value { IfOk result (λ v. json v ≡ commit_json database.now writes.now transaction) }
-    ensures held { OnOk result (AllByRecursion IsWriteHeld writes.now × IfSome transaction IsTransactionHeld) }
+    ensures held { OnOk result (AllByRecursion IsWriteHeld writes.now × IfSome transaction IsEightHeld) }
 {
     let mut members = Map::new(alloc);
     serde_json::put(
@@ -136,7 +139,7 @@ fn write_commit(
     Ok(Value::Object(members))
 }
 
-fn write_writes(alloc: Global, writes: &[Write]) -> Result<Vec<Value>, AllocError>
+pub(crate) fn write_writes(alloc: Global, writes: &[Write]) -> Result<Vec<Value>, AllocError>
     ensures value { IfOk result (λ l. items_view l.items ≡ writes_json writes.now) }
     ensures held { OnOk result (AllByRecursion IsWriteHeld writes.now) }
 {
@@ -289,7 +292,7 @@ fn write_begin(
 /// Writes a `RollbackRequest`.
 fn write_rollback(alloc: Global, database: &Root, transaction: Id) -> Result<Value, AllocError>
     ensures value { IfOk result (λ v. json v ≡ rollback_json database.now transaction) }
-    ensures held { OnOk result (IsTransactionHeld transaction) }
+    ensures held { OnOk result (IsEightHeld transaction) }
 {
     let mut members = Map::new(alloc);
     let database = database_value(alloc, database)?;

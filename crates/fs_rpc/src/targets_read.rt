@@ -237,7 +237,7 @@ fn read_small_of(alloc: Global, v: &Value, name: &str, way: &Way<'_>) -> Result<
 }
 
 // Labels have to be texts, and are ignored.
-fn read_labels(alloc: Global, v: &Value, way: &Way<'_>) -> Result<(), Bad>
+pub(crate) fn read_labels(alloc: Global, v: &Value, way: &Way<'_>) -> Result<(), Bad>
     ensures { Gives (λ u. u) result (labels_in (json v.now) (place_of way.now)) }
 {
     match member(alloc, v, LABELS, way)? {

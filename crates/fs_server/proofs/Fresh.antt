@@ -3,7 +3,7 @@ use Rattle.std.proofs.Common.{◌≡◌, ℕ, ◌+◌, ◌≤◌, Bool, true, fa
 use Rattle.std.specs.Prelude.{◌==◌, not, slice_get, remove}
 use Rattle.std.proofs.lemmas.Bool.Decides.{nat_tests}
 use Rattle.fs_rpc.specs.declared.request.Request.{Request}
-use Rattle.fs_rpc.specs.declared.request.Request.TheVariants.{Commit, GetDocument, BatchGetDocuments, RunQuery, BeginTransaction, Rollback, AddTarget, RemoveTarget}
+use Rattle.fs_rpc.specs.declared.request.Request.TheVariants.{Commit, GetDocument, BatchGetDocuments, RunQuery, BeginTransaction, Rollback, AddTarget, RemoveTarget, Write}
 use Rattle.fs_txn.specs.Transactions.{IsNew, Transactions, expired_of, txn_of}
 use Rattle.fs_txn.specs.declared.expired.Expired.{Expired}
 use Rattle.fs_txn.specs.declared.txn.Txn.{Txn}
@@ -76,6 +76,7 @@ fresh_asked m (BeginTransaction database options) drawn = new_by m.past m.txns m
 fresh_asked m (Rollback database transaction) drawn = tt
 fresh_asked m (AddTarget database id t token) drawn = tt
 fresh_asked m (RemoveTarget database id) drawn = tt
+fresh_asked m (Write database asked) drawn = tt
 
 itself : (n : ℕ) → counted n n ≡ 1
 itself n = grind (arith, nat_tests)
@@ -94,6 +95,7 @@ fresh_by m r rest (BeginTransaction database options) drawn counts =
 fresh_by m r rest (Rollback database transaction) drawn counts = tt
 fresh_by m r rest (AddTarget database id t token) drawn counts = tt
 fresh_by m r rest (RemoveTarget database id) drawn counts = tt
+fresh_by m r rest (Write database asked) drawn counts = tt
 
 pub fresh_parked : (m : Machine) (place : ℕ) (r : ParkedRequest) → slice_get m.parked place ≡ Some r → IdsAreDrawn m.past m.txns m.parked m.numbers.ids → IsFresh m r.id r.envelope.request
 fresh_parked m place r is drawn = fresh_by m r (times_parked r.id (remove m.parked place)) r.envelope.request drawn (parked_less r.id m.parked place r is)

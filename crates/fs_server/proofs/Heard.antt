@@ -10,9 +10,9 @@ use Rattle.fs_machine.specs.declared.config.Config.{Config}
 use Rattle.fs_machine.specs.declared.answer.Outcome.{Outcome}
 use Rattle.fs_machine.specs.declared.answer.Outcome.TheVariants as outcome
 use Rattle.fs_machine.specs.declared.limits.Limits.{Limits}
-use Rattle.fs_machine.specs.declared.session.Session.{Session}
 use Rattle.fs_past.specs.Bringing.{BringsMore, IsBrought}
 use Rattle.fs_sessions.specs.Heard.{AreHeard, Heard, opened_ear}
+use Rattle.fs_machine.specs.Stream.{Desk}
 use Rattle.fs_server.specs.Settling.{Decides}
 use Rattle.fs_server.proofs.Unnumbered.{none_numbered}
 
@@ -50,17 +50,17 @@ heard_more law config limits p number [] brought rising configured all =
 heard_more law config limits p number (h ∷ hs) brought rising configured all = (all.0, heard_more law config limits p number hs brought rising configured all.1)
 
 -- and once a commit is accepted or dropped, it is as it was
-decided_history : (p q : Past) (ss ts : List Session) (id : ℕ) (o : Outcome) → Decides p ss id o q ts → q.history ≡ p.history
-decided_history p q ss ts id (outcome.Effects changes results) is = ap (λ (x : Past). x.history) is.0
-decided_history p q ss ts id (outcome.Refused refusal) is = ap (λ (x : Past). x.history) is.0
+decided_history : (p q : Past) (d e : Desk) (id : ℕ) (o : Outcome) → Decides p d id o q e → q.history ≡ p.history
+decided_history p q d e id (outcome.Effects changes results) is = ap (λ (x : Past). x.history) is.0
+decided_history p q d e id (outcome.Refused refusal) is = ap (λ (x : Past). x.history) is.0
 
-decided_released : (p q : Past) (ss ts : List Session) (id : ℕ) (o : Outcome) → Decides p ss id o q ts → q.released ≡ p.released
-decided_released p q ss ts id (outcome.Effects changes results) is = ap (λ (x : Past). x.released) is.0
-decided_released p q ss ts id (outcome.Refused refusal) is = ap (λ (x : Past). x.released) is.0
+decided_released : (p q : Past) (d e : Desk) (id : ℕ) (o : Outcome) → Decides p d id o q e → q.released ≡ p.released
+decided_released p q d e id (outcome.Effects changes results) is = ap (λ (x : Past). x.released) is.0
+decided_released p q d e id (outcome.Refused refusal) is = ap (λ (x : Past). x.released) is.0
 
-pub decided_shards : (p q : Past) (ss ts : List Session) (id : ℕ) (o : Outcome) → Decides p ss id o q ts → q.shards ≡ p.shards
-decided_shards p q ss ts id (outcome.Effects changes results) is = ap (λ (x : Past). x.shards) is.0
-decided_shards p q ss ts id (outcome.Refused refusal) is = ap (λ (x : Past). x.shards) is.0
+pub decided_shards : (p q : Past) (d e : Desk) (id : ℕ) (o : Outcome) → Decides p d id o q e → q.shards ≡ p.shards
+decided_shards p q d e id (outcome.Effects changes results) is = ap (λ (x : Past). x.shards) is.0
+decided_shards p q d e id (outcome.Refused refusal) is = ap (λ (x : Past). x.shards) is.0
 
-pub heard_decided : (config : Config) (limits : Limits) (p q : Past) (ss ts : List Session) (hs : List Heard) (id : ℕ) (o : Outcome) → Decides p ss id o q ts → AreHeard config limits p hs → AreHeard config limits q hs
-heard_decided config limits p q ss ts hs id o is all = heard_same config limits p q hs (decided_history p q ss ts id o is) (decided_released p q ss ts id o is) all
+pub heard_decided : (config : Config) (limits : Limits) (p q : Past) (d e : Desk) (hs : List Heard) (id : ℕ) (o : Outcome) → Decides p d id o q e → AreHeard config limits p hs → AreHeard config limits q hs
+heard_decided config limits p q d e hs id o is all = heard_same config limits p q hs (decided_history p q d e id o is) (decided_released p q d e id o is) all

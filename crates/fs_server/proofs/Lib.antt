@@ -1,4 +1,5 @@
 mod Settling
+mod Responses
 mod Noted
 mod Within
 mod Fresh
@@ -6,6 +7,7 @@ mod Readers
 mod Preparing
 mod Beside
 mod Asking
+mod Writing
 mod Retrying
 mod Refusing
 mod Heard

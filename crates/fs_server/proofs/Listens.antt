@@ -1,11 +1,11 @@
--- Where a request of a target leads, and what it is answered; and what one of no target is.
+-- Where a request of a target leads, and what it is answered; and what one of no target and no stream is.
 use Rattle.std.proofs.Common.{◌≡◌, ℕ, ℤ, true, false, List, Option, Some, None, refl, sym, subst}
 use Rattle.std.specs.Prelude.{slice_get}
 use Rattle.fs_path.specs.declared.name.Root.{Root}
 use Rattle.fs_query.specs.declared.target.Target.{Target}
 use Rattle.fs_rpc.specs.declared.request.Envelope.{Envelope}
 use Rattle.fs_rpc.specs.declared.request.Request.{Request}
-use Rattle.fs_rpc.specs.declared.request.Request.TheVariants.{Commit, GetDocument, BatchGetDocuments, RunQuery, BeginTransaction, Rollback, AddTarget, RemoveTarget}
+use Rattle.fs_rpc.specs.declared.request.Request.TheVariants.{Commit, GetDocument, BatchGetDocuments, RunQuery, BeginTransaction, Rollback, AddTarget, RemoveTarget, Write}
 use Rattle.fs_status.specs.declared.refusal.Refusal.{Refusal}
 use Rattle.fs_machine.specs.Listen.{adding_refusal, removing_refusal}
 use Rattle.fs_machine.specs.Request.{answered, answered_unless, arrived, asked, asked_unless, refused_by}
@@ -15,7 +15,7 @@ use Rattle.fs_machine.specs.declared.answer.Answer.TheVariants.{Refused}
 use Rattle.fs_machine.specs.declared.parked_request.ParkedRequest.{ParkedRequest}
 use Rattle.fs_machine.proofs.Asking.{waiter_asks}
 use Rattle.fs_server.specs.Listening.{adding_answer, adding_unless, after_adding, after_removing, answer_unless, removed_unless, removing_answer, removing_unless}
-use Rattle.fs_server.specs.Noted.{listens}
+use Rattle.fs_server.specs.Noted.{is_streaming}
 
 module _ (m : Machine) (session : ℕ) (e : Envelope) where
   abbrev with_request : Request → Envelope
@@ -51,10 +51,10 @@ module _ (m : Machine) (session : ℕ) (e : Envelope) where
     pub told_removing : removing_answer m session id ≡ answered m session e
     told_removing = subst (λ q. removing_answer m session id ≡ answered m session (with_request q)) (sym is) (removing_tells (removing_refusal m session id))
 
--- ---- of no target
+-- ---- of no target and no stream
 
 -- one that is refused is told just so
-pub refused_plain : (m : Machine) (session : ℕ) (q : Request) (refusal : Refusal) → listens q ≡ false → Refused refusal ≡ refused_by m session q refusal
+pub refused_plain : (m : Machine) (session : ℕ) (q : Request) (refusal : Refusal) → is_streaming q ≡ false → Refused refusal ≡ refused_by m session q refusal
 refused_plain m session (Commit database writes transaction) refusal plain = refl
 refused_plain m session (GetDocument name mask when) refusal plain = refl
 refused_plain m session (BatchGetDocuments database names mask when) refusal plain = refl
@@ -63,9 +63,10 @@ refused_plain m session (BeginTransaction database options) refusal plain = refl
 refused_plain m session (Rollback database transaction) refusal plain = refl
 refused_plain m session (AddTarget database id t token) refusal plain = absurd (cc)
 refused_plain m session (RemoveTarget database id) refusal plain = refl
+refused_plain m session (Write database asked) refusal plain = refl
 
 -- what waits is of none
-waits_plain : (q : Request) → may_wait q ≡ true → listens q ≡ false
+waits_plain : (q : Request) → may_wait q ≡ true → is_streaming q ≡ false
 waits_plain (Commit database writes transaction) waits = refl
 waits_plain (GetDocument name mask when) waits = refl
 waits_plain (BatchGetDocuments database names mask when) waits = refl
@@ -74,6 +75,7 @@ waits_plain (BeginTransaction database options) waits = refl
 waits_plain (Rollback database transaction) waits = refl
 waits_plain (AddTarget database id t token) waits = absurd (cc)
 waits_plain (RemoveTarget database id) waits = absurd (cc)
+waits_plain (Write database asked) waits = absurd (cc)
 
-pub plain_parked : (m : Machine) (place : ℕ) (r : ParkedRequest) → slice_get m.parked place ≡ Some r → WaitersAsk m.parked → listens r.envelope.request ≡ false
-plain_parked m place r here waits = waits_plain r.envelope.request (waiter_asks m.parked place r here waits)
+pub plain_parked : (m : Machine) (place : ℕ) (r : ParkedRequest) → slice_get m.parked place ≡ Some r → WaitersAsk m.parked → is_streaming r.envelope.request ≡ false
+plain_parked m place r here waits = waits_plain r.envelope.request ((waiter_asks m.parked place r here waits).waits)

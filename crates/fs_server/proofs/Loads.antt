@@ -23,7 +23,7 @@ use Rattle.fs_machine.specs.Facts.{Facts}
 use Rattle.fs_machine.specs.Listen.{listening_of}
 use Rattle.fs_machine.specs.Listeners.{Listener, listening_in, with_listening}
 use Rattle.fs_machine.specs.ListenersHold.{ListenersHold}
-use Rattle.fs_machine.specs.Load.{load_refusal, loaded, refusal_at, time_refusal, with_reset}
+use Rattle.fs_machine.specs.Load.{load_refusal, refusal_at, time_refusal, with_reset}
 use Rattle.fs_machine.specs.Past.{Past}
 use Rattle.fs_machine.specs.State.{Machine}
 use Rattle.fs_machine.specs.declared.config.Config.{Config}
@@ -129,7 +129,7 @@ module _ (m : Machine) (hs : List Heard) (listened : m.listeners ≡ listeners_o
       }) all
 
   pub kept_loading : LoadingKeeps → (ss : List Session) (more : List Heard) → ss ≡ with_reset session target reset m.sessions → more ≡ with_heard session (heard_loading target sent reset docs time) hs
-      → IsKept m.config m.limits m.past m.txns m.sessions hs m.parked m.numbers → IsKept m.config m.limits m.past m.txns ss more m.parked m.numbers
+      → IsKept m.config m.limits m.past m.txns m.sessions hs m.parked m.streams m.numbers → IsKept m.config m.limits m.past m.txns ss more m.parked m.streams m.numbers
   kept_loading law ss more told is kept =
       let one = free_one m.past.floor m.past.released time (get (listening_of m session).targets target) free in
       let same : numbers_of ss ≡ numbers_of m.sessions = ap numbers_of told ∙ numbers_reset m.sessions session target reset in
@@ -145,6 +145,7 @@ module _ (m : Machine) (hs : List Heard) (listened : m.listeners ≡ listeners_o
             (sym (ap listeners_of is ∙ listeners_loading m.config m.limits m.past session target time reset sent docs hs kept.heard))
             (listeners_loaded m.past m.sessions (listeners_of hs) m.numbers.targets session m.config.shards target time reset one.2.1 one.2.2 kept.listened));
         waiting = kept.waiting;
+        streaming = kept.streaming;
         shards = kept.shards;
         heard = subst (AreHeard m.config m.limits m.past) (sym is) (heard_loaded law kept.heard);
       }

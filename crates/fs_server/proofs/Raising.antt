@@ -1,20 +1,17 @@
 -- A session is raised: what it is told then, and what is kept of its targets.
-use Rattle.std.proofs.Common.{◌≡◌, ℕ, ℤ, Bool, true, false, cond, List, ◌++◌, map, Option, Some, None, refl, sym, ap, ◌∙◌, subst}
+use Rattle.std.proofs.Common.{◌≡◌, ℕ, ℤ, Bool, true, false, cond, List, Option, Some, None, refl, sym, ap, ◌∙◌, subst}
 use Rattle.std.specs.Prelude.{IfSome}
 use Rattle.std.specs.FinMap.{get, get-empty}
 use Rattle.std.specs.List.{filter}
 use Rattle.std.specs.Option.{option_and_then, option_map}
 use Rattle.std.specs.Ordering.{nat_cmp}
-use Rattle.fs_history.specs.declared.batch.Batch.{Batch}
 use Rattle.fs_listen.specs.Cuts.{cut, is_loaded, is_ready}
 use Rattle.fs_listen.specs.Listening.{Listened, Listening, Loaded, raised_to}
-use Rattle.fs_listen.specs.Raised.{raised as sent_by, stands_at}
+use Rattle.fs_listen.specs.Raised.{raised as sent_by}
 use Rattle.fs_listen.specs.declared.cut.Cut.TheVariants.{At, NoTarget}
-use Rattle.fs_rpc.specs.declared.message.Message.TheVariants as message
 use Rattle.fs_target.specs.Held.{staged_of}
 use Rattle.fs_target.specs.Keeps.{KeepsOf, events_of, is_staged}
-use Rattle.fs_target.specs.Laws.{IsRaise, RaisingKeeps, TellsOfHistory, with_deleted}
-use Rattle.fs_target.specs.Raise.{kept_told}
+use Rattle.fs_target.specs.Laws.{IsRaise, RaisingKeeps, TellsOfHistory}
 use Rattle.fs_target.specs.declared.event.TimedEvent.{TimedEvent}
 use Rattle.fs_machine.specs.Event.{Event}
 use Rattle.fs_machine.specs.Facts.{Facts}
@@ -23,7 +20,6 @@ use Rattle.fs_machine.specs.Listeners.{Listener, listening_in, with_listening}
 use Rattle.fs_machine.specs.Past.{Past}
 use Rattle.fs_machine.specs.Raise.{all_told, cut_of, raised, raised_at, raised_to_time}
 use Rattle.fs_machine.specs.Refusing.{outbox_is_full}
-use Rattle.fs_machine.specs.Sessions.{with_outbox}
 use Rattle.fs_machine.specs.State.{Machine}
 use Rattle.fs_machine.specs.declared.config.Config.{Config}
 use Rattle.fs_machine.specs.declared.limits.Limits.{Limits}
@@ -34,11 +30,8 @@ use Rattle.fs_sessions.specs.Heard.{AreHeard, Heard, heard_in, heard_raised, IsH
 use Rattle.fs_sessions.proofs.Ears.{all_with, listeners_with, listening_found, listening_none, of_found}
 use Rattle.fs_server.proofs.Every.{all_any}
 use Rattle.fs_sessions.proofs.Listened.{none_cut}
+use Rattle.fs_sessions.proofs.Raises.{IsTold}
 use Rattle.fs_server.proofs.Unnumbered.{raising_numbered}
-
--- what a session was told, of sessions before and then
-abbrev IsTold : List Batch → ℤ → ℕ → List Session → List Session → Heard → Type 0
-IsTold h time session ss new heard = new ≡ with_outbox session (λ ms. ms ++ map message.Listen (map (with_deleted (stands_at h time)) (kept_told time heard.held))) ss
 
 -- ---- who is together at a time is open
 

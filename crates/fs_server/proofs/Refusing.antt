@@ -1,6 +1,6 @@
 -- No definition of an answer is the refusal for want of memory.
-use Rattle.std.proofs.Common.{◌≡◌, ℕ, ℤ, Bool, true, false, cond, List, [], ◌∷◌, Option, Some, None, option_map, Result, Ok, Err, ap, length, pos}
-use Rattle.std.specs.Prelude.{codes, negsuc, nat_le, nat_lt, int_lt, slice_get, sum_by, ◌+◌}
+use Rattle.std.proofs.Common.{◌≡◌, ℕ, suc, ℤ, Bool, true, false, cond, List, [], ◌∷◌, Option, Some, None, option_map, Result, Ok, Err, ap, length, pos}
+use Rattle.std.specs.Prelude.{◌==◌, codes, negsuc, not, nat_le, nat_lt, int_lt, slice_get, sum_by, ◌+◌}
 use Rattle.std.specs.FinMap.{get, len}
 use Rattle.fs_history.specs.Bytes.{commit_size, shown_size}
 use Rattle.fs_history.specs.History.{at}
@@ -53,6 +53,20 @@ use Rattle.fs_machine.specs.declared.answer.Answer.TheVariants.{Reply, Refused}
 use Rattle.fs_machine.specs.declared.parked_request.ParkedRequest.{ParkedRequest}
 use Rattle.fs_listen.specs.Cuts.{is_loaded}
 use Rattle.fs_listen.specs.Listening.{Listened}
+use Rattle.fs_machine.specs.Sessions.{has_owned}
+use Rattle.fs_machine.specs.Stream.{asked_answer, batch_refusal, has_stream, is_known, known_answer, own_stream, reason_of as stream_reason, resumed_answer, stream_check, stream_refusal, streamed_answer, take_of, unless_taken, unowned, writes_refusal}
+use Rattle.fs_rpc.specs.declared.stream_request.StreamRequest.{StreamRequest}
+use Rattle.fs_rpc.specs.declared.stream_request.StreamRequest.TheVariants.{Open, Resume, Batch, Ask, Mixed}
+use Rattle.fs_stream.specs.Answers.{batch_of, by_owned, is_full, is_opened, missed, owns_other, resume_answer, resumed_of, resumption_told}
+use Rattle.fs_stream.specs.Streams.{Streams, owned_by, stream_of}
+use Rattle.fs_stream.specs.declared.error.StreamError.{StreamError}
+use Rattle.fs_stream.specs.declared.error.StreamError.TheVariants as error
+use Rattle.fs_stream.specs.declared.kept.Kept.{Kept}
+use Rattle.fs_stream.specs.declared.stream.Stream.{Stream as WriteStream}
+use Rattle.fs_stream.specs.declared.take.Resumed.{Resumed}
+use Rattle.fs_stream.specs.declared.take.Resumed.TheVariants as resumed
+use Rattle.fs_stream.specs.declared.take.Take.{Take}
+use Rattle.fs_stream.specs.declared.take.Take.TheVariants.{New, Repeat, InProgress}
 use Rattle.fs_server.specs.Loading.{answer_of}
 
 abbrev IsOther : Reason → Type 0
@@ -188,6 +202,89 @@ unknown_other false id = unknown_not_memory id
 removing_other : (m : Machine) (session : ℕ) (id : ℤ) → AreOther (removing_refusal m session id)
 removing_other m session id = outbox_other m session _ (unknown_other (is_target m session id) id)
 
+-- ---- streams
+
+abbrev ToldOther : {X : Type 0} → Result X StreamError → Type 0
+ToldOther (Ok x) = Unit {0}
+ToldOther (Err e) = (ever : Bool) → IsOther (stream_reason ever e)
+
+unowned_other : (ever : Bool) → IsOther (unowned ever)
+unowned_other true e = cc
+unowned_other false e = cc
+
+missed_other : (s : WriteStream) (known : ℕ) → ToldOther (missed s known)
+missed_other s known = by_tests (known == s.finished) (suc known == s.finished) (nat_lt known s.finished) where
+  told : Bool → Bool → Bool → Result (Option Kept) StreamError
+  told now before behind = cond now (Ok None) (cond before (Ok s.kept) (cond behind (Err (error.Stale known s.finished)) (Err (error.Ahead known s.finished))))
+
+  by_tests : (now before behind : Bool) → ToldOther (told now before behind)
+  by_tests true before behind = tt
+  by_tests false true behind = tt
+  by_tests false false true = λ ever e. cc
+  by_tests false false false = λ ever e. cc
+
+batch_other : (n : ℕ) (s : WriteStream) (told : Result (Option Kept) StreamError) → ToldOther told → ToldOther (batch_of n s told)
+batch_other n s (Err e) other = other
+batch_other n s (Ok (Some kept)) other = tt
+batch_other n s (Ok None) other = tt
+
+owned_other : (m : Streams) (known : ℕ) (own : Option ℕ) → ToldOther (by_owned own known m)
+owned_other m known None = unowned_other
+owned_other m known (Some n) = batch_other n (stream_of n m) (missed (stream_of n m) known) (missed_other (stream_of n m) known)
+
+take_other : (m : Machine) (session known : ℕ) → ToldOther (take_of m session known)
+take_other m session known = owned_other m.streams known (get m.streams.owners session)
+
+resumption_other : (s : WriteStream) (told : Result (Option Kept) StreamError) → ToldOther told → ToldOther (resumed_of s told)
+resumption_other s (Err e) other = other
+resumption_other s (Ok (Some kept)) other = tt
+resumption_other s (Ok None) other = tt
+
+resume_other : (m : Streams) (session n known : ℕ) → ToldOther (resume_answer session n known m)
+resume_other m session n known = by_tests (not (is_opened n m)) (owns_other session n m) where
+  resumed : Result Resumed StreamError
+  resumed = resumption_told (stream_of n m) known
+
+  told : Bool → Bool → Result Resumed StreamError
+  told unknown other = cond unknown (Err (error.Unknown n)) (cond other (Err error.Second) resumed)
+
+  by_tests : (unknown other : Bool) → ToldOther (told unknown other)
+  by_tests true other = λ ever e. cc
+  by_tests false true = λ ever e. cc
+  by_tests false false = resumption_other (stream_of n m) (missed (stream_of n m) known) (missed_other (stream_of n m) known)
+
+taken_other : {X : Type 0} (ever : Bool) (told : Result X StreamError) → ToldOther told → AreOther (unless_taken ever told)
+taken_other ever (Ok x) other = tt
+taken_other ever (Err e) other = other ever
+
+second_not_memory : IsOther reasons.SecondStream
+second_not_memory e = cc
+
+no_stream_not_memory : IsOther reasons.NoStream
+no_stream_not_memory e = cc
+
+stream_check_other : (m : Machine) (session : ℕ) (asked : StreamRequest) → AreOther (stream_check m session asked)
+stream_check_other m session Open = if_other (has_stream m session) (Some (refusal_of reasons.SecondStream)) second_not_memory
+stream_check_other m session (Resume n token) = taken_other (has_owned session m.sessions) (resume_answer session n token m.streams) (resume_other m.streams session n token)
+stream_check_other m session (Batch token writes) = taken_other (has_owned session m.sessions) (take_of m session token) (take_other m session token)
+stream_check_other m session (Ask token) = unless_other (has_stream m session) (Some (refusal_of (unowned (has_owned session m.sessions)))) (unowned_other (has_owned session m.sessions))
+stream_check_other m session (Mixed n token writes) = no_stream_not_memory
+
+writes_other : (m : Machine) (writes : List Write) (others : Option Refusal) → AreOther others → AreOther (writes_refusal m writes others)
+writes_other m writes others rest = passed_other (nat_lt m.limits.writes (length writes)) (codes "writes") m.limits.writes others rest
+
+batch_limit_other : (m : Machine) (session : ℕ) (writes : List Write) (known : Bool) → AreOther (batch_refusal m session writes known)
+batch_limit_other m session writes true = writes_other m writes (outbox_refusal m session (ids_refusal m None)) (outbox_other m session (ids_refusal m None) (ids_other m None tt))
+batch_limit_other m session writes false = commit_other m session writes None
+
+stream_limit_other : (m : Machine) (session : ℕ) (asked : StreamRequest) → AreOther (stream_refusal m session asked)
+stream_limit_other m session Open =
+    outbox_other m session (passed (is_full m.streams) (codes "streams") m.streams.limit None) (passed_other (is_full m.streams) (codes "streams") m.streams.limit None tt)
+stream_limit_other m session (Resume n token) = outbox_other m session None tt
+stream_limit_other m session (Batch token writes) = batch_limit_other m session writes (is_known (take_of m session token))
+stream_limit_other m session (Ask token) = outbox_other m session None tt
+stream_limit_other m session (Mixed n token writes) = writes_other m writes (outbox_refusal m session None) (outbox_other m session None tt)
+
 -- ---- as they come, and as they are tried again
 
 arrival_other : (m : Machine) (session : ℕ) (q : Request) → AreOther (arrival_refusal m session q)
@@ -202,6 +299,7 @@ arrival_other m session (request.BeginTransaction database o) = begin_other m se
 arrival_other m session (request.Rollback database transaction) = outbox_other m session None tt
 arrival_other m session (request.AddTarget database id t token) = adding_other m session id t token
 arrival_other m session (request.RemoveTarget database id) = removing_other m session id
+arrival_other m session (request.Write database asked) = stream_limit_other m session asked
 
 retry_other : (m : Machine) (q : Request) → AreOther (retry_refusal m q)
 retry_other m (request.Commit database writes transaction) = growth_other m writes transaction (time_limit_refusal m) (time_limit_other m)
@@ -212,6 +310,7 @@ retry_other m (request.BeginTransaction database o) = tt
 retry_other m (request.Rollback database transaction) = tt
 retry_other m (request.AddTarget database id t token) = tt
 retry_other m (request.RemoveTarget database id) = tt
+retry_other m (request.Write database asked) = tt
 
 -- ---- transactions and times
 
@@ -269,15 +368,16 @@ begin_time_other m options.ReadWrite = tt
 begin_time_other m (options.ReadOnly None) = tt
 begin_time_other m (options.ReadOnly (Some time)) = time_other m.past time
 
-check_other : (m : Machine) (q : Request) → AreOther (check_refusal m q)
-check_other m (request.Commit database writes transaction) = author_other m writes transaction
-check_other m (request.GetDocument name mask w) = when_other m w
-check_other m (request.BatchGetDocuments database names mask w) = when_other m w
-check_other m (request.RunQuery database query w) = when_other m w
-check_other m (request.BeginTransaction database o) = begin_time_other m o
-check_other m (request.Rollback database transaction) = open_one_other m.txns transaction
-check_other m (request.AddTarget database id t token) = tt
-check_other m (request.RemoveTarget database id) = tt
+check_other : (m : Machine) (session : ℕ) (q : Request) → AreOther (check_refusal m session q)
+check_other m session (request.Commit database writes transaction) = author_other m writes transaction
+check_other m session (request.GetDocument name mask w) = when_other m w
+check_other m session (request.BatchGetDocuments database names mask w) = when_other m w
+check_other m session (request.RunQuery database query w) = when_other m w
+check_other m session (request.BeginTransaction database o) = begin_time_other m o
+check_other m session (request.Rollback database transaction) = open_one_other m.txns transaction
+check_other m session (request.AddTarget database id t token) = tt
+check_other m session (request.RemoveTarget database id) = tt
+check_other m session (request.Write database asked) = stream_check_other m session asked
 
 -- ---- answers
 
@@ -324,6 +424,28 @@ removed_not : (id : ℤ) → IsNot (removed_answer id)
 removed_not (pos id) = reply_not (message.Listen (listen.Remove (id ∷ []) None))
 removed_not (negsuc id) = unknown_not (negsuc id)
 
+resumed_not : (n : ℕ) (told : Result Resumed StreamError) → ToldOther told → IsNot (resumed_answer n told)
+resumed_not n (Ok (resumed.At finished)) other e = cc
+resumed_not n (Ok (resumed.Repeat kept)) other e = cc
+resumed_not n (Err f) other e = other true (refused_reason e)
+
+known_not : (n : ℕ) (told : Result Take StreamError) → ToldOther told → IsNot (known_answer n told)
+known_not n (Ok (New stream)) other e = cc
+known_not n (Ok (Repeat kept)) other e = cc
+known_not n (Ok (InProgress finished)) other e = cc
+known_not n (Err f) other e = other true (refused_reason e)
+
+asked_not : (own : Option (ℕ × ℕ)) → IsNot (asked_answer own)
+asked_not (Some own) e = cc
+asked_not None e = no_stream_not_memory (refused_reason e)
+
+streamed_not : (m : Machine) (session : ℕ) (asked : StreamRequest) → IsNot (streamed_answer m session asked)
+streamed_not m session Open e = cc
+streamed_not m session (Resume n token) e = resumed_not n (resume_answer session n token m.streams) (resume_other m.streams session n token) e
+streamed_not m session (Batch token writes) e = known_not (own_stream m session) (take_of m session token) (take_other m session token) e
+streamed_not m session (Ask token) e = asked_not (owned_by session m.streams) e
+streamed_not m session (Mixed n token writes) e = no_stream_not_memory (refused_reason e)
+
 carried_not : (m : Machine) (r : ParkedRequest) (q : Request) → IsNot (answer_by m r q)
 carried_not m r (request.Commit database writes transaction) = committed_not m r writes transaction
 carried_not m r (request.GetDocument name mask w) = let t = read_time m w in document_not r.envelope.id t mask (get (at m.past.history t) name)
@@ -333,6 +455,7 @@ carried_not m r (request.BeginTransaction database o) = reply_not (message.Begin
 carried_not m r (request.Rollback database transaction) = reply_not (message.Rollback r.envelope.id)
 carried_not m r (request.AddTarget database id t token) = reply_not (message.Listen (listen.Add (id ∷ [])))
 carried_not m r (request.RemoveTarget database id) = removed_not id
+carried_not m r (request.Write database asked) = streamed_not m r.session asked
 
 -- ---- what becomes of a request
 
@@ -349,8 +472,8 @@ refused_not : (o : Option Refusal) (d : Decision) → AreOther o → AreNot d �
 refused_not (Some refusal) d other rest = other
 refused_not None d other rest = rest
 
-decision_not : (m : Machine) (q : Request) → AreNot (decision m q)
-decision_not m q = refused_not (check_refusal m q) (unless_held (held_by m q)) (check_other m q) (held_not (held_by m q))
+decision_not : (m : Machine) (session : ℕ) (q : Request) → AreNot (decision m session q)
+decision_not m session q = refused_not (check_refusal m session q) (unless_held (held_by m q)) (check_other m session q) (held_not (held_by m q))
 
 full_by : (m : Machine) (id : ℕ) (b : Bool) → AreNot (cond b (Decision.refused (at_limit (codes "parked") m.limits.parked)) (Decision.held id))
 full_by m id true = other_limit (codes "parked") m.limits.parked
@@ -387,11 +510,12 @@ refused_by_not m session (request.RunQuery database query w) refusal other = ref
 refused_by_not m session (request.BeginTransaction database o) refusal other = refusal_not refusal other
 refused_by_not m session (request.Rollback database transaction) refusal other = refusal_not refusal other
 refused_by_not m session (request.RemoveTarget database id) refusal other = refusal_not refusal other
+refused_by_not m session (request.Write database asked) refusal other = refusal_not refusal other
 
 answered_not : (m : Machine) (r : ParkedRequest) (o : Option Refusal) → AreOther o → IsNot (answered_unless o m r)
 answered_not m r (Some refusal) other = refused_by_not m r.session r.envelope.request refusal other
 answered_not m r None other =
-    decided_not (drawn m r.envelope.request) r (unless_full m (decision m r.envelope.request)) (full_not m (decision m r.envelope.request) (decision_not m r.envelope.request))
+    decided_not (drawn m r.envelope.request) r (unless_full m (decision m r.session r.envelope.request)) (full_not m (decision m r.session r.envelope.request) (decision_not m r.session r.envelope.request))
 
 pub request_not : (m : Machine) (session : ℕ) (e : Envelope) → IsNot (answered m session e)
 request_not m session e = answered_not m (arrived m session e) (arrival_refusal m session e.request) (arrival_other m session e.request)
@@ -399,7 +523,7 @@ request_not m session e = answered_not m (arrived m session e) (arrival_refusal 
 tried_not : (m : Machine) (r : ParkedRequest) → IsNot (tried_answer m r)
 tried_not m r =
     let q = r.envelope.request in
-    decided_not m r (retry_decision m q) (refused_not (retry_refusal m q) (decision m q) (retry_other m q) (decision_not m q))
+    decided_not m r (retry_decision m r.session q) (refused_not (retry_refusal m q) (decision m r.session q) (retry_other m q) (decision_not m r.session q))
 
 found_not : (m : Machine) (found : Option ParkedRequest) → Some (Refused (refusal_of Memory)) ≡ option_map (tried_answer m) found → ⊥
 found_not m None e = cc

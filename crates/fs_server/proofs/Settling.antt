@@ -1,22 +1,20 @@
 -- What settling a commit does: it is accepted or dropped, and then what can be is released.
-use Rattle.std.proofs.Common.{◌≡◌, ℕ, ℤ, Bool, true, false, List, [], ◌∷◌, Option, Some, None, Ok, refl, sym, ap, ◌∙◌, subst, cond}
+use Rattle.std.proofs.Common.{◌≡◌, ℕ, ℤ, Bool, true, false, [], ◌∷◌, Option, Some, None, Ok, refl, sym, ap, ◌∙◌, subst, cond}
 use Rattle.std.specs.Prelude.{IsSome, int_lt}
-use Rattle.fs_rpc.specs.MessageJson.{refused}
 use Rattle.fs_machine.specs.declared.answer.Outcome.{Outcome}
 use Rattle.fs_machine.specs.declared.answer.Outcome.TheVariants as outcome
 use Rattle.fs_machine.specs.declared.answer.Settled.{Settled}
 use Rattle.fs_machine.specs.declared.answer.Settled.TheVariants.{Released, Waiting, Dropped, Memory}
-use Rattle.fs_machine.specs.declared.session.Session.{Session}
 use Rattle.fs_machine.specs.declared.unreleased.Unreleased.{Unreleased}
 use Rattle.fs_machine.specs.Event.{Event}
 use Rattle.fs_machine.specs.Facts.{Facts}
 use Rattle.fs_machine.specs.Grows.{Grows}
 use Rattle.fs_machine.specs.Laws.{AlwaysGrows}
 use Rattle.fs_machine.specs.Past.{Past}
-use Rattle.fs_machine.specs.Release.{all_delivered, past_released, released, replies_out}
-use Rattle.fs_machine.specs.Sessions.{delivered}
-use Rattle.fs_machine.specs.Settle.{ComesTo, IsOutcomeOfPending, accepted_in, decided, decided_if, decided_with, dropped_from, outcome_of, pending_of, settled, settled_answer, settled_answer_if, settled_as, HasTime, Settles}
+use Rattle.fs_machine.specs.Release.{all_answered, committed_out, past_released, released}
+use Rattle.fs_machine.specs.Settle.{ComesTo, IsOutcomeOfPending, accepted_in, decided, decided_if, decided_with, dropped_from, outcome_of, pending_of, refused_to, settled, settled_answer, settled_answer_if, settled_as, HasTime, Settles}
 use Rattle.fs_machine.specs.State.{Machine}
+use Rattle.fs_machine.specs.Stream.{Desk, desk_of, with_desk}
 use Rattle.fs_machine.proofs.Pending.{number_found}
 use Rattle.fs_server.specs.Settling.{Decides, is_refused, settled_so}
 
@@ -31,22 +29,22 @@ comes_pending p id o comes = found_pending p (pending_of p id) o comes
 
 -- ---- it is accepted or dropped
 
-decides_found : (m : Machine) (id : ℕ) (o : Outcome) (q : Past) (ts : List Session) (found : Option Unreleased) → pending_of m.past id ≡ found
-    → IsOutcomeOfPending m.past found o → Decides m.past m.sessions id o q ts → record m { past = q; sessions = ts } ≡ decided_if m found
-decides_found m id o q ts None is comes decides = absurd comes
-decides_found m id (outcome.Effects changes results) q ts (Some u) is comes decides =
+decides_found : (m : Machine) (id : ℕ) (o : Outcome) (q : Past) (d : Desk) (found : Option Unreleased) → pending_of m.past id ≡ found
+    → IsOutcomeOfPending m.past found o → Decides m.past (desk_of m) id o q d → with_desk (record m { past = q }) d ≡ decided_if m found
+decides_found m id o q d None is comes decides = absurd comes
+decides_found m id (outcome.Effects changes results) q d (Some u) is comes decides =
     let made : outcome_of m.past u ≡ Ok (comes.0.after, results) = comes.0.done in
     let number : u.batch.id ≡ id = number_found m.past.unreleased id u is in
     let past : q ≡ record m.past { unreleased = accepted_in u.batch.id results m.past.unreleased } = decides.0 ∙ ap (λ (n : ℕ). record m.past { unreleased = accepted_in n results m.past.unreleased }) (sym number) in
-    (λ i. record m { past = past i; sessions = decides.1 i }) ∙ ap (decided_with m u) (sym made)
-decides_found m id (outcome.Refused refusal) q ts (Some u) is comes decides =
+    (λ i. with_desk (record m { past = past i }) (decides.1 i)) ∙ ap (decided_with m u) (sym made)
+decides_found m id (outcome.Refused refusal) q d (Some u) is comes decides =
     let number : u.batch.id ≡ id = number_found m.past.unreleased id u is in
     let past : q ≡ record m.past { unreleased = dropped_from u.batch.id m.past.unreleased } = decides.0 ∙ ap (λ (n : ℕ). record m.past { unreleased = dropped_from n m.past.unreleased }) (sym number) in
-    let told : ts ≡ delivered u.session (refused u.request refusal) m.sessions = decides.1 u is in
-    (λ i. record m { past = past i; sessions = told i }) ∙ ap (decided_with m u) (sym comes)
+    let told : d ≡ refused_to u.asker refusal (desk_of m) = decides.1 u is in
+    (λ i. with_desk (record m { past = past i }) (told i)) ∙ ap (decided_with m u) (sym comes)
 
-pub decides : (m : Machine) (id : ℕ) (o : Outcome) (q : Past) (ts : List Session) → ComesTo m.past id o → Decides m.past m.sessions id o q ts → record m { past = q; sessions = ts } ≡ decided m id
-decides m id o q ts comes done = decides_found m id o q ts (pending_of m.past id) refl comes done
+pub decides : (m : Machine) (id : ℕ) (o : Outcome) (q : Past) (d : Desk) → ComesTo m.past id o → Decides m.past (desk_of m) id o q d → with_desk (record m { past = q }) d ≡ decided m id
+decides m id o q d comes done = decides_found m id o q d (pending_of m.past id) refl comes done
 
 -- ---- what is told of it
 
@@ -84,14 +82,14 @@ settles m n id o u r is comes so told =
 
 -- ---- the server afterwards
 
-module _ (m : Machine) (id : ℕ) (o : Outcome) (q p : Past) (ts ss : List Session) (comes : ComesTo m.past id o) (done : Decides m.past m.sessions id o q ts) where
+module _ (m : Machine) (id : ℕ) (o : Outcome) (q p : Past) (d e : Desk) (comes : ComesTo m.past id o) (done : Decides m.past (desk_of m) id o q d) where
   -- where what can be was released
-  pub is_settled : p ≡ past_released q → ss ≡ all_delivered (replies_out q) ts → record m { past = p; sessions = ss } ≡ settled m id
-  is_settled goes told = (λ i. record m { past = goes i; sessions = told i }) ∙ ap released (decides m id o q ts comes done)
+  pub is_settled : p ≡ past_released q → e ≡ all_answered (committed_out q) d → with_desk (record m { past = p }) e ≡ settled m id
+  is_settled goes told = (λ i. with_desk (record m { past = goes i }) (told i)) ∙ ap released (decides m id o q d comes done)
 
   -- and where it is owed
-  pub is_decided : p ≡ q → ss ≡ ts → record m { past = p; sessions = ss } ≡ decided m id
-  is_decided same none = (λ i. record m { past = same i; sessions = none i }) ∙ decides m id o q ts comes done
+  pub is_decided : p ≡ q → e ≡ d → with_desk (record m { past = p }) e ≡ decided m id
+  is_decided same none = (λ i. with_desk (record m { past = same i }) (none i)) ∙ decides m id o q d comes done
 
 pub has_time : (found : Option Unreleased) (u : Unreleased) (t : ℤ) → found ≡ Some u → t ≡ u.batch.time → HasTime found t
 has_time found u t is at = subst (λ f. HasTime f t) (sym is) (sym at)

@@ -1,5 +1,5 @@
 -- A target is added to a session, or removed: which limits it passes, and what is kept then.
-use Rattle.std.proofs.Common.{◌≡◌, ◌≢◌, ℕ, ◌+◌, ◌<◌, ◌≤◌, ℤ, ◌≤ℤ◌, false, cond, List, [], ◌∷◌, Option, Some, None, refl, sym, ap, ◌∙◌, subst, arith}
+use Rattle.std.proofs.Common.{◌≡◌, ◌≢◌, ℕ, ◌+◌, ◌<◌, ℤ, ◌≤ℤ◌, false, cond, List, [], ◌∷◌, Option, Some, None, refl, sym, ap, ◌∙◌, subst, arith}
 use Rattle.std.specs.Prelude.{IfSome, codes, is_some, nat_le}
 use Rattle.std.specs.FinMap.{get, insert, len, remove}
 use Rattle.std.specs.List.{AllByRecursion}
@@ -11,6 +11,7 @@ use Rattle.fs_target.specs.Held.{refusal}
 use Rattle.fs_target.specs.Laws.{AddingKeeps, RemovingKeeps}
 use Rattle.fs_target.specs.declared.error.TargetError.TheVariants as error
 use Rattle.fs_txn.specs.Transactions.{Transactions}
+use Rattle.fs_stream.specs.Streams.{Streams}
 use Rattle.fs_machine.specs.Listen.{adding_refusal, has_target, listening_of, target_refusal, targets_refusal, token_refusal, unless_used}
 use Rattle.fs_machine.specs.Listeners.{Listener, listening_in, with_listener}
 use Rattle.fs_machine.specs.ListenersHold.{ListenersHold, NumbersHold}
@@ -124,10 +125,10 @@ module _ (session id : ℕ) where
       all_with (IsHeard config limits p) session (heard_removing id) hs
       (λ h found here. record { keeps = law p.history p.released h.held id here.keeps; shards = here.shards; limit = here.limit; numbered = removing_numbered id h.held.listening h.numbers here.numbered }) all
 
-module _ (config : Config) (limits : Limits) (p : Past) (txns : Transactions) (ss : List Session) (hs more : List Heard) (parked : List ParkedRequest) (numbers : Numbers)
-    (kept : IsKept config limits p txns ss hs parked numbers) where
+module _ (config : Config) (limits : Limits) (p : Past) (txns : Transactions) (ss : List Session) (hs more : List Heard) (parked : List ParkedRequest) (streams : Streams) (numbers : Numbers)
+    (kept : IsKept config limits p txns ss hs parked streams numbers) where
   pub kept_adding : AddingKeeps → (session id : ℕ) (t : Target) (token : Option ℤ) → IfSome token (λ k. k ≤ℤ p.released) → more ≡ with_heard session (heard_adding id (numbers.targets + 1) t token) hs
-      → IsKept config limits p txns ss more parked (record numbers { targets = numbers.targets + 1 })
+      → IsKept config limits p txns ss more parked streams (record numbers { targets = numbers.targets + 1 })
   kept_adding law session id t token by is = record {
     configured = kept.configured;
     allowed = kept.allowed;
@@ -138,11 +139,12 @@ module _ (config : Config) (limits : Limits) (p : Past) (txns : Transactions) (s
         subst (λ ls. ListenersHold p ss ls (numbers.targets + 1)) (sym (ap listeners_of is ∙ listeners_adding session id (numbers.targets + 1) t token hs))
         (listeners_added p ss (listeners_of hs) numbers.targets session id t token by kept.listened);
     waiting = kept.waiting;
+    streaming = kept.streaming;
     shards = kept.shards;
     heard = subst (AreHeard config limits p) (sym is) (heard_added session id (numbers.targets + 1) t token law config limits p hs by kept.heard);
   }
 
-  pub kept_removing : RemovingKeeps → (session id : ℕ) → more ≡ with_heard session (heard_removing id) hs → IsKept config limits p txns ss more parked numbers
+  pub kept_removing : RemovingKeeps → (session id : ℕ) → more ≡ with_heard session (heard_removing id) hs → IsKept config limits p txns ss more parked streams numbers
   kept_removing law session id is = record {
     configured = kept.configured;
     allowed = kept.allowed;
@@ -153,6 +155,7 @@ module _ (config : Config) (limits : Limits) (p : Past) (txns : Transactions) (s
         subst (λ ls. ListenersHold p ss ls numbers.targets) (sym (ap listeners_of is ∙ listeners_removing session id hs))
         (listeners_removed p ss (listeners_of hs) numbers.targets session id kept.listened);
     waiting = kept.waiting;
+    streaming = kept.streaming;
     shards = kept.shards;
     heard = subst (AreHeard config limits p) (sym is) (heard_removed session id law config limits p hs kept.heard);
   }

@@ -6,6 +6,7 @@ use Rattle.std.proofs.lemmas.Bool.Decides.{nat_tests}
 use Rattle.fs_history.specs.Bytes.{commit_size}
 use Rattle.fs_history.specs.declared.read.Read.{Read}
 use Rattle.fs_rpc.specs.declared.request.Request.{Request}
+use Rattle.fs_rpc.specs.declared.request.Request.TheVariants as request
 use Rattle.fs_rpc.specs.declared.request.Request.TheVariants.{Commit, GetDocument, BatchGetDocuments, RunQuery, BeginTransaction, Rollback, AddTarget, RemoveTarget}
 use Rattle.fs_status.specs.declared.refusal.Refusal.{Refusal}
 use Rattle.fs_txn.specs.Reading.{reads_of}
@@ -90,6 +91,7 @@ retried_within m session (BeginTransaction database options) none = refl
 retried_within m session (Rollback database transaction) none = refl
 retried_within m session (AddTarget database id t token) none = refl
 retried_within m session (RemoveTarget database id) none = refl
+retried_within m session (request.Write database asked) none = refl
 
 -- ---- a number is left for one that draws one
 

@@ -1,14 +1,15 @@
 -- Only private clauses cite this: what a request changes that is carried out.
-use Rattle.std.specs.Prelude.{◌≡◌, ℕ, ◌+◌, ◌<◌, ◌≤◌, ◌^◌, ℤ, ⊤, IsNone, IsSome, List, None, Some, sum_by}
+use Rattle.std.specs.Prelude.{◌≡◌, ℕ, ◌+◌, ◌<◌, ◌≤◌, ◌^◌, ℤ, ⊤, IsNone, IsSome, List, Option, None, Some, sum_by}
 use Rattle.fs_history.specs.Bytes.{batch_size, shown_size}
 use Rattle.fs_history.specs.declared.read.Read.{Read}
 use Rattle.fs_rpc.specs.declared.request.Envelope.{Envelope}
 use Rattle.fs_rpc.specs.declared.request.Request.{Request}
 use Rattle.fs_rpc.specs.declared.request.Request.TheVariants as request
 use Rattle.fs_txn.specs.Reading.{shown_bytes}
+use Rattle.fs_write.specs.declared.write.Write.{Write}
 use Rattle.fs_txn.specs.Transactions.{IsNew, Transactions, all_noted, begun, ended, txn_of}
 use Rattle.fs_machine.specs.Behind.{behind}
-use Rattle.fs_machine.specs.Commit.{past_prepared}
+use Rattle.fs_machine.specs.Commit.{next_batch, past_prepared}
 use Rattle.fs_machine.specs.IdsAreDrawn.{times_in}
 use Rattle.fs_machine.specs.Limits.{greatest}
 use Rattle.fs_machine.specs.Past.{Past, batches}
@@ -17,6 +18,7 @@ use Rattle.fs_machine.specs.Refusing.{journal_size, next_time}
 use Rattle.fs_machine.specs.Request.{check_refusal, retry_refusal}
 use Rattle.fs_machine.specs.State.{Machine}
 use Rattle.fs_machine.specs.declared.answer.Answer.{Answer}
+use Rattle.fs_machine.specs.declared.asker.Asker.{Asker}
 use Rattle.fs_machine.specs.declared.parked_request.ParkedRequest.{ParkedRequest}
 use Rattle.fs_machine.specs.declared.unreleased.Unreleased.{Unreleased}
 use Rattle.fs_server.specs.Noted.{noted_reads}
@@ -65,9 +67,13 @@ MayChange p ts (Notes id reads) = IsSome (txn_of id ts.open) × (shown_bytes ts 
 
 -- ---- what is carried out
 
--- a request with its number
-abbrev pub asking : ℕ → ℕ → Envelope → ParkedRequest
-asking session id e = record { session = session; id = id; envelope = e }
+-- a request with its number, and the stream that took it
+abbrev pub asking : ℕ → ℕ → Option ℕ → Envelope → ParkedRequest
+asking session id stream e = record { session = session; id = id; stream = stream; envelope = e }
+
+-- the commit of a number at the next time, by whom it is answered
+abbrev pub commit_for : Past → ℕ → Asker → List Write → List Read → Unreleased
+commit_for p id asker writes reads = record { batch = next_batch p id writes reads; asker = asker; results = None }
 
 -- this is answered, and this change leads there
 pub record Does (m : Machine) (answer : Answer) (after : Machine) (did : Answer × Change) : Type 0 where
@@ -76,9 +82,9 @@ pub record Does (m : Machine) (answer : Answer) (after : Machine) (did : Answer 
   pub may : MayChange m.past m.txns did.1
 
 -- nothing stands in a request's way: no limit, no transaction that isn't open, and these reads are noted of it
-pub record IsClear (m : Machine) (q : Request) (rs : List Read) : Type 0 where
+pub record IsClear (m : Machine) (session : ℕ) (q : Request) (rs : List Read) : Type 0 where
   pub limits : retry_refusal m q ≡ None
-  pub check : check_refusal m q ≡ None
+  pub check : check_refusal m session q ≡ None
   pub reads : rs ≡ noted_reads m q
 
 -- its number is nobody's
@@ -92,3 +98,4 @@ IsFresh m id (request.BeginTransaction database options) = IsNew id m.txns
 IsFresh m id (request.Rollback database transaction) = ⊤
 IsFresh m id (request.AddTarget database target t token) = ⊤
 IsFresh m id (request.RemoveTarget database target) = ⊤
+IsFresh m id (request.Write database asked) = ⊤

@@ -7,6 +7,7 @@ use Rattle.fs_machine.specs.Limits.{AreAllowed}
 use Rattle.fs_machine.specs.ListenersHold.{ListenersHold}
 use Rattle.fs_machine.specs.Past.{Past}
 use Rattle.fs_machine.specs.SessionsNumbered.{SessionsNumbered}
+use Rattle.fs_machine.specs.StreamsHold.{StreamsHold}
 use Rattle.fs_machine.specs.TransactionsHold.{TransactionsHold}
 use Rattle.fs_machine.specs.WaitersAsk.{WaitersAsk}
 use Rattle.fs_machine.specs.declared.config.Config.{Config}
@@ -15,8 +16,9 @@ use Rattle.fs_machine.specs.declared.numbers.Numbers.{Numbers}
 use Rattle.fs_machine.specs.declared.parked_request.ParkedRequest.{ParkedRequest}
 use Rattle.fs_machine.specs.declared.session.Session.{Session}
 use Rattle.fs_sessions.specs.Heard.{AreHeard, Heard, listeners_of}
+use Rattle.fs_stream.specs.Streams.{Streams}
 
-pub record IsKept (config : Config) (limits : Limits) (past : Past) (txns : Transactions) (sessions : List Session) (listeners : List Heard) (parked : List ParkedRequest) (numbers : Numbers) : Type 0 where
+pub record IsKept (config : Config) (limits : Limits) (past : Past) (txns : Transactions) (sessions : List Session) (listeners : List Heard) (parked : List ParkedRequest) (streams : Streams) (numbers : Numbers) : Type 0 where
   pub configured : IsAllowed config
   pub allowed : AreAllowed limits
   pub drawn : IdsAreDrawn past txns parked numbers.ids
@@ -24,6 +26,7 @@ pub record IsKept (config : Config) (limits : Limits) (past : Past) (txns : Tran
   pub numbered : SessionsNumbered sessions numbers.sessions
   pub listened : ListenersHold past sessions (listeners_of listeners) numbers.targets
   pub waiting : WaitersAsk parked
+  pub streaming : StreamsHold past parked streams numbers.ids
   -- by so many shards changes are told
   pub shards : past.shards ≡ config.shards
   -- what is kept of targets is what the history has

@@ -1,5 +1,8 @@
 pub mod Settling
+pub mod Answering
+pub mod Streaming
 pub mod Noted
+pub mod Plain
 pub mod Changes
 pub mod Kept
 pub mod Events

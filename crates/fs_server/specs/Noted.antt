@@ -2,7 +2,7 @@
 use Rattle.std.specs.Prelude.{ℕ, ◌+◌, Bool, true, false, List, [], Option, None, unwrap_or, if◌then◌else◌}
 use Rattle.fs_history.specs.declared.read.Read.{Read}
 use Rattle.fs_rpc.specs.declared.request.Request.{Request}
-use Rattle.fs_rpc.specs.declared.request.Request.TheVariants.{Commit, GetDocument, BatchGetDocuments, RunQuery, BeginTransaction, Rollback, AddTarget, RemoveTarget}
+use Rattle.fs_rpc.specs.declared.request.Request.TheVariants.{Commit, GetDocument, BatchGetDocuments, RunQuery, BeginTransaction, Rollback, AddTarget, RemoveTarget, Write}
 use Rattle.fs_rpc.specs.declared.when.When.{When}
 use Rattle.fs_rpc.specs.declared.when.When.TheVariants.{Released, At, In}
 use Rattle.fs_status.specs.declared.refusal.Refusal.{Refusal}
@@ -13,16 +13,17 @@ use Rattle.fs_machine.specs.Refusing.{reads_refusal}
 use Rattle.fs_machine.specs.State.{Machine}
 use Rattle.fs_machine.specs.Transact.{with_reads}
 
--- whether one is of a target
-abbrev pub listens : Request → Bool
-listens (AddTarget database id t token) = true
-listens (RemoveTarget database id) = true
-listens (Commit database writes transaction) = false
-listens (GetDocument name mask when) = false
-listens (BatchGetDocuments database names mask when) = false
-listens (RunQuery database query when) = false
-listens (BeginTransaction database options) = false
-listens (Rollback database transaction) = false
+-- whether one is of a target or of a write stream, and so a message among others of its session (v1 reference, "Listen", "Write")
+abbrev pub is_streaming : Request → Bool
+is_streaming (AddTarget database id t token) = true
+is_streaming (RemoveTarget database id) = true
+is_streaming (Commit database writes transaction) = false
+is_streaming (GetDocument name mask when) = false
+is_streaming (BatchGetDocuments database names mask when) = false
+is_streaming (RunQuery database query when) = false
+is_streaming (BeginTransaction database options) = false
+is_streaming (Rollback database transaction) = false
+is_streaming (Write database asked) = true
 
 -- when a request reads; one that reads nothing may do so at any time
 abbrev pub when_of : Request → When
@@ -34,6 +35,7 @@ when_of (BeginTransaction database options) = Released
 when_of (Rollback database transaction) = Released
 when_of (AddTarget database id t token) = Released
 when_of (RemoveTarget database id) = Released
+when_of (Write database asked) = Released
 
 abbrev pub noted_by : Machine → When → Request → List Read
 noted_by m when q = if is_noted m when then shown_at m when q else []

@@ -34,30 +34,31 @@ impl Server {
     ghost use Rattle.fs_machine.specs.Transact.{time_asked, with_begun, with_ended};
     ghost use Rattle.fs_machine.specs.declared.answer.Answer.TheVariants.{Reply};
     ghost use Rattle.fs_server.specs.Changes.{Does, IsClear, IsFresh, MayChange, asking, changed};
-    ghost use Rattle.fs_server.specs.Noted.{listens, noted_in, noted_refusal};
+    ghost use Rattle.fs_server.specs.Noted.{is_streaming, noted_in, noted_refusal};
 
-    /// What a request is answered that nothing holds, and what it changes.
+    /// What a request is answered that nothing holds, and what it changes. A commit is answered by the stream that took it, if one did.
     pub(crate) fn carry_out(
         &self,
         alloc: Global,
         session: u32,
         id: Id,
+        stream: Option<u64>,
         envelope: &Envelope,
         reads: Reads,
     ) -> Result<(Answer, Change), AllocError>
-        requires plain { listens envelope.now.request ≡ false }
-        requires clear { IsClear self.now envelope.now.request reads }
+        requires plain { is_streaming envelope.now.request ≡ false }
+        requires clear { IsClear self.now session envelope.now.request reads }
         requires free { held_by self.now envelope.now.request ≡ None }
         requires fresh { IsFresh self.now id envelope.now.request }
-        ensures { IfOk result (λ d. Does self.now (answer_by self.now (asking session id envelope.now) envelope.now.request)
-            (carried_by self.now (asking session id envelope.now) envelope.now.request) d) }
+        ensures { IfOk result (λ d. Does self.now (answer_by self.now (asking session id stream envelope.now) envelope.now.request)
+            (carried_by self.now (asking session id stream envelope.now) envelope.now.request) d) }
     {
         match &envelope.request {
             Request::Commit {
                 writes,
                 transaction,
                 ..
-            } => self.commit(alloc, session, id, envelope, writes, transaction),
+            } => self.commit(alloc, session, id, stream, envelope, writes, transaction),
             Request::GetDocument { name, mask, when } => {
                 self.get(alloc, envelope, name, mask, when, reads)
             }
@@ -74,6 +75,7 @@ impl Server {
             Request::Rollback { transaction, .. } => self.roll_back(alloc, envelope, *transaction),
             Request::AddTarget { .. } => unreachable!(),
             Request::RemoveTarget { .. } => unreachable!(),
+            Request::Write { .. } => unreachable!(),
         }
     }
 

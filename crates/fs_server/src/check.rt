@@ -7,17 +7,19 @@ use fs_txn::{Kind, Txn, TxnError};
 use fs_write::Writes;
 
 impl Server {
-    ghost use Rattle.std.specs.Prelude.{◌≡◌, None, Some};
+    ghost use Rattle.std.specs.Prelude.{◌≡◌, ℕ, None, Some, false};
     ghost use Rattle.fs_txn.specs.Transactions.{txn_of};
     ghost use Rattle.fs_machine.specs.Commit.{author_refusal, only_reads, writing_refusal};
     ghost use Rattle.fs_machine.specs.Read.{is_noted, when_refusal};
     ghost use Rattle.fs_machine.specs.Request.{begin_time_refusal, check_refusal};
     ghost use Rattle.fs_machine.specs.Transact.{closed_refusal};
+    ghost use Rattle.fs_server.specs.Noted.{is_streaming};
 
     /// Why a request isn't carried out, whatever it waits for: its transaction isn't open, or only reads and is to write, or the time that
     /// it reads can't be read.
     pub(crate) fn check_refusal(&self, request: &Request) -> Option<Refusal>
-        ensures { result ≡ check_refusal self.now request.now }
+        requires { is_streaming request.now ≡ false }
+        ensures { (session : ℕ) → result ≡ check_refusal self.now session request.now }
     {
         match request {
             Request::Commit {
@@ -32,6 +34,7 @@ impl Server {
             Request::Rollback { transaction, .. } => self.closed_refusal(*transaction),
             Request::AddTarget { .. } => None,
             Request::RemoveTarget { .. } => None,
+            Request::Write { .. } => unreachable!(),
         }
     }
 

@@ -1,13 +1,35 @@
 //! Commits that are carried out.
+ghost use Rattle.std.specs.Prelude.{◌≡◌, ℕ, IfOk};
+ghost use Rattle.fs_machine.specs.Commit.{asker_by};
+ghost use Rattle.fs_server.specs.Changes.{asking};
+
 use crate::changes::Change;
 use crate::server::Server;
 use fs_history::{Batch, Reads};
-use fs_machine::{Answer, Unreleased};
+use fs_machine::{Answer, Asker, Unreleased};
 use fs_rpc::{Envelope, Message, copy_id};
 use fs_status::{Id, Refusal};
 use fs_txn::{Kind, Txn};
 use fs_write::{WriteResults, Writes};
 use std::alloc::{AllocError, Global};
+
+// Whom a commit is answered: the session that asks for it, or the stream that took it as its next batch.
+fn asker_of(
+    alloc: Global,
+    session: u32,
+    stream: Option<u64>,
+    envelope: &Envelope,
+) -> Result<Asker, AllocError>
+    ensures { IfOk result (λ a. (id : ℕ) → a ≡ asker_by (asking session id stream envelope.now) stream) }
+{
+    match stream {
+        Some(stream) => Ok(Asker::Stream(stream)),
+        None => Ok(Asker::Session {
+            session,
+            request: copy_id(alloc, &envelope.id)?,
+        }),
+    }
+}
 
 impl Server {
     ghost use Rattle.std.specs.Prelude.{◌≡◌, [], None, Some, true, IfOk};
@@ -23,7 +45,7 @@ impl Server {
     ghost use Rattle.fs_machine.specs.Request.{writer_behind};
     ghost use Rattle.fs_machine.specs.Transact.{with_ended};
     ghost use Rattle.fs_machine.specs.declared.answer.Answer.TheVariants.{Prepared, Reply};
-    ghost use Rattle.fs_server.specs.Changes.{Does, asking};
+    ghost use Rattle.fs_server.specs.Changes.{Does, asking, commit_for};
 
     /// A commit of these writes that nothing holds: what it is answered, and what it changes.
     /// (docs/DECISIONS.md, "A commit is copied once, into the journal".)
@@ -32,6 +54,7 @@ impl Server {
         alloc: Global,
         session: u32,
         id: Id,
+        stream: Option<u64>,
         envelope: &Envelope,
         writes: &Writes,
         transaction: &Option<Id>,
@@ -40,34 +63,36 @@ impl Server {
         requires check { author_refusal self.now writes.now transaction.now ≡ None }
         requires free { writer_behind self.now writes.now transaction.now ≡ None }
         requires fresh { transaction.now ≡ None → times_in id (batches self.now.past.unreleased) ≡ 0 }
-        ensures { IfOk result (λ d. Does self.now (committed_answer self.now (asking session id envelope.now) writes.now transaction.now)
-            (committed self.now (asking session id envelope.now) writes.now transaction.now) d) }
+        ensures { IfOk result (λ d. Does self.now (committed_answer self.now (asking session id stream envelope.now) writes.now transaction.now)
+            (committed self.now (asking session id stream envelope.now) writes.now transaction.now) d) }
     {
         match transaction {
-            Some(author) => self.commit_in(alloc, session, id, envelope, writes, *author),
-            None => self.commit_plain(alloc, session, id, envelope, writes),
+            Some(author) => self.commit_in(alloc, session, id, stream, envelope, writes, *author),
+            None => {
+                let asker = asker_of(alloc, session, stream, envelope)?;
+                self.commit_plain(alloc, id, asker, writes)
+            }
         }
     }
 
-    // One of no transaction.
-    fn commit_plain(
+    /// One of no transaction.
+    pub(crate) fn commit_plain(
         &self,
         alloc: Global,
-        session: u32,
         id: Id,
-        envelope: &Envelope,
+        asker: Asker,
         writes: &Writes,
     ) -> Result<(Answer, Change), AllocError>
         requires limits { commit_retry_refusal self.now writes.now None ≡ None }
         requires free { writer_behind self.now writes.now None ≡ None }
         requires fresh { times_in id (batches self.now.past.unreleased) ≡ 0 }
         ensures { IfOk result (λ d. Does self.now (Prepared id (next_time self.now.past))
-            (prepared self.now (next_commit self.now.past id (asking session id envelope.now) writes.now [])) d) }
+            (prepared self.now (commit_for self.now.past id asker writes.now [])) d) }
     {
         self.stand();
         self.has_time();
         let reads = Reads::new(alloc);
-        let commit = self.next_commit(alloc, session, id, envelope, writes, reads)?;
+        let commit = self.next_commit(alloc, id, asker, writes, reads)?;
         Ok((
             Answer::Prepared(id, commit.time()),
             Change::Prepares(commit),
@@ -78,14 +103,13 @@ impl Server {
     fn next_commit(
         &self,
         alloc: Global,
-        session: u32,
         id: Id,
-        envelope: &Envelope,
+        asker: Asker,
         writes: &Writes,
         reads: Reads,
     ) -> Result<Unreleased, AllocError>
         requires { IsMoment (next_time self.now.past) }
-        ensures { IfOk result (λ u. u ≡ next_commit self.now.past id (asking session id envelope.now) writes.now reads) }
+        ensures { IfOk result (λ u. u ≡ commit_for self.now.past id asker writes.now reads) }
     {
         Ok(Unreleased {
             batch: Batch {
@@ -94,8 +118,7 @@ impl Server {
                 writes: writes.copy(alloc)?,
                 reads,
             },
-            session,
-            request: copy_id(alloc, &envelope.id)?,
+            asker,
             results: None,
         })
     }
@@ -107,6 +130,7 @@ impl Server {
         alloc: Global,
         session: u32,
         id: Id,
+        stream: Option<u64>,
         envelope: &Envelope,
         writes: &Writes,
         author: Id,
@@ -114,13 +138,15 @@ impl Server {
         requires limits { commit_retry_refusal self.now writes.now (Some author) ≡ None }
         requires check { author_refusal self.now writes.now (Some author) ≡ None }
         requires free { behind self.now.past writes.now ≡ None }
-        ensures { IfOk result (λ d. Does self.now (committed_answer self.now (asking session id envelope.now) writes.now (Some author))
-            (committed self.now (asking session id envelope.now) writes.now (Some author)) d) }
+        ensures { IfOk result (λ d. Does self.now (committed_answer self.now (asking session id stream envelope.now) writes.now (Some author))
+            (committed self.now (asking session id stream envelope.now) writes.now (Some author)) d) }
     {
         let txn = self.open_one(author);
         match txn.kind {
             Kind::ReadOnly => self.end_reading(alloc, envelope, txn),
-            Kind::ReadWrite => self.commit_writing(alloc, session, id, envelope, writes, txn),
+            Kind::ReadWrite => {
+                self.commit_writing(alloc, session, id, stream, envelope, writes, txn)
+            }
         }
     }
 
@@ -147,6 +173,7 @@ impl Server {
         alloc: Global,
         session: u32,
         id: Id,
+        stream: Option<u64>,
         envelope: &Envelope,
         writes: &Writes,
         txn: &Txn,
@@ -157,14 +184,14 @@ impl Server {
         requires free { behind self.now.past writes.now ≡ None }
         ensures { IfOk result (λ d. Does self.now
             (committed_answer_unless self.now txn.now (conflict self.now.config.mode self.now.past self.now.txns.open txn.now writes.now))
-            (committed_unless self.now (asking session id envelope.now) writes.now txn.now (conflict self.now.config.mode self.now.past self.now.txns.open txn.now writes.now)) d) }
+            (committed_unless self.now (asking session id stream envelope.now) writes.now txn.now (conflict self.now.config.mode self.now.past self.now.txns.open txn.now writes.now)) d) }
     {
         match self.conflict(alloc, txn, writes)? {
             Some(other) => Ok((
                 Answer::Refused(Refusal::conflict_with(other)),
                 Change::Ends(txn.id),
             )),
-            None => self.commit_free(alloc, session, id, envelope, writes, txn),
+            None => self.commit_free(alloc, session, id, stream, envelope, writes, txn),
         }
     }
 
@@ -174,6 +201,7 @@ impl Server {
         alloc: Global,
         session: u32,
         id: Id,
+        stream: Option<u64>,
         envelope: &Envelope,
         writes: &Writes,
         txn: &Txn,
@@ -184,12 +212,13 @@ impl Server {
         requires free { behind self.now.past writes.now ≡ None }
         requires none { conflict self.now.config.mode self.now.past self.now.txns.open txn.now writes.now ≡ None }
         ensures { IfOk result (λ d. Does self.now (Prepared txn.now.id (next_time self.now.past))
-            (prepared (with_ended self.now txn.now.id) (next_commit self.now.past txn.now.id (asking session id envelope.now) writes.now txn.now.reads)) d) }
+            (prepared (with_ended self.now txn.now.id) (next_commit self.now.past txn.now.id (asking session id stream envelope.now) writes.now txn.now.reads)) d) }
     {
         self.stand();
         self.has_time();
         let reads = txn.reads.copy(alloc)?;
-        let commit = self.next_commit(alloc, session, txn.id, envelope, writes, reads)?;
+        let asker = asker_of(alloc, session, stream, envelope)?;
+        let commit = self.next_commit(alloc, txn.id, asker, writes, reads)?;
         Ok((
             Answer::Prepared(txn.id, commit.time()),
             Change::Commits(commit),

@@ -2,6 +2,8 @@
 //! Each call is one event of the server, and its contract is that event's definition.
 #![tactic(auto)]
 
+mod answering;
+mod batch;
 mod carry;
 mod changes;
 mod check;
@@ -21,6 +23,7 @@ mod settle;
 mod shown;
 mod waiting;
 mod waits;
+mod write;
 
 pub use fs_machine::{Answer, Config, Limits, Messages, Mode, Outcome, Parked, Settled};
 pub use fs_past::Version;

@@ -32,7 +32,7 @@ impl Server {
     ghost use Rattle.fs_machine.specs.Refusing.{ids_refusal, journal_count, journal_size, next_time, outbox_is_full, outbox_refusal, reads_refusal, room_refusal, time_limit_refusal};
     ghost use Rattle.fs_machine.specs.Request.{arrival_refusal, begin_refusal, query_refusal, retry_refusal};
     ghost use Rattle.fs_machine.specs.Transact.{reads_had};
-    ghost use Rattle.fs_server.specs.Noted.{listens, noted_reads, noted_refusal};
+    ghost use Rattle.fs_server.specs.Noted.{is_streaming, noted_reads, noted_refusal};
 
     /// The rule of queries that a request breaks as it comes, or the limit that it would pass, the first of several.
     pub(crate) fn arrival_refusal(
@@ -42,7 +42,7 @@ impl Server {
         request: &Request,
         reads: &Reads,
     ) -> Result<Option<Refusal>, AllocError>
-        requires plain { listens request.now ≡ false }
+        requires plain { is_streaming request.now ≡ false }
         requires reads { reads.now ≡ noted_reads self.now request.now }
         ensures { IfOk result (λ r. r ≡ arrival_refusal self.now session request.now) }
     {
@@ -63,6 +63,7 @@ impl Server {
             Request::Rollback { .. } => self.outbox_refusal(alloc, session),
             Request::AddTarget { .. } => unreachable!(),
             Request::RemoveTarget { .. } => unreachable!(),
+            Request::Write { .. } => unreachable!(),
         }
     }
 
@@ -98,7 +99,12 @@ impl Server {
         self.limits.outbox <= self.sessions.outbox_len(session) as u64
     }
 
-    fn outbox_refusal(&self, alloc: Global, session: u32) -> Result<Option<Refusal>, AllocError>
+    /// That refusal.
+    pub(crate) fn outbox_refusal(
+        &self,
+        alloc: Global,
+        session: u32,
+    ) -> Result<Option<Refusal>, AllocError>
         ensures { IfOk result (λ r. r ≡ outbox_refusal self.now session None) }
     {
         if self.outbox_is_full(session) {
@@ -189,7 +195,8 @@ impl Server {
         self.ids_refusal(alloc)
     }
 
-    fn ids_refusal(&self, alloc: Global) -> Result<Option<Refusal>, AllocError>
+    /// No number is left that a request could draw.
+    pub(crate) fn ids_refusal(&self, alloc: Global) -> Result<Option<Refusal>, AllocError>
         ensures { IfOk result (λ r. r ≡ ids_refusal self.now None) }
     {
         if self.limits.ids <= self.numbers.ids {
@@ -201,7 +208,8 @@ impl Server {
 
     // ---- commits
 
-    fn commit_refusal(
+    /// The limit that a commit would pass as it comes, the first of several.
+    pub(crate) fn commit_refusal(
         &self,
         alloc: Global,
         session: u32,
@@ -210,13 +218,20 @@ impl Server {
     ) -> Result<Option<Refusal>, AllocError>
         ensures { IfOk result (λ r. r ≡ commit_refusal self.now session writes.now transaction.now) }
     {
-        if writes.len() as u64 > self.limits.writes {
+        if self.are_too_many(writes) {
             return at_limit(alloc, "writes", self.limits.writes);
         }
         if self.outbox_is_full(session) {
             return at_limit(alloc, "outbox", self.limits.outbox);
         }
         self.growth_refusal(alloc, writes, transaction)
+    }
+
+    /// Whether a commit may not have so many writes.
+    pub(crate) fn are_too_many(&self, writes: &Writes) -> bool
+        ensures { result ≡ nat_lt self.now.limits.writes (length writes.now) }
+    {
+        writes.len() as u64 > self.limits.writes
     }
 
     // What was committed would grow too large, or there is no number or no time for it.

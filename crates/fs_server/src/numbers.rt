@@ -4,7 +4,7 @@ ghost use Rattle.fs_rpc.specs.When.{transaction_of as transaction_when};
 ghost use Rattle.fs_machine.specs.Numbered.{draws as draws_one, transaction_in as transaction_of};
 ghost use Rattle.fs_server.specs.Noted.{ids_after as ids_then, own_number};
 
-use fs_rpc::{Request, When};
+use fs_rpc::{Request, StreamRequest, When};
 use fs_status::Id;
 
 // Whether a request draws a number.
@@ -14,6 +14,7 @@ fn draws(request: &Request) -> bool
     match request {
         Request::Commit { transaction, .. } => transaction.is_none(),
         Request::BeginTransaction { .. } => true,
+        Request::Write { asked, .. } => matches!(asked, StreamRequest::Batch { .. }),
         _ => false,
     }
 }
@@ -41,6 +42,7 @@ fn transaction_in(request: &Request) -> Option<Id>
         Request::Rollback { transaction, .. } => Some(*transaction),
         Request::AddTarget { .. } => None,
         Request::RemoveTarget { .. } => None,
+        Request::Write { .. } => None,
     }
 }
 

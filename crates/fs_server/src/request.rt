@@ -15,7 +15,8 @@ impl Server {
     ghost use Rattle.fs_machine.specs.Grows.{Grows};
     ghost use Rattle.fs_machine.specs.Request.{answered, arrival_refusal, asked, check_refusal, held_by};
     ghost use Rattle.fs_machine.specs.declared.answer.Answer.TheVariants.{Refused};
-    ghost use Rattle.fs_server.specs.Noted.{listens, noted_reads};
+    ghost use Rattle.fs_server.specs.Noted.{is_streaming, noted_reads};
+    ghost use Rattle.fs_server.specs.Plain.{after_plain, told_plain};
 
     /// A request comes on a session: what it is answered at once. A commit that passes no limit is prepared, and its reply comes
     /// to the outbox of the session once it is settled and released. One that writes a name which a commit writes that isn't released
@@ -25,11 +26,16 @@ impl Server {
     /// ends by its commit or a rollback; the commit of one that is in conflict is aborted. A target is added, or removed: one that isn't added
     /// is told to be removed, with the cause, unless the request breaks a rule or the session has another target of its id.
     ///
+    /// A write stream is opened or resumed, or asked where it is, and is answered at once. Its next batch is such a commit; the response
+    /// comes to whichever session owns the stream by then, and is kept: the same batch once more is answered by it, or told that it is in
+    /// progress still (`InProgress`).
+    ///
     /// Of several refusals the first of these is told: a rule of queries that is broken; limits, in the order in which `Limits` has them; a
-    /// transaction that isn't open, or only reads and is to write, or a target that is there or isn't; a read time that is too old or too
+    /// transaction that isn't open, or only reads and is to write, a stream that the session doesn't own or may not, or a stream token that isn't
+    /// the next one or that before it, or a target that is there or isn't; a read time that is too old or too
     /// new, or a resume token that is none or shows a later time than what is released; that as many requests wait as may; a conflict; that
     /// no document is there. Where memory runs out, all is as before. (v1 reference, "Commit", "GetDocument",
-    /// "BatchGetDocuments", "RunQuery", "BeginTransaction", "Rollback", "Listen".)
+    /// "BatchGetDocuments", "RunQuery", "BeginTransaction", "Rollback", "Listen", "Write".)
     pub fn request(&mut self, alloc: Global, session: u32, envelope: &Envelope) -> Answer
         ensures told { result ≢ Refused (refusal_of Memory) → result ≡ answered self.old session envelope.now }
         ensures state { result ≢ Refused (refusal_of Memory) → self.new ≡ asked self.old session envelope.now }
@@ -61,20 +67,23 @@ impl Server {
                 ..
             } => self.add_target(alloc, session, *id, target, token),
             Request::RemoveTarget { id, .. } => self.remove_target(alloc, session, *id),
+            Request::Write { database, asked } => {
+                self.write(alloc, session, &envelope.id, database, asked)
+            }
             _ => self.ask(alloc, session, envelope),
         }
     }
 
-    // One that is of no target.
+    // One that is of no target and no stream.
     fn ask(
         &mut self,
         alloc: Global,
         session: u32,
         envelope: &Envelope,
     ) -> Result<Answer, AllocError>
-        requires { listens envelope.now.request ≡ false }
-        ensures told { IfOk result (λ a. a ≡ answered self.old session envelope.now) }
-        ensures state { OnOk result (self.new ≡ asked self.old session envelope.now) }
+        requires { is_streaming envelope.now.request ≡ false }
+        ensures told { IfOk result (λ a. a ≡ told_plain self.old session envelope.now) }
+        ensures state { OnOk result (self.new ≡ after_plain self.old session envelope.now) }
         ensures err { OnErr result (self.new ≡ self.old) }
     {
         let reads = self.shown(alloc, &envelope.request)?;
@@ -92,11 +101,11 @@ impl Server {
         envelope: &Envelope,
         reads: Reads,
     ) -> Result<Answer, AllocError>
-        requires plain { listens envelope.now.request ≡ false }
+        requires plain { is_streaming envelope.now.request ≡ false }
         requires limits { arrival_refusal self.old session envelope.now.request ≡ None }
         requires reads { reads ≡ noted_reads self.old envelope.now.request }
-        ensures told { IfOk result (λ a. a ≡ answered self.old session envelope.now) }
-        ensures state { OnOk result (self.new ≡ asked self.old session envelope.now) }
+        ensures told { IfOk result (λ a. a ≡ told_plain self.old session envelope.now) }
+        ensures state { OnOk result (self.new ≡ after_plain self.old session envelope.now) }
         ensures err { OnErr result (self.new ≡ self.old) }
     {
         self.stand();
@@ -117,12 +126,12 @@ impl Server {
         envelope: &Envelope,
         reads: Reads,
     ) -> Result<Answer, AllocError>
-        requires plain { listens envelope.now.request ≡ false }
+        requires plain { is_streaming envelope.now.request ≡ false }
         requires limits { arrival_refusal self.old session envelope.now.request ≡ None }
-        requires check { check_refusal self.old envelope.now.request ≡ None }
+        requires check { check_refusal self.old session envelope.now.request ≡ None }
         requires reads { reads ≡ noted_reads self.old envelope.now.request }
-        ensures told { IfOk result (λ a. a ≡ answered self.old session envelope.now) }
-        ensures state { OnOk result (self.new ≡ asked self.old session envelope.now) }
+        ensures told { IfOk result (λ a. a ≡ told_plain self.old session envelope.now) }
+        ensures state { OnOk result (self.new ≡ after_plain self.old session envelope.now) }
         ensures err { OnErr result (self.new ≡ self.old) }
     {
         self.past.hold_all(alloc)?;
@@ -140,12 +149,12 @@ impl Server {
         envelope: &Envelope,
         holder: Id,
     ) -> Result<Answer, AllocError>
-        requires plain { listens envelope.now.request ≡ false }
+        requires plain { is_streaming envelope.now.request ≡ false }
         requires limits { arrival_refusal self.old session envelope.now.request ≡ None }
-        requires check { check_refusal self.old envelope.now.request ≡ None }
+        requires check { check_refusal self.old session envelope.now.request ≡ None }
         requires held { held_by self.old envelope.now.request ≡ Some holder }
-        ensures told { IfOk result (λ a. a ≡ answered self.old session envelope.now) }
-        ensures state { OnOk result (self.new ≡ asked self.old session envelope.now) }
+        ensures told { IfOk result (λ a. a ≡ told_plain self.old session envelope.now) }
+        ensures state { OnOk result (self.new ≡ after_plain self.old session envelope.now) }
         ensures err { OnErr result (self.new ≡ self.old) }
     {
         self.stand();
@@ -157,6 +166,7 @@ impl Server {
         let request = ParkedRequest {
             session,
             id: number_of(self.numbers.ids, &envelope.request),
+            stream: None,
             envelope: envelope.copy(alloc)?,
         };
         self.waiting.push(request)?;
@@ -172,25 +182,25 @@ impl Server {
         envelope: &Envelope,
         reads: Reads,
     ) -> Result<Answer, AllocError>
-        requires plain { listens envelope.now.request ≡ false }
+        requires plain { is_streaming envelope.now.request ≡ false }
         requires limits { arrival_refusal self.old session envelope.now.request ≡ None }
-        requires check { check_refusal self.old envelope.now.request ≡ None }
+        requires check { check_refusal self.old session envelope.now.request ≡ None }
         requires free { held_by self.old envelope.now.request ≡ None }
         requires reads { reads ≡ noted_reads self.old envelope.now.request }
-        ensures told { IfOk result (λ a. a ≡ answered self.old session envelope.now) }
-        ensures state { OnOk result (self.new ≡ asked self.old session envelope.now) }
+        ensures told { IfOk result (λ a. a ≡ told_plain self.old session envelope.now) }
+        ensures state { OnOk result (self.new ≡ after_plain self.old session envelope.now) }
         ensures err { OnErr result (self.new ≡ self.old) }
     {
         self.stand();
         let id = number_of(self.numbers.ids, &envelope.request);
-        let (answer, change) = self.carry_out(alloc, session, id, envelope, reads)?;
+        let (answer, change) = self.carry_out(alloc, session, id, None, envelope, reads)?;
         make(alloc, &mut self.past, &mut self.txns, change)?;
         self.numbers.ids = ids_after(self.numbers.ids, &envelope.request);
         Ok(answer)
     }
 
-    // Whether as many requests wait as may.
-    fn waiting_is_full(&self) -> bool
+    /// Whether as many requests wait as may.
+    pub(crate) fn waiting_is_full(&self) -> bool
         ensures { result ≡ nat_le self.now.limits.parked (length self.now.parked) }
     {
         self.limits.parked <= self.waiting.len() as u64

@@ -1,4 +1,5 @@
 //! Requests that wait, and are tried again.
+use crate::answering::refuse_batch;
 use crate::changes::make;
 use crate::server::Server;
 use fs_history::Reads;
@@ -8,7 +9,7 @@ use fs_status::{Reason, Refusal};
 use std::alloc::{AllocError, Global};
 
 impl Server {
-    ghost use Rattle.std.specs.Prelude.{◌≡◌, ◌≢◌, ◌<◌, None, Some, IfOk, OnOk, OnErr, length, option_map, slice_get};
+    ghost use Rattle.std.specs.Prelude.{◌≡◌, ◌≢◌, ◌<◌, ℕ, None, Some, false, IfOk, OnOk, OnErr, length, option_map, slice_get};
     ghost use Rattle.fs_status.specs.Refusal.{refusal_of};
     ghost use Rattle.fs_status.specs.declared.reason.Reason.TheVariants.{Memory};
     ghost use Rattle.fs_machine.specs.Grows.{Grows};
@@ -18,7 +19,7 @@ impl Server {
     ghost use Rattle.fs_machine.specs.declared.answer.Answer.TheVariants.{Refused};
     ghost use Rattle.fs_machine.specs.declared.parked_request.ParkedRequest.{ParkedRequest};
     ghost use Rattle.fs_server.specs.Changes.{IsClear};
-    ghost use Rattle.fs_server.specs.Noted.{noted_reads};
+    ghost use Rattle.fs_server.specs.Noted.{is_streaming, noted_reads};
 
     /// How many requests wait.
     pub fn parked(&self) -> u64
@@ -37,13 +38,15 @@ impl Server {
         Ok(Parked {
             session: request.session,
             id: copy_id(alloc, &request.envelope.id)?,
+            stream: request.stream,
             held: self.holder(alloc, &request.envelope.request, &reads)?,
         })
     }
 
     /// The request that waits at a place is tried again: what it is answered. One that still has to wait stays where it is
     /// (`Held`); else it waits no more, and is carried out as if it came now, or refused: for a limit that it would pass by now, or since
-    /// its transaction isn't open any more. Where memory runs out, all is as before.
+    /// its transaction isn't open any more. The batch of a stream that is refused is finished with that, and so whoever owns the stream is told.
+    /// Where memory runs out, all is as before.
     pub fn retry(&mut self, alloc: Global, place: u64) -> Answer
         requires { place < length self.old.parked }
         ensures told { result ≢ Refused (refusal_of Memory) → Some result ≡ retry_answer self.old place }
@@ -64,14 +67,41 @@ impl Server {
         ensures state { OnOk result (self.new ≡ retried self.old place) }
         ensures err { OnErr result (self.new ≡ self.old) }
     {
+        self.stand();
         let request = &self.waiting.at(place).envelope.request;
         let reads = self.shown(alloc, request)?;
         match self.refusal(alloc, request, &reads)? {
-            Some(refusal) => {
+            Some(refusal) => self.give_up(alloc, place, refusal),
+            None => self.try_clear(alloc, place, reads),
+        }
+    }
+
+    // It is refused, and waits no more. Its stream is told, if it is the batch of one.
+    fn give_up(
+        &mut self,
+        alloc: Global,
+        place: usize,
+        refusal: Refusal,
+    ) -> Result<Answer, AllocError>
+        requires within { place < length self.old.parked }
+        requires refused { (r : ParkedRequest) → slice_get self.old.parked place ≡ Some r
+            → unless_closed (retry_refusal self.old r.envelope.request) (check_refusal self.old r.session r.envelope.request) ≡ Some refusal }
+        ensures told { IfOk result (λ a. Some a ≡ retry_answer self.old place) }
+        ensures state { OnOk result (self.new ≡ retried self.old place) }
+        ensures err { OnErr result (self.new ≡ self.old) }
+    {
+        self.stand();
+        match self.waiting.at(place).stream {
+            Some(stream) => {
+                let told = refusal.copy(alloc)?;
+                refuse_batch(alloc, &mut self.streams, &mut self.sessions, stream, told)?;
                 self.waiting.remove(place);
                 Ok(Answer::Refused(refusal))
             }
-            None => self.try_clear(alloc, place, reads),
+            None => {
+                self.waiting.remove(place);
+                Ok(Answer::Refused(refusal))
+            }
         }
     }
 
@@ -82,8 +112,9 @@ impl Server {
         request: &Request,
         reads: &Reads,
     ) -> Result<Option<Refusal>, AllocError>
-        requires { reads.now ≡ noted_reads self.now request.now }
-        ensures { IfOk result (λ r. r ≡ unless_closed (retry_refusal self.now request.now) (check_refusal self.now request.now)) }
+        requires plain { is_streaming request.now ≡ false }
+        requires reads { reads.now ≡ noted_reads self.now request.now }
+        ensures { IfOk result (λ r. (session : ℕ) → r ≡ unless_closed (retry_refusal self.now request.now) (check_refusal self.now session request.now)) }
     {
         match self.retry_refusal(alloc, request, reads)? {
             Some(refusal) => Ok(Some(refusal)),
@@ -94,7 +125,7 @@ impl Server {
     // Nothing stands in its way but what may hold it.
     fn try_clear(&mut self, alloc: Global, place: usize, reads: Reads) -> Result<Answer, AllocError>
         requires within { place < length self.old.parked }
-        requires clear { (r : ParkedRequest) → slice_get self.old.parked place ≡ Some r → IsClear self.old r.envelope.request reads }
+        requires clear { (r : ParkedRequest) → slice_get self.old.parked place ≡ Some r → IsClear self.old r.session r.envelope.request reads }
         ensures told { IfOk result (λ a. Some a ≡ retry_answer self.old place) }
         ensures state { OnOk result (self.new ≡ retried self.old place) }
         ensures err { OnErr result (self.new ≡ self.old) }
@@ -110,7 +141,7 @@ impl Server {
     // Nothing holds it.
     fn go_on(&mut self, alloc: Global, place: usize, reads: Reads) -> Result<Answer, AllocError>
         requires within { place < length self.old.parked }
-        requires clear { (r : ParkedRequest) → slice_get self.old.parked place ≡ Some r → IsClear self.old r.envelope.request reads }
+        requires clear { (r : ParkedRequest) → slice_get self.old.parked place ≡ Some r → IsClear self.old r.session r.envelope.request reads }
         requires free { (r : ParkedRequest) → slice_get self.old.parked place ≡ Some r → held_by self.old r.envelope.request ≡ None }
         ensures told { IfOk result (λ a. Some a ≡ retry_answer self.old place) }
         ensures state { OnOk result (self.new ≡ retried self.old place) }
@@ -122,6 +153,7 @@ impl Server {
             alloc,
             request.session,
             request.id,
+            request.stream,
             &request.envelope,
             reads,
         )?;

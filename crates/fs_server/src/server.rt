@@ -8,6 +8,7 @@ use fs_past::{Past, Version};
 use fs_path::{DocName, Root};
 use fs_sessions::{Listeners, Sessions, lesser};
 use fs_status::Id;
+use fs_stream::Streams;
 use fs_target::targets_are_lawful;
 use fs_time::Micros;
 use fs_txn::Txns;
@@ -46,6 +47,7 @@ pub struct Server {
     pub(crate) listeners: Listeners,
     // those that wait, in the order of their arrival
     pub(crate) waiting: Waiting,
+    pub(crate) streams: Streams,
     pub(crate) numbers: Numbers,
 }
 
@@ -67,14 +69,15 @@ impl Model for Server {
       sessions = s.sessions;
       listeners = listeners_of s.listeners;
       parked = s.waiting;
+      streams = s.streams;
       numbers = s.numbers;
     } };
 
-    ghost invariant = { λ s. IsKept s.config s.limits s.past s.txns s.sessions s.listeners s.waiting s.numbers };
+    ghost invariant = { λ s. IsKept s.config s.limits s.past s.txns s.sessions s.listeners s.waiting s.streams s.numbers };
 }
 
 impl Server {
-    ghost use Rattle.std.specs.Prelude.{◌≡◌, ◌↔◌, [], IsNone, IfOk, IfSome, OnOk, OnErr, is_some};
+    ghost use Rattle.std.specs.Prelude.{◌≡◌, ◌↔◌, ◌<◌, ◌^◌, [], IsNone, IfOk, IfSome, OnOk, OnErr, is_some};
     ghost use Rattle.fs_history.specs.Versions.{chain as chain_from};
     ghost use Rattle.fs_machine.specs.Compact.{compacted};
     ghost use Rattle.fs_machine.specs.Config.{IsAllowed};
@@ -97,6 +100,7 @@ impl Server {
         ensures { result ≡ started config limits start }
     {
         let past = Past::new(alloc, start, config.shards);
+        let streams = Streams::new(alloc, limits.streams);
         Server {
             config,
             limits,
@@ -105,6 +109,7 @@ impl Server {
             sessions: Sessions::new(alloc),
             listeners: Listeners::new(alloc),
             waiting: Waiting::new(alloc),
+            streams,
             numbers: Numbers {
                 ids: 0,
                 sessions: 0,
@@ -159,8 +164,9 @@ impl Server {
         self.past.chain(name)
     }
 
-    /// A session ends, if it is open. Messages that it was still to be sent are lost, it listens to nothing any more, and its requests that
-    /// wait are withdrawn; its pending commits go on, and so do its transactions. It takes no memory.
+    /// A session ends, if it is open. Messages that it was still to be sent are lost, it listens to nothing any more, it owns no
+    /// write stream, and its requests that wait are withdrawn; its pending commits go on, and so do its transactions, and the batches that
+    /// streams took, whoever owns those later. It takes no memory.
     pub fn leave(&mut self, session: u32)
         ensures state { self.new ≡ departed self.old session }
         ensures grows { Grows self.old.past self.new.past }
@@ -169,10 +175,12 @@ impl Server {
         self.sessions.remove(session);
         self.listeners.remove(session);
         self.waiting.withdraw(session);
+        self.streams.leave(session);
     }
 
     /// The clock goes on to a moment: transactions expire whose time has run out, and what can be is released: the time up to which can be
-    /// read now. Where memory runs out, the clock has gone on, and the release is owed: the next tick or settling makes it.
+    /// read now. What is let out is answered, as by `settle`. Where memory runs out, the clock has gone on, and the release is owed: the next
+    /// tick or settling makes it.
     pub fn tick(&mut self, alloc: Global, now: Micros) -> Result<Micros, AllocError>
         ensures ok { OnOk result (self.new ≡ ticked self.old now) }
         ensures told { IfOk result (λ t. t ≡ self.new.past.released) }
@@ -183,7 +191,7 @@ impl Server {
         targets_are_lawful();
         self.past.advance(now);
         self.txns.expire(now);
-        release(alloc, &mut self.past, &mut self.sessions)?;
+        release(alloc, &mut self.past, &mut self.streams, &mut self.sessions)?;
         Ok(self.past.released())
     }
 
@@ -209,6 +217,14 @@ impl Server {
         self.sessions.take(alloc, session)
     }
 
+    // How many numbers requests have drawn.
+    fn drawn(&self) -> u64
+        ensures value { result ≡ self.now.numbers.ids }
+        ensures counted { self.now.numbers.ids < 2 ^ 64 }
+    {
+        self.numbers.ids
+    }
+
     // What stands at every moment, and whatever comes.
     pub(crate) fn stand(&self)
         ensures facts { Facts self.now }
@@ -216,8 +232,10 @@ impl Server {
         ensures brought { IsBrought self.now.past.history }
         ensures configured { IsAllowed self.now.config }
         ensures grows { AlwaysGrows }
+        ensures counted { self.now.numbers.ids < 2 ^ 64 }
     {
         machines_are_lawful();
         let _ = self.past.last();
+        let _ = self.drawn();
     }
 }

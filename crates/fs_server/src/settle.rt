@@ -1,19 +1,20 @@
 //! Settling commits, and releasing what can be.
 ghost use Rattle.std.specs.Prelude.{◌≡◌, IfOk, IsSome, OnOk, OnErr, Some};
-ghost use Rattle.fs_rpc.specs.MessageJson.{refused};
-ghost use Rattle.fs_machine.specs.Release.{all_delivered, past_released, replies_out};
-ghost use Rattle.fs_machine.specs.Sessions.{delivered};
-ghost use Rattle.fs_machine.specs.Settle.{ComesTo, dropped_from, pending_of};
+ghost use Rattle.fs_machine.specs.Release.{all_answered, committed_out, past_released};
+ghost use Rattle.fs_machine.specs.Settle.{ComesTo, dropped_from, pending_of, refused_to};
 ghost use Rattle.fs_machine.specs.declared.unreleased.Unreleased.{Unreleased};
 ghost use Rattle.fs_past.specs.Bringing.{BringsMore};
+ghost use Rattle.fs_server.specs.Answering.{AreAnswerable, CanFinishFor};
 ghost use Rattle.fs_server.specs.Settling.{is_refused, settled_so, Decides};
 
+use crate::answering::{answers, finish_all, refuse_batch};
 use crate::server::Server;
-use fs_machine::{Outcome, Settled, Unreleased};
+use fs_machine::{Asker, Outcome, Settled, Unreleased};
 use fs_past::Past;
 use fs_rpc::{Message, copy_id};
 use fs_sessions::Sessions;
 use fs_status::{Id, Refusal};
+use fs_stream::Streams;
 use fs_target::targets_are_lawful;
 use fs_time::Micros;
 use std::alloc::{AllocError, Global};
@@ -29,55 +30,50 @@ fn pending(past: &Past, id: Id) -> &Unreleased
     }
 }
 
-// What a commit is answered that is dropped.
-fn rejection(alloc: Global, commit: &Unreleased, refusal: &Refusal) -> Result<Message, AllocError>
-    ensures { IfOk result (λ m. m ≡ refused commit.now.request refusal.now) }
-{
-    let id = copy_id(alloc, &commit.request)?;
-    Message::refused(alloc, id, refusal)
-}
-
-// A pending commit is dropped, and its session is told why.
+// A pending commit is dropped, and the session that asked is told why, or its stream has finished the batch so.
 fn reject(
     alloc: Global,
     past: &mut Past,
+    streams: &mut Streams,
     sessions: &mut Sessions,
     id: Id,
-    refusal: &Refusal,
+    refusal: Refusal,
 ) -> Result<(), AllocError>
-    requires { IsSome (pending_of past.old id) }
+    requires pending { IsSome (pending_of past.old id) }
+    requires finishes { (u : Unreleased) → pending_of past.old id ≡ Some u → CanFinishFor streams.old u.asker }
     ensures past { OnOk result (past.new ≡ record past.old { unreleased = dropped_from id past.old.unreleased }) }
     ensures told { OnOk result ((u : Unreleased) → pending_of past.old id ≡ Some u
-        → sessions.new ≡ delivered u.session (refused u.request refusal.now) sessions.old) }
+        → (streams.new, sessions.new) ≡ refused_to u.asker refusal (streams.old, sessions.old)) }
     ensures err { OnErr result (past.new ≡ past.old) }
+    ensures err_streams { OnErr result (streams.new ≡ streams.old) }
     ensures err_told { OnErr result (sessions.new ≡ sessions.old) }
 {
-    let commit = pending(past, id);
-    let session = session_of(commit);
-    let message = rejection(alloc, commit, refusal)?;
-    sessions.deliver(session, message)?;
+    match &pending(past, id).asker {
+        Asker::Session { session, request } => {
+            let request = copy_id(alloc, request)?;
+            let message = Message::refused(alloc, request, &refusal)?;
+            sessions.deliver(*session, message)?;
+        }
+        Asker::Stream(stream) => refuse_batch(alloc, streams, sessions, *stream, refusal)?,
+    }
     past.reject(id);
     Ok(())
-}
-
-// Read by reference.
-fn session_of(commit: &Unreleased) -> u32
-    ensures { result ≡ commit.now.session }
-{
-    commit.session
 }
 
 // A pending commit is accepted or dropped, by what its writes come to.
 fn decide(
     alloc: Global,
     past: &mut Past,
+    streams: &mut Streams,
     sessions: &mut Sessions,
     id: Id,
     outcome: Outcome,
 ) -> Result<(), AllocError>
-    requires { ComesTo past.old id outcome }
-    ensures ok { OnOk result (Decides past.old sessions.old id outcome past.new sessions.new) }
+    requires comes { ComesTo past.old id outcome }
+    requires finishes { (u : Unreleased) → pending_of past.old id ≡ Some u → CanFinishFor streams.old u.asker }
+    ensures ok { OnOk result (Decides past.old (streams.old, sessions.old) id outcome past.new (streams.new, sessions.new)) }
     ensures err { OnErr result (past.new ≡ past.old) }
+    ensures err_streams { OnErr result (streams.new ≡ streams.old) }
     ensures err_told { OnErr result (sessions.new ≡ sessions.old) }
 {
     match outcome {
@@ -85,29 +81,34 @@ fn decide(
             past.accept(id, changes, results);
             Ok(())
         }
-        Outcome::Refused(refusal) => reject(alloc, past, sessions, id, &refusal),
+        Outcome::Refused(refusal) => reject(alloc, past, streams, sessions, id, refusal),
     }
 }
 
-/// What can be is released, and sessions have their replies. Where memory runs out, nothing is changed.
+/// What can be is released, sessions have their replies, and streams keep their responses. Where memory runs out, nothing is changed.
 /// (docs/DECISIONS.md, "Replies are delivered before what they tell is released".)
 pub(crate) fn release(
     alloc: Global,
     past: &mut Past,
+    streams: &mut Streams,
     sessions: &mut Sessions,
 ) -> Result<(), AllocError>
+    requires { AreAnswerable streams.old (committed_out past.old) }
     ensures past { OnOk result (past.new ≡ past_released past.old) }
     ensures brings { OnOk result (BringsMore past.old past.new) }
-    ensures told { OnOk result (sessions.new ≡ all_delivered (replies_out past.old) sessions.old) }
+    ensures told { OnOk result ((streams.new, sessions.new) ≡ all_answered (committed_out past.old) (streams.old, sessions.old)) }
     ensures err { OnErr result (past.new ≡ past.old) }
+    ensures err_streams { OnErr result (streams.new ≡ streams.old) }
     ensures err_told { OnErr result (sessions.new ≡ sessions.old) }
 {
-    let replies = past.replies(alloc)?;
+    let commits = past.committed(alloc)?;
+    let (replies, responses) = answers(alloc, streams, commits)?;
     let to = sessions.deliver_all(alloc, replies)?;
     if let Err(error) = past.release(alloc) {
         sessions.take_all_back(to);
         return Err(error);
     }
+    finish_all(streams, responses);
     Ok(())
 }
 
@@ -148,6 +149,7 @@ impl Server {
 
     /// A pending commit is settled with what its writes come to: it is accepted, or dropped where they are refused. Then what can be
     /// is released: the accepted commits before which none is pending, whose replies go to the outboxes in the order of their times.
+    /// The batch of a stream is finished by it, and its response is kept, and goes to whichever session owns the stream by then.
     /// Commits may be settled in any order. Where memory runs out before the commit is accepted or dropped, all is as before; where it
     /// runs out then, the release is owed, and the next tick or settling makes it.
     pub fn settle(&mut self, alloc: Global, commit: Id, outcome: Outcome) -> Settled
@@ -159,10 +161,17 @@ impl Server {
         targets_are_lawful();
         let time = pending(&self.past, commit).time();
         let dropped = is_refused(&outcome);
-        if let Err(_) = decide(alloc, &mut self.past, &mut self.sessions, commit, outcome) {
+        if let Err(_) = decide(
+            alloc,
+            &mut self.past,
+            &mut self.streams,
+            &mut self.sessions,
+            commit,
+            outcome,
+        ) {
             return Settled::Memory(None);
         }
-        match release(alloc, &mut self.past, &mut self.sessions) {
+        match release(alloc, &mut self.past, &mut self.streams, &mut self.sessions) {
             Ok(()) => settled_so(dropped, time, self.past.released()),
             Err(_) => Settled::Memory(Some(time)),
         }

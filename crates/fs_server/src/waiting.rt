@@ -66,10 +66,10 @@ impl Waiting {
         let _ = self.items.remove(place);
     }
 
-    /// Those of a session wait no more. It takes no memory.
+    /// Those of a session wait no more, but for the batches that streams took. It takes no memory.
     pub fn withdraw(&mut self, session: u32)
         ensures { self.new ≡ of_others session self.old }
     {
-        self.items.retain(|request| request.session != session);
+        self.items.retain(|request| request.session != session || request.stream.is_some());
     }
 }

@@ -64,7 +64,8 @@ impl Server {
         }
     }
 
-    fn writer_behind(
+    /// Whom a commit waits for.
+    pub(crate) fn writer_behind(
         &self,
         alloc: Global,
         writes: &Writes,

@@ -9,4 +9,4 @@ mod Unconcerned
 mod InPlace
 mod Picking
 pub mod Replies
-mod Raises
+pub mod Raises

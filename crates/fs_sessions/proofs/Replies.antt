@@ -3,12 +3,10 @@ use Rattle.std.proofs.Common.{◌≡◌, ℕ, List, [], ◌∷◌, ◌++◌, Som
 use Rattle.std.specs.Prelude.{map}
 use Rattle.std.proofs.Math.Seq.{take-length, take-suc}
 use Rattle.std.proofs.lemmas.Option.{same_Some}
-use Rattle.fs_machine.specs.declared.answer.Outcome.TheVariants as outcome
+use Rattle.fs_machine.specs.Sessions.{delivered}
 use Rattle.fs_machine.specs.declared.reply.Reply.{Reply}
 use Rattle.fs_machine.specs.declared.session.Session.{Session}
-use Rattle.fs_machine.specs.Release.{all_delivered}
-use Rattle.fs_machine.specs.Sessions.{delivered}
-use Rattle.fs_sessions.specs.Place.{all_taken_back, taken_back}
+use Rattle.fs_sessions.specs.Place.{all_delivered, all_taken_back, taken_back}
 use Rattle.fs_sessions.proofs.Places.{delivered_and_taken_back}
 
 pub delivered_last : (rs : List Reply) (r : Reply) (ss : List Session) → all_delivered (rs ++ r ∷ []) ss ≡ delivered r.session r.message (all_delivered rs ss)

@@ -32,10 +32,9 @@ impl Model for Sessions {
 }
 
 impl Sessions {
-    ghost use Rattle.std.specs.Prelude.{◌≡◌, ◌∷◌, ◌++◌, [], IfOk, OnOk, OnErr, length, map};
-    ghost use Rattle.fs_machine.specs.Release.{all_delivered};
-    ghost use Rattle.fs_machine.specs.Sessions.{outbox_in, delivered, emptied, with_outbox, without};
-    ghost use Rattle.fs_sessions.specs.Place.{all_taken_back, taken_back};
+    ghost use Rattle.std.specs.Prelude.{◌≡◌, ◌∷◌, ◌++◌, [], IfOk, OnOk, OnErr, false, length, map};
+    ghost use Rattle.fs_machine.specs.Sessions.{delivered, emptied, has_owned, outbox_in, owning, with_outbox, without};
+    ghost use Rattle.fs_sessions.specs.Place.{all_delivered, all_taken_back, taken_back};
 
     /// None is open. The allocator serves those that open.
     pub fn new(alloc: Global) -> Sessions
@@ -55,13 +54,14 @@ impl Sessions {
 
     /// Opens one more, of this number.
     pub fn add(&mut self, alloc: Global, number: u32) -> Result<(), AllocError>
-        ensures ok { OnOk result (self.new ≡ self.old ++ record { number = number; outbox = [] } ∷ []) }
+        ensures ok { OnOk result (self.new ≡ self.old ++ record { number = number; outbox = []; has_owned = false } ∷ []) }
         ensures err { OnErr result (self.new ≡ self.old) }
     {
         Ok(
             self.list.push(Session {
                 number,
                 outbox: Messages::new(alloc),
+                has_owned: false,
             })?,
         )
     }
@@ -85,6 +85,26 @@ impl Sessions {
         match place_in(&self.list, number) {
             Some(place) => self.list[place].outbox.len(),
             None => 0,
+        }
+    }
+
+    /// Whether a session owns a write stream or ever did; not, where it isn't open.
+    pub fn has_owned(&self, number: u32) -> bool
+        ensures { result ≡ has_owned number self.now }
+    {
+        match place_in(&self.list, number) {
+            Some(place) => self.list[place].has_owned,
+            None => false,
+        }
+    }
+
+    /// A session owns a write stream, if it is open. It takes no memory.
+    pub fn own(&mut self, number: u32)
+        ensures { self.new ≡ owning number self.old }
+    {
+        match place_in(&self.list, number) {
+            Some(place) => self.list[place].has_owned = true,
+            None => {}
         }
     }
 

@@ -8,7 +8,7 @@ use Rattle.std.proofs.lemmas.Bool.Decides.{nat_tests}
 use Rattle.std.proofs.lemmas.Cmp.{nat_cmp_total}
 use Rattle.std.proofs.lemmas.List.{length-set}
 use Rattle.fs_pairs.specs.Pairs.{AreDistinct, freed, key_of}
-use Rattle.fs_pairs.proofs.Laws.{given_again}
+use Rattle.fs_pairs.proofs.Laws.{distinct_fewer, distinct_freed, distinct_more, freed_spares, given_again}
 use Rattle.fs_stream.specs.Answers.{batch_of, by_owned, is_opened, missed, owns_other, resume_answer, resumption_told, take_answer}
 use Rattle.fs_stream.specs.Stands.{Stands}
 use Rattle.fs_stream.specs.Streams.{Streams, fresh, handed_to, left_by, none_opened, opened_by, stream_of, with_stream}
@@ -55,7 +55,11 @@ busy_there (suc i) m busy = let inside = within m.opened i busy in (omega arith,
 -- ---- what stands
 
 pub stands_none : (m : Streams) (limit : ℕ) → m ≡ none_opened limit → Stands m
-stands_none m limit is = subst Stands (sym is) (record { kept = each; opened = λ session n found. absurd (let none : None ≡ Some n = sym (get-empty nat_cmp session) ∙ found in cc) }) where
+stands_none m limit is = subst Stands (sym is) (record {
+  kept = each;
+  opened = λ session n found. absurd (let none : None ≡ Some n = sym (get-empty nat_cmp session) ∙ found in cc);
+  distinct = λ one other n found found_too. absurd (let none : None ≡ Some n = sym (get-empty nat_cmp one) ∙ found in cc);
+}) where
   each : (n : ℕ) → ((stream_of n (none_opened limit)).kept ≡ None) ↔ ((stream_of n (none_opened limit)).finished ≡ 0)
   each zero = ((λ _. refl), (λ _. refl))
   each (suc i) = ((λ _. refl), (λ _. refl))
@@ -84,7 +88,11 @@ abbrev pub KeepsOne : Stream → Type 0
 KeepsOne s = (s.kept ≡ None) ↔ (s.finished ≡ 0)
 
 pub stands_opened : (session : ℕ) (m : Streams) → Stands m → Stands (opened_by session m)
-stands_opened session m stands = record { kept = each; opened = owned } where
+stands_opened session m stands = record {
+  kept = each;
+  opened = owned;
+  distinct = distinct_more m.owners session (suc (length m.opened)) stands.distinct (λ other found. let each = stands.opened other (suc (length m.opened)) found in omega (arith, each.1));
+} where
   each : (n : ℕ) → KeepsOne (stream_of n (opened_by session m))
   each zero = stands.kept zero
   each (suc i) = subst KeepsOne (sym (more fresh m.opened i)) (stands.kept (suc i))
@@ -103,6 +111,7 @@ pub stands_handed : (session n : ℕ) (m : Streams) → 0 < n → n ≤ length m
 stands_handed session n m above below stands = record {
   kept = each;
   opened = owned_more (freed m.owners n) session n (length m.opened) above below (owned_freed m.owners n (length m.opened) (key_of n (entries m.owners)) stands.opened);
+  distinct = distinct_more (freed m.owners n) session n (distinct_freed m.owners n stands.distinct) (freed_spares m.owners n stands.distinct);
 } where
   each : (k : ℕ) → KeepsOne (stream_of k (handed_to session n m))
   each zero = stands.kept zero
@@ -110,7 +119,7 @@ stands_handed session n m above below stands = record {
 
 pub stands_with : (n : ℕ) (s : Stream) (m : Streams) → KeepsOne s → Stands m → Stands (with_stream n s m)
 stands_with zero s m one stands = stands
-stands_with (suc i) s m one stands = record { kept = each; opened = owned } where
+stands_with (suc i) s m one stands = record { kept = each; opened = owned; distinct = stands.distinct } where
   each : (k : ℕ) → KeepsOne (stream_of k (with_stream (suc i) s m))
   each zero = stands.kept zero
   each (suc j) = each_set fresh KeepsOne m.opened i s (λ k. stands.kept (suc k)) one j
@@ -125,7 +134,7 @@ pub stands_set : (n : ℕ) (s : Stream) (m : Streams) → 0 < n → KeepsOne s �
 stands_set n s m above one stands = subst Stands (with_at n s m above) (stands_with n s m one stands)
 
 pub stands_left : (session : ℕ) (m : Streams) → Stands m → Stands (left_by session m)
-stands_left session m stands = record { kept = each; opened = owned_fewer m.owners session (length m.opened) stands.opened } where
+stands_left session m stands = record { kept = each; opened = owned_fewer m.owners session (length m.opened) stands.opened; distinct = distinct_fewer m.owners session stands.distinct } where
   each : (k : ℕ) → KeepsOne (stream_of k (left_by session m))
   each zero = stands.kept zero
   each (suc i) = stands.kept (suc i)
@@ -142,6 +151,56 @@ new_is n s (Ok None) k is = by_busy s.busy is where
   by_busy : (busy : Bool) → told busy ≡ Ok (take.New k) → n ≡ k
   by_busy true is = absurd (cc)
   by_busy false is = cc
+
+free_is : (n : ℕ) (s : Stream) (missed : Result (Option Kept) StreamError) (k : ℕ) → batch_of n s missed ≡ Ok (take.New k) → s.busy ≡ false
+free_is n s (Err e) k is = absurd (cc)
+free_is n s (Ok (Some kept)) k is = absurd (cc)
+free_is n s (Ok None) k is = by_busy s.busy is where
+  told : Bool → Result Take StreamError
+  told busy = Ok (cond busy (take.InProgress s.finished) (take.New n))
+
+  by_busy : (busy : Bool) → told busy ≡ Ok (take.New k) → busy ≡ false
+  by_busy true is = absurd (cc)
+  by_busy false is = refl
+
+-- a new batch is of a stream that has none in progress
+pub new_free : (session known k : ℕ) (m : Streams) → take_answer session known m ≡ Ok (take.New k) → (stream_of k m).busy ≡ false
+new_free session known k m is = by_owner (get m.owners session) is where
+  by_owner : (o : Option ℕ) → by_owned o known m ≡ Ok (take.New k) → (stream_of k m).busy ≡ false
+  by_owner None told = absurd (cc)
+  by_owner (Some n) told =
+      subst (λ i. (stream_of i m).busy ≡ false) (new_is n (stream_of n m) (missed (stream_of n m) known) k told) (free_is n (stream_of n m) (missed (stream_of n m) known) k told)
+
+-- and the session owns it
+pub new_owned : (session known k : ℕ) (m : Streams) → take_answer session known m ≡ Ok (take.New k) → get m.owners session ≡ Some k
+new_owned session known k m is = by_owner (get m.owners session) is where
+  by_owner : (o : Option ℕ) → by_owned o known m ≡ Ok (take.New k) → o ≡ Some k
+  by_owner None told = absurd (cc)
+  by_owner (Some n) told = ap Some (new_is n (stream_of n m) (missed (stream_of n m) known) k told)
+
+-- a stream that is set leaves its owner
+pub owners_with : (n : ℕ) (s : Stream) (m : Streams) → (with_stream n s m).owners ≡ m.owners
+owners_with zero s m = refl
+owners_with (suc i) s m = refl
+
+-- and one in progress of a stream that has one
+pub going_busy : (session known finished : ℕ) (m : Streams) → take_answer session known m ≡ Ok (take.InProgress finished) → (n : ℕ) × ((stream_of n m).busy ≡ true)
+going_busy session known finished m is = by_owner (get m.owners session) is where
+  told : ℕ → Bool → Result Take StreamError
+  told n busy = Ok (cond busy (take.InProgress (stream_of n m).finished) (take.New n))
+
+  by_busy : (n : ℕ) (busy : Bool) → told n busy ≡ Ok (take.InProgress finished) → busy ≡ true
+  by_busy n true is = refl
+  by_busy n false is = absurd (cc)
+
+  by_missed : (n : ℕ) (t : Result (Option Kept) StreamError) → batch_of n (stream_of n m) t ≡ Ok (take.InProgress finished) → (stream_of n m).busy ≡ true
+  by_missed n (Err e) is = absurd (cc)
+  by_missed n (Ok (Some kept)) is = absurd (cc)
+  by_missed n (Ok None) is = by_busy n (stream_of n m).busy is
+
+  by_owner : (o : Option ℕ) → by_owned o known m ≡ Ok (take.InProgress finished) → (n : ℕ) × ((stream_of n m).busy ≡ true)
+  by_owner None is = absurd (cc)
+  by_owner (Some n) is = (n, by_missed n (missed (stream_of n m) known) is)
 
 -- a new batch is of a stream that was opened
 pub new_there : (session known k : ℕ) (m : Streams) → Stands m → take_answer session known m ≡ Ok (take.New k) → (0 < k) × (k ≤ length m.opened)

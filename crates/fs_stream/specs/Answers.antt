@@ -50,10 +50,14 @@ resumption_told s known = resumed_of s (missed s known)
 
 -- ---- of all streams
 
+-- as many were opened as may be
+abbrev pub is_full : Streams → Bool
+is_full m = nat_le m.limit (length m.opened)
+
 -- the limit comes before the session's own stream
 abbrev pub open_refusal : ℕ → Streams → Option StreamError
 open_refusal session m =
-    if nat_le m.limit (length m.opened) then Some (error.TooMany m.limit)
+    if is_full m then Some (error.TooMany m.limit)
     else if is_some (get m.owners session) then Some error.Second
     else None
 

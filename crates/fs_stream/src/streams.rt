@@ -42,11 +42,12 @@ impl Streams {
     ghost use Rattle.std.specs.Prelude.{◌≡◌, ◌↔◌, ◌<◌, ◌≤◌, ◌^◌, suc, Err, IfErr, IfOk, IfSome, IsNone, IsOk, None, Ok, OnErr, OnOk, alloc_error, false, length, true};
     ghost use Rattle.std.specs.FinMap.{entries};
     ghost use Rattle.fs_pairs.specs.Pairs.{AreDistinct, key_of};
-    ghost use Rattle.fs_stream.specs.Answers.{is_opened, open_refusal, resume_answer, take_answer};
+    ghost use Rattle.fs_stream.specs.Answers.{is_full, is_opened, open_refusal, resume_answer, take_answer};
     ghost use Rattle.fs_stream.specs.Stands.{Stands};
     ghost use Rattle.fs_stream.specs.Streams.{finished_with, handed_to, left_by, none_opened, opened_by, owned_by, stream_of, taken};
     ghost use Rattle.fs_stream.specs.declared.error.StreamError.{StreamError};
     ghost use Rattle.fs_stream.specs.declared.error.StreamError.TheVariants.{Memory};
+    ghost use Rattle.fs_stream.specs.declared.take.Take.TheVariants.{New};
 
     /// No streams, of which there may be as many as the limit. The allocator serves those that come.
     pub fn new(alloc: Global, limit: u64) -> Streams
@@ -69,7 +70,7 @@ impl Streams {
         ensures refused { IfSome (open_refusal session self.old) (λ e. result ≡ Err e) }
         ensures memory { open_refusal session self.old ≡ None → IfErr result (λ e. e ≡ Memory alloc_error) }
     {
-        if self.opened.len() as u64 >= self.limit {
+        if self.is_full() {
             return Err(StreamError::TooMany(self.limit));
         }
         if self.owners.get(session).is_some() {
@@ -112,6 +113,27 @@ impl Streams {
         }
     }
 
+    /// What `resume` would answer.
+    pub fn seek(
+        &self,
+        alloc: Global,
+        session: u32,
+        stream: u64,
+        token: u64,
+    ) -> Result<Resumed, StreamError>
+        ensures ok { IfOk result (λ r. resume_answer session stream token self.now ≡ Ok r) }
+        ensures refused { IfErr (resume_answer session stream token self.now) (λ e. result ≡ Err e) }
+        ensures memory { IsOk (resume_answer session stream token self.now) → IfErr result (λ e. e ≡ Memory alloc_error) }
+    {
+        let Some(found) = self.get(stream) else {
+            return Err(StreamError::Unknown(stream));
+        };
+        match self.owners.get(session) {
+            Some(own) if own != stream => Err(StreamError::Second),
+            _ => found.resumption(alloc, token),
+        }
+    }
+
     /// Takes a batch with a token for the stream that the session owns. A new one is in progress from now on.
     /// (v1 reference, "WriteRequest": `writes` and `streamToken`.)
     pub fn take(&mut self, alloc: Global, session: u32, token: u64) -> Result<Take, StreamError>
@@ -139,6 +161,15 @@ impl Streams {
             Some(number) => self.stream(number).batch(alloc, number, token),
             None => Err(StreamError::NotOwner),
         }
+    }
+
+    /// The next batch of a stream is in progress from now on. It takes no memory.
+    pub fn begin(&mut self, stream: u64)
+        requires above { 0 < stream }
+        requires opened { stream ≤ length self.old.opened }
+        ensures { self.new ≡ taken (New stream) self.old }
+    {
+        self.opened[stream as usize - 1].busy = true;
     }
 
     /// The batch in progress of a stream is finished, and its response is kept. It takes no memory.
@@ -184,6 +215,20 @@ impl Streams {
         } else {
             Some(self.stream(stream))
         }
+    }
+
+    /// So many streams may be opened.
+    pub fn limit(&self) -> u64
+        ensures { result ≡ self.now.limit }
+    {
+        self.limit
+    }
+
+    /// Whether as many streams were opened as may be.
+    pub fn is_full(&self) -> bool
+        ensures { result ≡ is_full self.now }
+    {
+        self.limit <= self.opened.len() as u64
     }
 
     // The stream of a number that was opened.

@@ -27,6 +27,7 @@ greatest_allowed = record {
   sessions = omega arith;
   targets = omega arith;
   transactions = omega arith;
+  streams = omega arith;
   parked = omega arith;
   batches = omega arith;
   journal = omega arith;

@@ -2,7 +2,7 @@
 use crate::short::{cut, moment, name_of, query, root, writes};
 use crate::targets::session::target_of;
 use fs_path::{Bytes, Names};
-use fs_rpc::{Request, TransactionOptions, When};
+use fs_rpc::{Request, StreamRequest, TransactionOptions, When};
 use fs_status::Id;
 use fs_time::Micros;
 use std::alloc::Global;
@@ -125,6 +125,34 @@ fn remove_target(rt: &impl Abort, alloc: Global, text: &str) -> Request {
     }
 }
 
+fn number(rt: &impl Abort, text: &str) -> u64 {
+    text.parse::<u64>().expect(rt, "a number")
+}
+
+// A stream is opened, or taken over: ``, or `1 0` of the stream 1 by who knows of 0 finished batches.
+fn stream(rt: &impl Abort, text: &str) -> StreamRequest {
+    match cut(text, " ") {
+        ("", _) => StreamRequest::Open,
+        (stream, token) => StreamRequest::Resume {
+            stream: number(rt, stream),
+            token: number(rt, token),
+        },
+    }
+}
+
+// A batch with a token, as `0 c/a=1`; without writes the stream is asked for.
+fn batch(rt: &impl Abort, alloc: Global, text: &str) -> StreamRequest {
+    let (token, text) = cut(text, " ");
+    let token = number(rt, token);
+    match text {
+        "" => StreamRequest::Ask { token },
+        _ => StreamRequest::Batch {
+            token,
+            writes: writes(rt, alloc, text),
+        },
+    }
+}
+
 /// The request of a method, as `commit` and `c/a=1 in 2`, `get` and `c/a @1`, or `begin` and `reading`.
 pub(crate) fn request(rt: &impl Abort, alloc: Global, method: &str, text: &str) -> Request {
     match method {
@@ -139,6 +167,14 @@ pub(crate) fn request(rt: &impl Abort, alloc: Global, method: &str, text: &str) 
         },
         "listen" => add_target(rt, alloc, text),
         "unlisten" => remove_target(rt, alloc, text),
+        "stream" => Request::Write {
+            database: root(rt, alloc),
+            asked: stream(rt, text),
+        },
+        "batch" => Request::Write {
+            database: root(rt, alloc),
+            asked: batch(rt, alloc, text),
+        },
         _ => panic!(rt; "no such step"),
     }
 }

@@ -13,6 +13,7 @@ fn set_limit(rt: &impl Abort, limits: &mut Limits, text: &str) {
         "sessions" => limits.sessions = number,
         "targets" => limits.targets = number,
         "transactions" => limits.transactions = number,
+        "streams" => limits.streams = number,
         "parked" => limits.parked = number,
         "batches" => limits.batches = number,
         "journal" => limits.journal = number,

@@ -128,7 +128,19 @@ greatest | open = 0 | listen 0 1 names c/a = add 1 | listen 0 1 query c = target
 // a token goes on from its time; behind a compaction to a later one the target is reset
 greatest | open = 0 | open = 1 | commit 0 c/a=1 = pending 1 at 1 | settle = released at 1 | commit 0 c/b=2 = pending 2 at 2 | settle = released at 2 | listen 1 1 query c from 1 = add 1 | load 1 1 @0 = 0 is before 1 | load 1 1 @3 = 3 is after 2 | load 1 1 = loaded | raise 1 = 2 | take 1 = c/b=2 for 1, current 1 at 2, no change 2 | compact 2 = 2 | listen 1 2 query c from 1 = add 2 | load 1 2 = loaded | raise 1 = 2 | take 1 = reset 2, c/a=1 for 1 2, c/b=2 for 1 2, current 2 at 2, no change 2
 // a target that is loaded keeps what it is still to be told
-greatest | open = 0 | listen 0 1 names c/a = add 1 | load 0 1 = loaded | tick 5 = 5 | compact 5 = 0 | match 3 = 0 to 5 | compact 5 = 5"#;
+greatest | open = 0 | listen 0 1 names c/a = add 1 | load 0 1 = loaded | tick 5 = 5 | compact 5 = 0 | match 3 = 0 to 5 | compact 5 = 5
+// one write stream, and none more, which another session may take over
+streams 1 | open = 0 | open = 1 | stream 0 = stream 1 0 | stream 1 = limit streams 1 | stream 0 = limit streams 1 | stream 1 1 0 = stream 1 0 | batch 0 0 c/a=1 = stream not owned | leave 1 = gone | stream 0 = limit streams 1 | stream 0 1 0 = stream 1 0
+// a batch is committed, and the same again is answered by what is kept
+greatest | open = 0 | stream 0 = stream 1 0 | stream 0 = second stream | batch 0 0 c/a=1 = pending 1 at 1 | batch 0 0 c/a=2 = in progress behind 0 | take 0 = nothing | settle = released at 1 | take 0 = stream 1 1 at 1: 1 | batch 0 0 c/a=2 = stream 1 1 at 1: 1 | next = none | get 0 c/a = 1
+// a batch that a limit refuses as it comes isn't taken
+ids 1 | open = 0 | stream 0 = stream 1 0 | commit 0 c/a=1 = pending 1 at 1 | batch 0 0 c/a=2 = limit ids 1 | batch 0 0 = stream 1 0
+// nor is one that would have to wait where nothing more may
+parked 0 | open = 0 | stream 0 = stream 1 0 | commit 0 c/a=1 = pending 1 at 1 | batch 0 0 c/a=2 = limit parked 0 | batch 0 0 = stream 1 0
+// one that a limit refuses when it is tried again is finished by that
+batches 2 | open = 0 | stream 0 = stream 1 0 | commit 0 c/a=1 = pending 1 at 1 | batch 0 0 c/a=2 = held behind 1 | commit 0 c/b=1 = pending 3 at 2 | retry 0 = limit batches 2 | parked = 0 | take 0 = stream 1 1 limit batches 2 | batch 0 0 c/a=2 = stream 1 1 limit batches 2
+// it goes on when its session leaves, and its response is kept for who takes the stream over
+greatest | open = 0 | stream 0 = stream 1 0 | commit 0 c/a=1 = pending 1 at 1 | batch 0 0 c/a=2 = held behind 1 | commit 0 c/a=3 = held behind 1 | leave 0 = gone | parked = 1 | settle 1 = released at 1 | retry 0 = pending 2 at 2 | settle 2 = released at 2 | open = 1 | stream 1 1 0 = stream 1 1 at 2: 2"#;
 
 /// A history of three documents. Its first moment is 0.
 pub(crate) const HISTORY: &str = r#"open = 0

@@ -39,7 +39,7 @@ impl Says for Cases {
 
 #[test]
 fn steps_are_answered(rt: HostRuntime) {
-    holds(&rt, rt.alloc(), &mut Cases, CASES, 63);
+    holds(&rt, rt.alloc(), &mut Cases, CASES, 69);
 }
 
 // ---- the history from a floor on

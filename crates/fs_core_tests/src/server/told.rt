@@ -1,7 +1,7 @@
 //! What calls of a server answer, as steps write it. Each adds to a text, what stands in a row with a space before it.
 use crate::listened::push_message as push_listened;
 use crate::short::{InRow, push_in_row, push_n, push_row};
-use fs_rpc::{BatchAnswer, Message};
+use fs_rpc::{BatchAnswer, Message, StreamAnswer};
 use fs_server::{Answer, Messages, Outcome, Parked, Settled, Version};
 use fs_status::{Id, Reason, Refusal, message};
 use fs_time::Micros;
@@ -82,6 +82,26 @@ fn push_begun(text: &mut String, transaction: Id) -> Result<(), AllocError> {
     write!(text, "begun {transaction}")
 }
 
+fn push_stream(
+    text: &mut String,
+    stream: u64,
+    token: u64,
+    answer: &StreamAnswer,
+) -> Result<(), AllocError> {
+    write!(text, "stream {stream} {token}")?;
+    match answer {
+        StreamAnswer::Stands => Ok(()),
+        StreamAnswer::Committed { time, results } => {
+            text.push_str(" ")?;
+            push_committed(text, *time, results)
+        }
+        StreamAnswer::Refused { message, .. } => {
+            text.push_str(" ")?;
+            text.push_str(message.as_str())
+        }
+    }
+}
+
 fn push_message(text: &mut String, message: &Message) -> Result<(), AllocError> {
     match message {
         Message::Commit { time, results, .. } => push_committed(text, *time, results),
@@ -95,6 +115,11 @@ fn push_message(text: &mut String, message: &Message) -> Result<(), AllocError> 
         Message::BeginTransaction { transaction, .. } => push_begun(text, *transaction),
         Message::Rollback { .. } => text.push_str("rolled back"),
         Message::Listen(message) => push_listened(text, message),
+        Message::Write {
+            stream,
+            token,
+            answer,
+        } => push_stream(text, *stream, *token, answer),
         Message::Error { message, .. } => text.push_str(message.as_str()),
     }
 }
@@ -160,6 +185,10 @@ pub(crate) fn push_answer(
         Answer::Reply(message) => push_message(text, message),
         Answer::Prepared(commit, time) => push_pending(text, *commit, *time),
         Answer::Held(commit) => push_held(text, *commit),
+        Answer::InProgress(finished) => {
+            text.push_str("in progress behind ")?;
+            push_count(text, *finished)
+        }
         Answer::Refused(refusal) => push_refusal(text, alloc, refusal),
     }
 }

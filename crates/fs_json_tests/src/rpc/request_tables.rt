@@ -99,4 +99,5 @@ pub(crate) const ON_A_SESSION: &str =
 {"id":"4","runQuery":{"parent":"~","structuredQuery":{"from":[{"collectionId":"c"}]}}} => {"id":"4","runQuery":{"parent":"~","structuredQuery":{"from":[{"collectionId":"c"}]}},"session":"s"}
 {"beginTransaction":{"database":"@"},"id":"5"} => {"beginTransaction":{"database":"@","options":{"readWrite":{}}},"id":"5","session":"s"}
 {"id":"6","rollback":{"database":"@","transaction":"$2"}} => {"id":"6","rollback":{"database":"@","transaction":"$2"},"session":"s"}
-{"id":"7","listen":{"database":"@","removeTarget":1}} => {"id":"7","listen":{"database":"@","removeTarget":1},"session":"s"}"#;
+{"id":"7","listen":{"database":"@","removeTarget":1}} => {"id":"7","listen":{"database":"@","removeTarget":1},"session":"s"}
+{"id":"8","write":{"database":"@"}} => {"id":"8","session":"s","write":{"database":"@"}}"#;

@@ -2,7 +2,8 @@
 use crate::made::{both, demo, json, shown};
 use fs_json::Bad;
 use fs_rpc::{
-    Envelope, SessionRequest, print_transaction, read_request, read_session_request, write_request,
+    Envelope, SessionRequest, print_stream_token, print_transaction, read_request,
+    read_session_request, write_request,
 };
 use fs_status::Id;
 use serde_json::Value;
@@ -79,6 +80,13 @@ pub(crate) fn request_on(rt: &impl Abort, alloc: Global, json: &str) -> String {
 pub(crate) fn transaction(rt: &impl Abort, alloc: Global, number: &str) -> String {
     let id = Id::new(number.parse::<u64>().expect(rt, "a number"));
     print_transaction(alloc, id)
+        .expect(rt, "memory")
+        .into_string()
+}
+
+pub(crate) fn stream_token(rt: &impl Abort, alloc: Global, batches: &str) -> String {
+    let token = batches.parse::<u64>().expect(rt, "a number");
+    print_stream_token(alloc, token)
         .expect(rt, "memory")
         .into_string()
 }

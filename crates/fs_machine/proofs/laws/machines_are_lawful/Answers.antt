@@ -7,6 +7,7 @@ use Rattle.fs_machine.proofs.Replies.{replies_come_once}
 use Rattle.fs_machine.proofs.Retried.{retried_as_if_it_came}
 use Rattle.fs_machine.proofs.Runs.{begins, all_grow, all_kept, serial_always}
 use Rattle.fs_machine.proofs.SettledInAnyOrder.{same_replies_in_any_order, settled_in_any_order}
+use Rattle.fs_machine.proofs.StreamRuns.{batches_once, committed_once, repeats_alike}
 use Rattle.fs_machine.proofs.laws.machines_are_lawful.Goals as goal
 
 pub returns-clause-kept : goal.returns-clause-kept
@@ -56,3 +57,12 @@ returns-clause-cuts c = cuts_are_consistent c.listening_is_lawful.ensures.cuts
 
 pub returns-clause-times : goal.returns-clause-times
 returns-clause-times c = raises_never_fall c.listening_is_lawful.ensures.times
+
+pub returns-clause-batches_once : goal.returns-clause-batches_once
+returns-clause-batches_once c = λ config limits start events n. batches_once config limits start events n
+
+pub returns-clause-committed_once : goal.returns-clause-committed_once
+returns-clause-committed_once c = λ m events n. committed_once m events n
+
+pub returns-clause-repeats : goal.returns-clause-repeats
+returns-clause-repeats c = λ config limits start events n. repeats_alike config limits start events n

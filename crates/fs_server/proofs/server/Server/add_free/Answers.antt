@@ -10,7 +10,7 @@ use Rattle.fs_server.proofs.server.Server.add_free.Goals as goal
 pub overflow_add-number : goal.overflow_add-number
 overflow_add-number c =
     let s = c.self.inside in
-    let m : Machine = record { config = s.config; limits = s.limits; past = s.past; txns = s.txns; sessions = s.sessions; listeners = listeners_of s.listeners; parked = s.waiting; numbers = s.numbers } in
+    let m : Machine = record { config = s.config; limits = s.limits; past = s.past; txns = s.txns; sessions = s.sessions; listeners = listeners_of s.listeners; parked = s.waiting; streams = s.streams; numbers = s.numbers } in
     let none : adding_refusal m c.args.session c.args.id c.args.target.now c.args.token.now ≡ None =
     ap (λ (k : Machine). adding_refusal k c.args.session c.args.id c.args.target.now c.args.token.now) c.self.view_is ∙ c.requires in
     let left = number_left m c.args.session c.args.id c.args.target.now c.args.token.now none in
@@ -19,37 +19,37 @@ overflow_add-number c =
 pub add_target-requires-clause-free : goal.add_target-requires-clause-free
 add_target-requires-clause-free c =
     let s = c.self.inside in
-    let m : Machine = record { config = s.config; limits = s.limits; past = s.past; txns = s.txns; sessions = s.sessions; listeners = listeners_of s.listeners; parked = s.waiting; numbers = s.numbers } in
+    let m : Machine = record { config = s.config; limits = s.limits; past = s.past; txns = s.txns; sessions = s.sessions; listeners = listeners_of s.listeners; parked = s.waiting; streams = s.streams; numbers = s.numbers } in
     let none = ap (λ (k : Machine). adding_refusal k c.args.session c.args.id c.args.target.now c.args.token.now) c.self.view_is ∙ c.requires in
     may_add m c.args.session c.args.id c.args.target.now c.args.token.now none s.listeners refl c.self.invariant.heard
 
 pub add_target-requires-clause-unnumbered : goal.add_target-requires-clause-unnumbered
 add_target-requires-clause-unnumbered c =
     let s = c.self.inside in
-    let m : Machine = record { config = s.config; limits = s.limits; past = s.past; txns = s.txns; sessions = s.sessions; listeners = listeners_of s.listeners; parked = s.waiting; numbers = s.numbers } in
+    let m : Machine = record { config = s.config; limits = s.limits; past = s.past; txns = s.txns; sessions = s.sessions; listeners = listeners_of s.listeners; parked = s.waiting; streams = s.streams; numbers = s.numbers } in
     let none = ap (λ (k : Machine). adding_refusal k c.args.session c.args.id c.args.target.now c.args.token.now) c.self.view_is ∙ c.requires in
     may_number m c.args.session c.args.id c.args.target.now c.args.token.now none s.listeners refl c.self.invariant.heard
 
 pub add_target-requires-clause-unused : goal.add_target-requires-clause-unused
 add_target-requires-clause-unused c =
     let s = c.self.inside in
-    let m : Machine = record { config = s.config; limits = s.limits; past = s.past; txns = s.txns; sessions = s.sessions; listeners = listeners_of s.listeners; parked = s.waiting; numbers = s.numbers } in
+    let m : Machine = record { config = s.config; limits = s.limits; past = s.past; txns = s.txns; sessions = s.sessions; listeners = listeners_of s.listeners; parked = s.waiting; streams = s.streams; numbers = s.numbers } in
     let none = ap (λ (k : Machine). adding_refusal k c.args.session c.args.id c.args.target.now c.args.token.now) c.self.view_is ∙ c.requires in
     may_use m c.args.session c.args.id c.args.target.now c.args.token.now none s.listeners s.numbers.targets c.self.invariant.listened.numbers
 
 pub invariant_of-self-2 : goal.invariant_of-self-2
 invariant_of-self-2 c =
     let s = c.self.inside in
-    let m : Machine = record { config = s.config; limits = s.limits; past = s.past; txns = s.txns; sessions = s.sessions; listeners = listeners_of s.listeners; parked = s.waiting; numbers = s.numbers } in
+    let m : Machine = record { config = s.config; limits = s.limits; past = s.past; txns = s.txns; sessions = s.sessions; listeners = listeners_of s.listeners; parked = s.waiting; streams = s.streams; numbers = s.numbers } in
     let none = ap (λ (k : Machine). adding_refusal k c.args.session c.args.id c.args.target.now c.args.token.now) c.self.view_is ∙ c.requires in
     let shown = token_shown m c.args.token.now (adding_passes m c.args.session c.args.id c.args.target.now c.args.token.now none).1 in
-    kept_adding s.config s.limits s.past s.txns s.sessions s.listeners c.add_target.new.self s.waiting s.numbers c.self.invariant c.targets_are_lawful.ensures.adding c.args.session c.args.id
+    kept_adding s.config s.limits s.past s.txns s.sessions s.listeners c.add_target.new.self s.waiting s.streams s.numbers c.self.invariant c.targets_are_lawful.ensures.adding c.args.session c.args.id
     c.in_ok-target.target c.token_time.result (subst (λ o. IfSome o (λ k. k ≤ℤ s.past.released)) (sym c.token_time.ensures) shown) c.in_ok-add_target.ensures.ok
 
 pub returns-clause-state : goal.returns-clause-state
 returns-clause-state c =
     let s = c.self.inside in
-    let m : Machine = record { config = s.config; limits = s.limits; past = s.past; txns = s.txns; sessions = s.sessions; listeners = listeners_of s.listeners; parked = s.waiting; numbers = s.numbers } in
+    let m : Machine = record { config = s.config; limits = s.limits; past = s.past; txns = s.txns; sessions = s.sessions; listeners = listeners_of s.listeners; parked = s.waiting; streams = s.streams; numbers = s.numbers } in
     let number = s.numbers.targets + 1 in
     let listeners = ap listeners_of c.in_ok-add_target.ensures.ok ∙ listeners_adding c.args.session c.args.id number c.in_ok-target.target c.token_time.result s.listeners in
     (λ i. record m { listeners = listeners i; numbers = record s.numbers { targets = number } })

@@ -19,7 +19,7 @@ invariant_of-self c =
     let shard = c.args.shard in
     let to = c.args.to in
     let es = c.args.events.now in
-    let m : Machine = record { config = s.config; limits = s.limits; past = s.past; txns = s.txns; sessions = s.sessions; listeners = listeners_of s.listeners; parked = s.waiting; numbers = s.numbers } in
+    let m : Machine = record { config = s.config; limits = s.limits; past = s.past; txns = s.txns; sessions = s.sessions; listeners = listeners_of s.listeners; parked = s.waiting; streams = s.streams; numbers = s.numbers } in
     let by = subst (λ (k : Machine). to ≤ℤ k.past.released) (sym c.self.view_is) c.requires.released in
     let told = subst (λ (k : Machine). AreEvents k shard to es) (sym c.self.view_is) c.requires.events in
     by_result c.feed.result c.feed.ensures.ok c.feed.ensures.err
@@ -30,7 +30,7 @@ invariant_of-self c =
     (subst (AreHeard s.config s.limits s.past) (sym fed)
     (all_fed c.targets_are_lawful.ensures.feeding s.config s.limits s.past shard es to by c.requires.until s.numbers.targets s.listeners c.self.invariant.heard c.self.invariant.listened.numbers told))
     (subst Facts (sym (λ i. record m { listeners = listeners i })) (keeps m (Event.matching shard to) (subst Facts (sym c.self.view_is) c.stand.ensures.facts))))
-    (λ same. subst (λ hs. IsKept s.config s.limits s.past s.txns s.sessions hs s.waiting s.numbers) (sym same) c.self.invariant)
+    (λ same. subst (λ hs. IsKept s.config s.limits s.past s.txns s.sessions hs s.waiting s.streams s.numbers) (sym same) c.self.invariant)
 
 pub returns-clause-ok : goal.returns-clause-ok
 returns-clause-ok c =
@@ -38,7 +38,7 @@ returns-clause-ok c =
     let shard = c.args.shard in
     let to = c.args.to in
     let es = c.args.events.now in
-    let m : Machine = record { config = s.config; limits = s.limits; past = s.past; txns = s.txns; sessions = s.sessions; listeners = listeners_of s.listeners; parked = s.waiting; numbers = s.numbers } in
+    let m : Machine = record { config = s.config; limits = s.limits; past = s.past; txns = s.txns; sessions = s.sessions; listeners = listeners_of s.listeners; parked = s.waiting; streams = s.streams; numbers = s.numbers } in
     let by = subst (λ (k : Machine). to ≤ℤ k.past.released) (sym c.self.view_is) c.requires.released in
     on_ok_weaker c.feed.result
     (λ went.

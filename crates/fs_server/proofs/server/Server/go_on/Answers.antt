@@ -21,7 +21,7 @@ pub invariant_of-self-2 : goal.invariant_of-self-2
 invariant_of-self-2 c =
     let s = c.self.inside in
     let r = c.at-request.result.now in
-    let m0 : Machine = record { config = s.config; limits = s.limits; past = s.past; txns = s.txns; sessions = s.sessions; listeners = listeners_of s.listeners; parked = s.waiting; numbers = s.numbers } in
+    let m0 : Machine = record { config = s.config; limits = s.limits; past = s.past; txns = s.txns; sessions = s.sessions; listeners = listeners_of s.listeners; parked = s.waiting; streams = s.streams; numbers = s.numbers } in
     let here = ap (λ (n : Machine). slice_get n.parked c.args.place) (sym c.self.view_is) ∙ c.at-request.ensures in
     let clear = c.requires.clear r here in
     went_on_kept m0 c.args.self.now c.self.view_is c.args.place r here clear.limits clear.check (plain_parked c.args.self.now c.args.place r here c.stand.ensures.facts.waiters) (c.requires.free r here) (c.in_ok-answer.answer, c.in_ok-answer.change) c.in_ok-answer.ensures
@@ -31,7 +31,7 @@ pub returns-clause-state : goal.returns-clause-state
 returns-clause-state c =
     let s = c.self.inside in
     let r = c.at-request.result.now in
-    let m0 : Machine = record { config = s.config; limits = s.limits; past = s.past; txns = s.txns; sessions = s.sessions; listeners = listeners_of s.listeners; parked = s.waiting; numbers = s.numbers } in
+    let m0 : Machine = record { config = s.config; limits = s.limits; past = s.past; txns = s.txns; sessions = s.sessions; listeners = listeners_of s.listeners; parked = s.waiting; streams = s.streams; numbers = s.numbers } in
     let here = ap (λ (n : Machine). slice_get n.parked c.args.place) (sym c.self.view_is) ∙ c.at-request.ensures in
     let clear = c.requires.clear r here in
     went_on m0 c.args.self.now c.self.view_is c.args.place r here clear.limits clear.check (plain_parked c.args.self.now c.args.place r here c.stand.ensures.facts.waiters) (c.requires.free r here) (c.in_ok-answer.answer, c.in_ok-answer.change) c.in_ok-answer.ensures

@@ -31,7 +31,7 @@ sent-requires c =
 pub invariant_of-self-in-Ok : goal.invariant_of-self-in-Ok
 invariant_of-self-in-Ok c =
     let s = c.self.inside in
-    let m : Machine = record { config = s.config; limits = s.limits; past = s.past; txns = s.txns; sessions = s.sessions; listeners = listeners_of s.listeners; parked = s.waiting; numbers = s.numbers } in
+    let m : Machine = record { config = s.config; limits = s.limits; past = s.past; txns = s.txns; sessions = s.sessions; listeners = listeners_of s.listeners; parked = s.waiting; streams = s.streams; numbers = s.numbers } in
     let n : Machine = c.args.self.now in
     let sent_time : (l : Listened) → get (listening_of m c.args.session).targets c.args.target ≡ Some l → c.resumed-from.result ≡ cond c.is_lost-reset.result None l.token =
     λ l is. c.resumed-from.ensures ∙ ap (λ (o : Option ℤ). cond c.is_lost-reset.result None o) (c.token-token.ensures ∙ ap token_in is) in
@@ -58,13 +58,13 @@ invariant_of-self-in-Err c =
     let reset = c.is_lost-reset.result in
     let back : c.take_reset_back.new.sessions ≡ s.sessions =
     c.take_reset_back.ensures ∙ ap (λ (ss : List Session). cond reset (taken_back c.args.session ss) ss) c.in_ok-tell_reset.ensures.ok ∙ reset_back s.sessions c.args.session c.args.target reset in
-    subst (λ (hs : List Heard). IsKept s.config s.limits s.past s.txns c.take_reset_back.new.sessions hs s.waiting s.numbers) (sym c.in-Err.ensures.err)
-    (subst (λ (ss : List Session). IsKept s.config s.limits s.past s.txns ss s.listeners s.waiting s.numbers) (sym back) c.self.invariant)
+    subst (λ (hs : List Heard). IsKept s.config s.limits s.past s.txns c.take_reset_back.new.sessions hs s.waiting s.streams s.numbers) (sym c.in-Err.ensures.err)
+    (subst (λ (ss : List Session). IsKept s.config s.limits s.past s.txns ss s.listeners s.waiting s.streams s.numbers) (sym back) c.self.invariant)
 
 pub returns-in-Ok-clause-ok : goal.returns-in-Ok-clause-ok
 returns-in-Ok-clause-ok c = λ l found.
     let s = c.self.inside in
-    let m : Machine = record { config = s.config; limits = s.limits; past = s.past; txns = s.txns; sessions = s.sessions; listeners = listeners_of s.listeners; parked = s.waiting; numbers = s.numbers } in
+    let m : Machine = record { config = s.config; limits = s.limits; past = s.past; txns = s.txns; sessions = s.sessions; listeners = listeners_of s.listeners; parked = s.waiting; streams = s.streams; numbers = s.numbers } in
     let n : Machine = c.args.self.now in
     let token : c.token-token.result ≡ l.token =
     c.token-token.ensures ∙ ap (λ (k : Machine). token_in (get (listening_of k c.args.session).targets c.args.target)) c.self.view_is ∙ ap token_in found in
@@ -79,7 +79,7 @@ returns-in-Ok-clause-ok c = λ l found.
 pub returns-in-Err-clause-err : goal.returns-in-Err-clause-err
 returns-in-Err-clause-err c =
     let s = c.self.inside in
-    let m : Machine = record { config = s.config; limits = s.limits; past = s.past; txns = s.txns; sessions = s.sessions; listeners = listeners_of s.listeners; parked = s.waiting; numbers = s.numbers } in
+    let m : Machine = record { config = s.config; limits = s.limits; past = s.past; txns = s.txns; sessions = s.sessions; listeners = listeners_of s.listeners; parked = s.waiting; streams = s.streams; numbers = s.numbers } in
     let reset = c.is_lost-reset.result in
     let back : c.take_reset_back.new.sessions ≡ s.sessions =
     c.take_reset_back.ensures ∙ ap (λ (ss : List Session). cond reset (taken_back c.args.session ss) ss) c.in_ok-tell_reset.ensures.ok ∙ reset_back s.sessions c.args.session c.args.target reset in

@@ -12,7 +12,7 @@ use Rattle.fs_server.proofs.server.Server.load_refusal.Goals as goal
 pub returns-in-Some : goal.returns-in-Some
 returns-in-Some c =
     let s = c.self.inside in
-    let m : Machine = record { config = s.config; limits = s.limits; past = s.past; txns = s.txns; sessions = s.sessions; listeners = listeners_of s.listeners; parked = s.waiting; numbers = s.numbers } in
+    let m : Machine = record { config = s.config; limits = s.limits; past = s.past; txns = s.txns; sessions = s.sessions; listeners = listeners_of s.listeners; parked = s.waiting; streams = s.streams; numbers = s.numbers } in
     let found = get (listening_of m c.args.session).targets c.args.target in
     let because = λ (l : Listened) (is : found ≡ Some l).
     c.refusal_from.ensures.value

@@ -15,7 +15,7 @@ use Rattle.fs_server.proofs.server.Server.opened.Goals as goal
 pub invariant_of-self-2 : goal.invariant_of-self-2
 invariant_of-self-2 c =
     let s = c.self.inside in
-    let m : Machine = record { config = s.config; limits = s.limits; past = s.past; txns = s.txns; sessions = s.sessions; listeners = listeners_of s.listeners; parked = s.waiting; numbers = s.numbers } in
+    let m : Machine = record { config = s.config; limits = s.limits; past = s.past; txns = s.txns; sessions = s.sessions; listeners = listeners_of s.listeners; parked = s.waiting; streams = s.streams; numbers = s.numbers } in
     let h = opened_ear s.numbers.sessions s.config.shards s.limits.targets in
     let listeners = ap listeners_of c.in_ok-add.ensures.ok ∙ listeners_more s.listeners h in
     let is : record m { sessions = c.add-2.new.self; listeners = listeners_of c.add.new.self; numbers = record s.numbers { sessions = s.numbers.sessions + 1 } } ≡ with_session m =

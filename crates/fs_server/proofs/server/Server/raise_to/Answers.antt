@@ -35,7 +35,7 @@ invariant_of-self c =
     let s = c.self.inside in
     let session = c.args.session in
     let time = c.args.time in
-    let m : Machine = record { config = s.config; limits = s.limits; past = s.past; txns = s.txns; sessions = s.sessions; listeners = listeners_of s.listeners; parked = s.waiting; numbers = s.numbers } in
+    let m : Machine = record { config = s.config; limits = s.limits; past = s.past; txns = s.txns; sessions = s.sessions; listeners = listeners_of s.listeners; parked = s.waiting; streams = s.streams; numbers = s.numbers } in
     let room = ap (λ (k : Machine). outbox_is_full k session) c.self.view_is ∙ c.requires.room in
     let together = ap (λ (k : Machine). cut_of k session) c.self.view_is ∙ c.requires.cut in
     let ready = ap (λ (k : Machine). is_ready (listening_of k session)) c.self.view_is ∙ c.requires.ready in
@@ -47,15 +47,15 @@ invariant_of-self c =
     kept_of (record m { sessions = c.raise.new.sessions; listeners = listeners_of c.raise.new.self }) c.raise.new.self refl c.self.invariant.configured c.self.invariant.allowed c.self.invariant.shards
     (subst (AreHeard s.config s.limits s.past) (sym went) (heard_then m s.listeners refl session time together ready c.self.invariant.heard law.raising))
     (subst Facts (sym (λ i. record m { sessions = sessions i; listeners = listeners i })) (raised_facts m session time room together ready (subst Facts (sym c.self.view_is) c.stand.ensures.facts))))
-    (λ same alike. subst (λ ss. IsKept s.config s.limits s.past s.txns ss c.raise.new.self s.waiting s.numbers) (sym alike)
-    (subst (λ hs. IsKept s.config s.limits s.past s.txns s.sessions hs s.waiting s.numbers) (sym same) c.self.invariant))
+    (λ same alike. subst (λ ss. IsKept s.config s.limits s.past s.txns ss c.raise.new.self s.waiting s.streams s.numbers) (sym alike)
+    (subst (λ hs. IsKept s.config s.limits s.past s.txns s.sessions hs s.waiting s.streams s.numbers) (sym same) c.self.invariant))
 
 pub returns-clause-ok : goal.returns-clause-ok
 returns-clause-ok c =
     let s = c.self.inside in
     let session = c.args.session in
     let time = c.args.time in
-    let m : Machine = record { config = s.config; limits = s.limits; past = s.past; txns = s.txns; sessions = s.sessions; listeners = listeners_of s.listeners; parked = s.waiting; numbers = s.numbers } in
+    let m : Machine = record { config = s.config; limits = s.limits; past = s.past; txns = s.txns; sessions = s.sessions; listeners = listeners_of s.listeners; parked = s.waiting; streams = s.streams; numbers = s.numbers } in
     let together = ap (λ (k : Machine). cut_of k session) c.self.view_is ∙ c.requires.cut in
     let ready = ap (λ (k : Machine). is_ready (listening_of k session)) c.self.view_is ∙ c.requires.ready in
     of_both c.raise.result c.raise.ensures.ok c.raise.ensures.told

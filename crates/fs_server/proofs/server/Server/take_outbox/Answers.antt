@@ -20,6 +20,7 @@ invariant_of-self c =
           subst (λ ss. ListenersHold s.past ss (listeners_of s.listeners) s.numbers.targets) (sym c.take.ensures.list)
           (listeners_told s.past s.sessions (emptied c.args.session s.sessions) (listeners_of s.listeners) s.numbers.targets (same_numbers s.sessions c.args.session (λ ms. [])) c.self.invariant.listened);
       waiting = c.self.invariant.waiting;
+      streaming = c.self.invariant.streaming;
       shards = c.self.invariant.shards;
       heard = c.self.invariant.heard;
     }

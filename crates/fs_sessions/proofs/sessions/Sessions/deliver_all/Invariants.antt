@@ -1,5 +1,5 @@
 use Rattle.std.proofs.Common.{◌≡◌, map}
-use Rattle.fs_machine.specs.Release.{all_delivered}
+use Rattle.fs_sessions.specs.Place.{all_delivered}
 use Rattle.fs_sessions.proofs.sessions.Sessions.deliver_all.Given as goal
 
 -- the replies so far are delivered, and noted
