@@ -24,7 +24,9 @@ fn changes_of(
     let writes = writes(rt, alloc, text);
     assert!(rt; writes.len() <= 500);
     let documents = now.documents(alloc).expect(rt, "memory");
-    let (changes, _) = apply_batch(alloc, &documents, &writes, time).expect(rt, "a commit");
+    let (changes, _) = apply_batch(alloc, &documents, &writes, time)
+        .ok()
+        .expect(rt, "a commit");
     changes
 }
 

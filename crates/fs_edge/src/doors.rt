@@ -6,7 +6,7 @@ use crate::link::{Link, Sent};
 use std::alloc::AllocError;
 
 /// A link that was opened, or the failure to open it.
-#[derive(Drop, Debug)]
+#[derive(Drop)]
 pub enum Door<L> {
     Opened(L),
     Failed,

@@ -6,7 +6,7 @@ use fs_path::Text;
 use std::alloc::AllocError;
 
 /// What a link heard.
-#[derive(Drop, Debug)]
+#[derive(Drop)]
 pub enum Heard {
     /// A whole message.
     Message(Text),
@@ -19,7 +19,7 @@ pub enum Heard {
 }
 
 /// How a message was sent, or a port opened.
-#[derive(Clone, Copy, Debug, PartialEq, Eq)]
+#[derive(Clone, Copy, PartialEq, Eq)]
 pub enum Sent {
     Done,
     Failed,

@@ -4,7 +4,7 @@ ghost use Rattle.fs_edge.specs.Count.{one_more};
 ghost use Rattle.fs_edge.specs.Sink.{WriteAdds, Takes};
 
 /// What a write gave.
-#[derive(Clone, Copy, Debug, PartialEq, Eq)]
+#[derive(Clone, Copy, PartialEq, Eq)]
 pub enum Gave {
     /// The sink took so many bytes from the front of the piece.
     Bytes(usize),

@@ -6,7 +6,7 @@ use fs_write::Writes;
 use std::alloc::{AllocError, Global};
 
 /// A commit that was carried out. (v1 reference, "Commit".)
-#[derive(Drop, Debug)]
+#[derive(Drop)]
 pub struct Batch {
     /// Its commit time, at which its changes are seen. No two batches have the same.
     pub time: Micros,

@@ -7,7 +7,7 @@ use std::alloc::{AllocError, Global};
 
 /// A read in a transaction, with what it showed. (v1 reference, "GetDocument", "BatchGetDocuments", "RunQuery":
 /// `transaction`.)
-#[derive(Drop, Debug)]
+#[derive(Drop)]
 pub enum Read {
     /// A document, or none where there was none.
     Name {

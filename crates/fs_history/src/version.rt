@@ -6,7 +6,7 @@ use std::alloc::{AllocError, Global};
 
 /// What a batch left of a document that it changed: the document, or none where it was deleted.
 /// (docs/DECISIONS.md, "A version holds its whole document".)
-#[derive(Drop, Debug)]
+#[derive(Drop)]
 pub struct Version {
     /// The time of the batch.
     pub time: Micros,

@@ -2,7 +2,7 @@
 use fs_time::Micros;
 
 /// How far the targets of a session are together: the time up to which each of them has been told each of its shards.
-#[derive(Clone, Copy, Debug, PartialEq, Eq)]
+#[derive(Clone, Copy, PartialEq, Eq)]
 pub enum Cut {
     At(Micros),
     /// This target, the first of them, isn't loaded yet.

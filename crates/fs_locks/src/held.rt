@@ -2,7 +2,7 @@
 use fs_path::{DocName, Scope};
 
 /// What a read touches: the document of a name, or all documents that a query goes over, also those that aren't there yet.
-#[derive(Drop, Debug)]
+#[derive(Drop)]
 pub enum Held {
     Name(DocName),
     Scope(Scope),

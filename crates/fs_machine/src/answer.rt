@@ -5,7 +5,7 @@ use fs_time::Micros;
 use fs_write::{Changes, WriteResults};
 
 /// What a request is answered at once.
-#[derive(Drop, Debug)]
+#[derive(Drop)]
 pub enum Answer {
     /// It is carried out, and this is its reply.
     Reply(Message),
@@ -20,7 +20,7 @@ pub enum Answer {
 }
 
 /// What the writes of a pending commit come to.
-#[derive(Drop, Debug)]
+#[derive(Drop)]
 pub enum Outcome {
     /// What they change, and their results.
     Effects(Changes, WriteResults),
@@ -29,7 +29,7 @@ pub enum Outcome {
 }
 
 /// What has become of a commit that was settled.
-#[derive(Clone, Copy, Debug, PartialEq, Eq)]
+#[derive(Clone, Copy, PartialEq, Eq)]
 pub enum Settled {
     /// It is accepted, and released: it is in the history at this time.
     Released(Micros),

@@ -5,7 +5,7 @@ use std::alloc::{AllocError, Global};
 
 /// Whom a commit is answered: the session that asked for it, or the stream whose batch it is. The session of a batch may leave before it is
 /// finished, and another may own the stream by then.
-#[derive(Drop, Debug)]
+#[derive(Drop)]
 pub enum Asker {
     /// A session, and the id of its request.
     Session { session: u32, request: Option<Text> },

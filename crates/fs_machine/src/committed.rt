@@ -4,7 +4,7 @@ use fs_time::Micros;
 use fs_write::WriteResults;
 
 /// A commit that is let into the history, by what it is answered and who is.
-#[derive(Drop, Debug)]
+#[derive(Drop)]
 pub struct Committed {
     pub asker: Asker,
     pub time: Micros,

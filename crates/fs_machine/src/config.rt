@@ -2,7 +2,7 @@
 use fs_path::{MOST_SHARDS, Root};
 
 /// How two transactions that meet are kept apart. (Cloud Firestore documentation, "Transaction serializability and isolation".)
-#[derive(Clone, Copy, Debug, PartialEq, Eq)]
+#[derive(Clone, Copy, PartialEq, Eq)]
 pub enum Mode {
     /// What one has read is held until it ends, and others wait for it.
     Pessimistic,
@@ -11,7 +11,7 @@ pub enum Mode {
 }
 
 /// The configuration of a server, beside its limits. Nothing changes it later.
-#[derive(Drop, Debug)]
+#[derive(Drop)]
 pub struct Config {
     /// The project and the database whose documents it has.
     pub root: Root,

@@ -3,7 +3,7 @@ use fs_time::Micros;
 
 /// The numbers that requests may not pass, by the names that refusals tell. A server may be given smaller ones, as tests do,
 /// but no greater.
-#[derive(Clone, Copy, Debug, PartialEq, Eq)]
+#[derive(Clone, Copy, PartialEq, Eq)]
 pub struct Limits {
     /// Writes of a commit.
     pub writes: u64,

@@ -4,7 +4,7 @@ use std::alloc::{AllocError, Global};
 use std::marker::Model;
 
 /// Messages in the order in which they are sent. Contracts see them as a list.
-#[derive(Drop, Debug)]
+#[derive(Drop)]
 pub struct Messages {
     items: Vec<Message>,
 }

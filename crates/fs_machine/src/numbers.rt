@@ -1,7 +1,7 @@
 //! Numbers that were given.
 
 /// How many numbers a server has given so far. None is given twice.
-#[derive(Clone, Copy, Debug, PartialEq, Eq)]
+#[derive(Clone, Copy, PartialEq, Eq)]
 pub struct Numbers {
     /// The last that a commit or a transaction drew. They count from 1.
     pub ids: u64,

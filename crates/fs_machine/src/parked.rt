@@ -3,7 +3,7 @@ use fs_path::Text;
 use fs_status::Id;
 
 /// A request that waits, as a server tells of it.
-#[derive(Drop, Debug)]
+#[derive(Drop)]
 pub struct Parked {
     /// The session that asked.
     pub session: u32,

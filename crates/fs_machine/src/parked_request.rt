@@ -3,7 +3,7 @@ use fs_rpc::Envelope;
 use fs_status::Id;
 
 /// A request that is held by a commit which isn't released yet, or by a transaction that is open. It waits, and is tried again.
-#[derive(Drop, Debug)]
+#[derive(Drop)]
 pub struct ParkedRequest {
     /// The session that asked.
     pub session: u32,

@@ -2,7 +2,7 @@
 use fs_rpc::Message;
 
 /// What a session is told of its commit.
-#[derive(Drop, Debug)]
+#[derive(Drop)]
 pub struct Reply {
     pub session: u32,
     pub message: Message,

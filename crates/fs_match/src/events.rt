@@ -12,7 +12,7 @@
 /// | doesn't fit | doesn't fit | `None` |
 ///
 /// (v1 reference, `DocumentChange`, `DocumentDelete` and `DocumentRemove`.)
-#[derive(Clone, Copy, Debug, PartialEq, Eq)]
+#[derive(Clone, Copy, PartialEq, Eq)]
 pub enum Event {
     /// It comes to be among those that fit.
     Enter,

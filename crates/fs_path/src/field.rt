@@ -13,7 +13,7 @@ use std::alloc::{AllocError, Global};
 use std::mem::replace;
 
 /// The names from a document's fields down to a field of a map inside: `address`, `city`. There is at least one.
-#[derive(PartialEq, Eq, PartialOrd, Ord, Drop, Debug)]
+#[derive(PartialEq, Eq, PartialOrd, Ord, Drop)]
 pub struct FieldPath {
     pub parts: Ids,
     ghost some: { 0 < length parts },

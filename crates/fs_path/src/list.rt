@@ -27,7 +27,7 @@ impl Copied for u32 {
 /// | `push(b)` | `[a, b]` |
 ///
 /// Then `at(0)` lends `a`, and a list that begins another comes before it: `[a]`, `[a, b]`, `[b]`.
-#[derive(Drop, Debug)]
+#[derive(Drop)]
 pub struct List<T> {
     items: Vec<T>,
 }

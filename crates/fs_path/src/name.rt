@@ -12,7 +12,7 @@ use std::hash::{Hash, Hasher};
 use std::marker::Model;
 
 /// The root of a server's documents: its project and its database.
-#[derive(PartialEq, Eq, Drop, Debug)]
+#[derive(PartialEq, Eq, Drop)]
 pub struct Root {
     pub project: Text,
     pub database: Text,
@@ -38,7 +38,7 @@ impl Root {
 ///     demo/(default)/c/a/x/b      at the byte behind `a`, `/` comes before `-`,
 ///     demo/(default)/c/a-b        though its number, 0x2f, is above that of `-`, 0x2d
 /// (docs/DECISIONS.md, "A name is one text".)
-#[derive(Drop, Debug)]
+#[derive(Drop)]
 pub struct DocName {
     path: String,
 }

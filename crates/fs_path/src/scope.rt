@@ -15,7 +15,7 @@ use std::alloc::{AllocError, Global};
 /// The documents that a query goes over: those of one collection, or those of every collection with one id below a
 /// parent, however deep. The parent's ids are a document's, or none for the root.
 /// (v1 reference, "StructuredQuery.CollectionSelector".)
-#[derive(PartialEq, Eq, Drop, Debug)]
+#[derive(PartialEq, Eq, Drop)]
 pub enum Scope {
     Collection { parent: Ids, id: Text },
     Group { parent: Ids, id: Text },

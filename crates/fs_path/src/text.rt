@@ -121,7 +121,7 @@ impl Ord for Text {
 }
 
 /// Bytes that need not be text.
-#[derive(Drop, Debug)]
+#[derive(Drop)]
 pub struct Bytes {
     items: Vec<u8>,
 }

@@ -6,7 +6,7 @@ use std::alloc::{AllocError, Global};
 
 /// A place in the order of a query's documents (v1 reference, "Cursor"): values for the first of the fields that they are
 /// ordered by.
-#[derive(Drop, Debug)]
+#[derive(Drop)]
 pub struct Cursor {
     pub values: Values,
     /// Whether the place is just before the documents with these values, and not just after them.

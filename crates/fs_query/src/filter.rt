@@ -10,7 +10,7 @@ use std::marker::Model;
 /// `a > 1 and (b == 2 or c is null)` is
 /// `And([Field(a, Greater, 1), Or([Field(b, Equal, 2), IsNull(c)])])`.
 #[cycle(filter)]
-#[derive(Drop, Debug)]
+#[derive(Drop)]
 pub enum Filter {
     /// Every document.
     All,
@@ -72,7 +72,7 @@ impl Filter {
 
 /// Filters in order, as those that an AND joins. Contracts see them as a list of `Condition`.
 #[cycle(filter)]
-#[derive(Drop, Debug)]
+#[derive(Drop)]
 pub struct Filters {
     items: Vec<Filter>,
 }

@@ -8,7 +8,7 @@ use fs_value::Document;
 use std::alloc::{AllocError, Global};
 
 /// Why a target was refused. (`google.rpc.Status`.)
-#[derive(Drop, Debug)]
+#[derive(Drop)]
 pub struct Cause {
     /// The number of the refusal's status in gRPC.
     pub code: u32,
@@ -37,7 +37,7 @@ impl Cause {
 /// | `Current` of 1 and 2, `NoChange` | `{n:1}`, as it was at the time of `NoChange` | the same |
 /// | `Changed` with `{n:0}` for 2, left 1 | empty | `{n:0}` |
 /// | `NoChange` | empty, as it was at its time | `{n:0}` |
-#[derive(Drop, Debug)]
+#[derive(Drop)]
 pub enum ListenMessage {
     /// These targets were added.
     Add {

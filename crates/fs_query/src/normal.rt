@@ -12,7 +12,7 @@ use std::alloc::{AllocError, Global};
 /// A query's whole order, and the disjuncts of its filter, each an AND of simple filters: of
 /// `a > 1 and b in [2, 3]`, ordered by `c` descending, the order `c`, `a`, `__name__`, all descending, and the disjuncts
 /// `a > 1 and b == 2` and `a > 1 and b == 3`.
-#[derive(Drop, Debug)]
+#[derive(Drop)]
 pub struct Normal {
     pub orders: Orders,
     pub disjuncts: Filters,

@@ -9,7 +9,7 @@ use std::marker::Model;
 /// | `Numbers::new` | `[]` |
 /// | `push(1)` | `[1]` |
 /// | `push(4)` | `[1, 4]` |
-#[derive(Drop, Debug)]
+#[derive(Drop)]
 pub struct Numbers {
     items: Vec<u32>,
 }

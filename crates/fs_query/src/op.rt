@@ -3,7 +3,7 @@ ghost use Rattle.std.specs.Prelude.{◌≡◌};
 ghost use Rattle.fs_query.specs.Normal.{is_inequality};
 
 /// How a field filter compares a field with its operand. (v1 reference, "StructuredQuery.FieldFilter", `op`.)
-#[derive(Clone, Copy, PartialEq, Eq, Debug)]
+#[derive(Clone, Copy, PartialEq, Eq)]
 pub enum Op {
     Less,
     LessEqual,

@@ -4,7 +4,7 @@ use std::alloc::{AllocError, Global};
 
 /// A field that documents are ordered by (v1 reference, "StructuredQuery.Order"). The path `__name__` is the document's
 /// name.
-#[derive(Drop, Debug)]
+#[derive(Drop)]
 pub struct Order {
     pub path: FieldPath,
     pub descending: bool,

@@ -10,7 +10,7 @@ use std::marker::Model;
 
 /// A structured query (v1 reference, "StructuredQuery"). Contracts see what it asks, as `Asked`.
 /// (docs/DECISIONS.md, "A query's contract speaks of what it asks".)
-#[derive(Drop, Debug)]
+#[derive(Drop)]
 pub struct Query {
     /// `from`, below the parent of the request.
     pub scope: Scope,

@@ -4,7 +4,7 @@ use fs_path::{Copied, Names};
 use std::alloc::{AllocError, Global};
 
 /// What one target of a session listens to. (v1 reference, `Target`.)
-#[derive(Drop, Debug)]
+#[derive(Drop)]
 pub enum Target {
     /// The answer to a query.
     Query(Query),

@@ -11,7 +11,7 @@ use fs_edge::{Source, Status, Took};
 use std::alloc::{AllocError, Global};
 
 /// Why reading stopped.
-#[derive(Clone, Copy, Debug, PartialEq, Eq)]
+#[derive(Clone, Copy, PartialEq, Eq)]
 pub enum Stop {
     /// The source told its end.
     End,

@@ -5,7 +5,7 @@ use fs_status::{Id, Reason};
 use fs_time::Micros;
 
 /// A line of a script, as it was read.
-#[derive(Drop, Debug)]
+#[derive(Drop)]
 pub enum Line {
     /// It is empty, and gives nothing.
     Empty,

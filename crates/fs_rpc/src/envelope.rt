@@ -22,7 +22,7 @@ use std::alloc::{AllocError, Global};
 /// A request on a session, as a line of a script has it. A fault of the method's content is the request's, and is answered
 /// with the session and the id; so it stands in the request's place. It never is want of memory.
 /// (docs/DECISIONS.md, "A fault of a request's content stands in the request's place".)
-#[derive(Drop, Debug)]
+#[derive(Drop)]
 pub struct SessionRequest {
     pub session: Text,
     pub id: Option<Text>,

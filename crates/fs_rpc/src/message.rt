@@ -10,7 +10,7 @@ use std::alloc::{AllocError, Global};
 
 /// What a client is told: the answer to each method that is built, with the id of the request where that had one, what the
 /// targets that it listens to are, what its streams are, and the error.
-#[derive(Drop, Debug)]
+#[derive(Drop)]
 pub enum Message {
     /// The writes were made at this time. (v1 reference, `CommitResponse`.)
     Commit {
@@ -131,7 +131,7 @@ impl Message {
 }
 
 /// What is told of a name that was asked for: the document that stood there at a time, or that none did.
-#[derive(Drop, Debug)]
+#[derive(Drop)]
 pub enum BatchAnswer {
     Found(Document, Micros),
     Missing(DocName, Micros),
@@ -160,7 +160,7 @@ impl Copied for BatchAnswer {
 pub type Answers = List<BatchAnswer>;
 
 /// What is told of a write stream.
-#[derive(Drop, Debug)]
+#[derive(Drop)]
 pub enum StreamAnswer {
     /// Nothing new: the stream was opened or resumed, or was asked for.
     Stands,

@@ -22,7 +22,7 @@ use serde_json::{Map, Value};
 use std::alloc::{AllocError, Global};
 
 /// What a transaction may do. (v1 reference, `TransactionOptions`.)
-#[derive(Clone, Copy, Debug, PartialEq, Eq)]
+#[derive(Clone, Copy, PartialEq, Eq)]
 pub enum TransactionOptions {
     /// It reads and writes. Which transaction is tried again, its `retryTransaction`, isn't kept.
     ReadWrite,

@@ -13,7 +13,7 @@ use std::alloc::{AllocError, Global};
 
 /// What a request asks for: one variant for each method of `google.firestore.v1.Firestore` that is built.
 /// (docs/DECISIONS.md, "A request holds its database".)
-#[derive(Drop, Debug)]
+#[derive(Drop)]
 pub enum Request {
     /// `commit`: writes that are all made at one time, or not at all, and end the transaction, where they are of one. (v1
     /// reference, `CommitRequest`.)
@@ -166,7 +166,7 @@ impl Request {
 }
 
 /// A request with the id by which its answer is told from others.
-#[derive(Drop, Debug)]
+#[derive(Drop)]
 pub struct Envelope {
     pub id: Option<Text>,
     pub request: Request,

@@ -5,7 +5,7 @@ use fs_write::Writes;
 use std::alloc::{AllocError, Global};
 
 /// What a `write` asks of a stream, by the members that it has.
-#[derive(Drop, Debug)]
+#[derive(Drop)]
 pub enum StreamRequest {
     /// None of them: a stream is opened.
     Open,

@@ -19,7 +19,7 @@ use std::alloc::{AllocError, Global};
 
 /// When documents are read. (v1 reference, the `consistency_selector` of `GetDocumentRequest`, `BatchGetDocumentsRequest` and
 /// `RunQueryRequest`.)
-#[derive(Clone, Copy, Debug, PartialEq, Eq)]
+#[derive(Clone, Copy, PartialEq, Eq)]
 pub enum When {
     /// As they are now, which is at the released time.
     Released,

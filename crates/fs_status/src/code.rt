@@ -3,7 +3,7 @@ ghost use Rattle.std.specs.Prelude.{◌≡◌};
 ghost use Rattle.fs_status.specs.Status.{http_of, rpc_of, status_text};
 
 /// The status of a refusal. All but the last are those of `google.rpc.Code` that Firestore answers.
-#[derive(Clone, Copy, Debug, PartialEq, Eq)]
+#[derive(Clone, Copy, PartialEq, Eq)]
 pub enum Code {
     InvalidArgument,
     FailedPrecondition,

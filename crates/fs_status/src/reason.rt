@@ -9,7 +9,7 @@ use fs_time::Micros;
 use std::alloc::{AllocError, Global};
 
 /// Why a request isn't carried out, with what its message names.
-#[derive(Drop, Debug)]
+#[derive(Drop)]
 pub enum Reason {
     /// The request breaks a rule at a place: `P3 at getDocument.name`.
     Rule(Rule, Place),
@@ -72,7 +72,7 @@ pub enum Reason {
 }
 
 /// What is wrong with a line as a whole.
-#[derive(Clone, Copy, Debug, PartialEq, Eq)]
+#[derive(Clone, Copy, PartialEq, Eq)]
 pub enum LineFault {
     NotAnObject,
     DoesNotApply,

@@ -9,7 +9,7 @@ use fs_path::Text;
 use std::alloc::{AllocError, AllocFailed, Global};
 
 /// The answer to a request that isn't carried out.
-#[derive(Drop, Debug)]
+#[derive(Drop)]
 pub struct Refusal {
     pub code: Code,
     pub reason: Reason,
@@ -22,7 +22,7 @@ pub struct Refusal {
 }
 
 /// A limit by its name, and the number that it allows.
-#[derive(Drop, Debug)]
+#[derive(Drop)]
 pub struct Limit {
     pub name: Text,
     pub number: u64,

@@ -4,7 +4,7 @@ use fs_status::Id;
 use fs_time::Micros;
 
 /// That a commit changed a document. What the document was before and afterwards is told by its versions.
-#[derive(Drop, Debug)]
+#[derive(Drop)]
 pub struct Noted {
     /// The commit time.
     pub time: Micros,

@@ -4,7 +4,7 @@ use fs_write::TimedChanges;
 use std::alloc::{AllocError, Global};
 
 /// What comes to be seen when the released time goes from one time to another: the changes of the commits in between.
-#[derive(Drop, Debug)]
+#[derive(Drop)]
 pub struct Release {
     /// The released time before.
     pub from: Micros,

@@ -6,7 +6,7 @@ use std::alloc::{AllocError, Global};
 
 /// What a batch was answered once it was finished, committed or refused. It is kept, so that who didn't hear it is answered the
 /// same once more. (v1 reference, "WriteResponse".)
-#[derive(Drop, Debug)]
+#[derive(Drop)]
 pub struct Kept {
     /// How many batches of the stream were finished with this one: the stream token of the response.
     pub token: u64,

@@ -12,7 +12,7 @@ use std::alloc::Global;
 ///     that is finished          one is finished, and its response is kept
 ///     the same again            a repeat, answered by the response that is kept
 ///     a batch with token 1      it is new, and in progress
-#[derive(Drop, Debug)]
+#[derive(Drop)]
 pub struct Stream {
     /// How many of its batches are finished: the token of the next one.
     pub finished: u64,

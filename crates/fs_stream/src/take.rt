@@ -2,7 +2,7 @@
 use crate::kept::Kept;
 
 /// What a batch with a stream token is to the stream.
-#[derive(Drop, Debug)]
+#[derive(Drop)]
 pub enum Take {
     /// It is the next one, of the stream of this number, and in progress from now on.
     New(u64),
@@ -13,7 +13,7 @@ pub enum Take {
 }
 
 /// What a resumption with a stream token is told.
-#[derive(Drop, Debug)]
+#[derive(Drop)]
 pub enum Resumed {
     /// So many batches are finished, as the token says.
     At(u64),

@@ -10,7 +10,7 @@ use fs_write::copy_document;
 use std::alloc::{AllocError, Global};
 
 /// What a commit means to a target: a document enters what it listens to, changes in it, or leaves it.
-#[derive(Drop, Debug)]
+#[derive(Drop)]
 pub struct TimedEvent {
     /// The commit time.
     pub time: Micros,

@@ -19,7 +19,7 @@ use std::marker::Model;
 ///     c/a: {n: 1}, c/b: none     the documents c/a {n: 1}, and room for a c/b
 ///     put c/a none               no documents, and room for both
 ///     give_back c/a              no documents, and room for a c/b
-#[derive(Drop, Debug)]
+#[derive(Drop)]
 pub(crate) struct Places {
     places: BTreeMap<DocName, Option<Document>>,
 }

@@ -10,7 +10,7 @@ use std::marker::Model;
 /// of them (Cloud Firestore documentation, "Supported data types").
 ///
 /// 1,704,067,200,123,456 is 2024-01-01T00:00:00.123456Z, and -1 is 1969-12-31T23:59:59.999999Z.
-#[derive(Clone, Copy, Debug, PartialEq, Eq, PartialOrd, Ord, Hash)]
+#[derive(Clone, Copy, PartialEq, Eq, PartialOrd, Ord, Hash)]
 pub struct Micros {
     n: i64,
 }

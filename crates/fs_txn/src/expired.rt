@@ -12,7 +12,7 @@ use fs_time::Micros;
 pub const REMEMBERED: usize = 1_000;
 
 /// A transaction that expired.
-#[derive(Clone, Copy, Debug, PartialEq, Eq)]
+#[derive(Clone, Copy, PartialEq, Eq)]
 pub struct Expired {
     pub id: Id,
     /// The moment since which its time ran: its begin where it had been open for too long, else its last use.
@@ -22,7 +22,7 @@ pub struct Expired {
 }
 
 /// Why no transaction of an id is open.
-#[derive(Clone, Copy, Debug, PartialEq, Eq)]
+#[derive(Clone, Copy, PartialEq, Eq)]
 pub enum TxnError {
     /// None of that id ever was, or it ended by a commit or a rollback, or it expired so long ago that it is forgotten.
     Unknown,

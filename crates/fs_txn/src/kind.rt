@@ -1,7 +1,7 @@
 //! Kinds of transactions.
 
 /// What a transaction may do. (v1 reference, "TransactionOptions".)
-#[derive(Clone, Copy, Debug, PartialEq, Eq)]
+#[derive(Clone, Copy, PartialEq, Eq)]
 pub enum Kind {
     /// It reads and then writes. No other commit may change what it has read before it commits.
     ReadWrite,

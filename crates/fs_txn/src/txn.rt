@@ -16,7 +16,7 @@ pub const IDLE: i64 = 60_000_000;
 pub const LONGEST: i64 = 270_000_000;
 
 /// A transaction that is open. (v1 reference, "BeginTransaction".)
-#[derive(Drop, Debug)]
+#[derive(Drop)]
 pub struct Txn {
     pub id: Id,
     pub kind: Kind,

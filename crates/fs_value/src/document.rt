@@ -10,7 +10,7 @@ use std::alloc::{AllocError, Global};
 use std::marker::Model;
 
 /// A document (`google.firestore.v1.Document`): its name and fields, when it was created, and when it was last updated.
-#[derive(Drop, Debug)]
+#[derive(Drop)]
 pub struct Document {
     pub name: DocName,
     pub fields: SharedFields,
@@ -60,7 +60,7 @@ fn are_same(a: &SharedFields, b: &SharedFields) -> bool
 }
 
 /// Documents in order. Contracts see them as a list.
-#[derive(Drop, Debug)]
+#[derive(Drop)]
 pub struct Documents {
     items: Vec<Document>,
 }

@@ -11,7 +11,7 @@ use std::marker::Model;
 ///     demo/(default)/c/a    {n: 1}
 ///     demo/(default)/c/b    {n: 2}      `put` of another `c/b` takes the place of this one
 /// (docs/DECISIONS.md, "A map of documents has a name twice, as the key and in the document".)
-#[derive(Drop, Debug)]
+#[derive(Drop)]
 pub struct DocumentMap {
     documents: BTreeMap<DocName, Document>,
 }

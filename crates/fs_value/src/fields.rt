@@ -6,7 +6,7 @@ use std::marker::Model;
 
 /// A field: its key and its value.
 #[cycle(value)]
-#[derive(Drop, Debug)]
+#[derive(Drop)]
 pub struct Field {
     pub key: Text,
     pub value: Value,
@@ -36,7 +36,7 @@ impl Field {
 ///     b: true      `put` of `aa` goes between these two,
 ///     é: null      and `put` of `b` takes the place of `true`
 #[cycle(value)]
-#[derive(Drop, Debug)]
+#[derive(Drop)]
 pub struct Fields {
     pub(crate) items: Vec<Field>,
 }

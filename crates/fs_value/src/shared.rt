@@ -12,7 +12,7 @@ use std::sync::Arc;
 ///     another.into_fields()    {n: 1}   a copy, as `one` holds them too
 ///     one.into_fields()        {n: 1}   the block itself: nobody else held it any longer
 /// (docs/DECISIONS.md, "A document shares its fields with its copies".)
-#[derive(Drop, Debug)]
+#[derive(Drop)]
 pub struct SharedFields {
     fields: Arc<Fields, Global>,
 }

@@ -8,7 +8,7 @@ use std::alloc::{AllocError, Global};
 /// The value of a field (`google.firestore.v1.Value`). Contracts see its `Data`, by `view`.
 /// (docs/DECISIONS.md, "Values are one plain enum over lists of their own types".)
 #[cycle(value)]
-#[derive(Drop, Debug)]
+#[derive(Drop)]
 pub enum Value {
     Null,
     Boolean(bool),

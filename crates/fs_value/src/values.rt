@@ -5,7 +5,7 @@ use std::marker::Model;
 
 /// Values in order, as the elements of an array. Contracts see them as a list of `Data`.
 #[cycle(value)]
-#[derive(Drop, Debug)]
+#[derive(Drop)]
 pub struct Values {
     items: Vec<Value>,
 }

@@ -6,7 +6,7 @@ use fs_value::Document;
 use std::alloc::{AllocError, Global};
 
 /// What a commit made of one document: the document before and after, each none where there is none.
-#[derive(Drop, Debug)]
+#[derive(Drop)]
 pub struct Change {
     pub name: DocName,
     pub before: Option<Document>,

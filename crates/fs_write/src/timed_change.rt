@@ -6,7 +6,7 @@ use fs_time::Micros;
 use std::alloc::{AllocError, Global};
 
 /// What a commit changed, with its time and its number.
-#[derive(Drop, Debug)]
+#[derive(Drop)]
 pub struct TimedChange {
     /// The commit time.
     pub time: Micros,

@@ -4,7 +4,7 @@ use fs_value::Values;
 use std::alloc::{AllocError, Global};
 
 /// What is done to a field. (v1 reference, "DocumentTransform.FieldTransform".)
-#[derive(Drop, Debug)]
+#[derive(Drop)]
 pub enum Operation {
     /// The field becomes the time of the commit, in whole milliseconds (`setToServerValue: REQUEST_TIME`).
     RequestTime,
@@ -38,7 +38,7 @@ impl Operation {
 }
 
 /// An operation on the field at a path.
-#[derive(Drop, Debug)]
+#[derive(Drop)]
 pub struct Transform {
     pub path: FieldPath,
     pub operation: Operation,

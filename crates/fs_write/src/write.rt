@@ -7,7 +7,7 @@ use fs_value::SharedFields;
 use std::alloc::{AllocError, Global};
 
 /// What has to hold of the document before a write, or else the commit is refused. (v1 reference, "Precondition".)
-#[derive(Clone, Copy, Debug, PartialEq, Eq)]
+#[derive(Clone, Copy, PartialEq, Eq)]
 pub enum Precondition {
     None,
     /// The document is there, or isn't.
@@ -18,7 +18,7 @@ pub enum Precondition {
 
 /// What a write does to its document. (v1 reference, "Write": `update`, `updateMask`, `delete`.)
 /// (docs/DECISIONS.md, "What a write is given are shared fields".)
-#[derive(Drop, Debug)]
+#[derive(Drop)]
 pub enum Act {
     /// An update without a mask: these are the document's fields afterwards. It is created where it is absent.
     Set {
@@ -62,7 +62,7 @@ impl Act {
 }
 
 /// One write of a commit: what it does, the transforms that follow, and what has to hold before. (v1 reference, "Write".)
-#[derive(Drop, Debug)]
+#[derive(Drop)]
 pub struct Write {
     pub act: Act,
     pub transforms: Transforms,

@@ -6,7 +6,7 @@ use std::alloc::{AllocError, Global};
 
 /// What a write is answered: when its document was last updated, which is none for a delete, and the results of its
 /// transforms in their order. (v1 reference, "WriteResult".)
-#[derive(Drop, Debug)]
+#[derive(Drop)]
 pub struct WriteResult {
     pub updated: Option<Micros>,
     pub transforms: Values,
