@@ -24,7 +24,7 @@ module _ {X : Type 0} (e : ℕ × X) (es : List (ℕ × X)) (rise : IsTrue (is_s
   pub first_found : find nat_cmp e.0 (e ∷ es) ≡ Some e.1
   first_found = ap (λ b. cond b (Some e.1) (find nat_cmp e.0 es)) (number_itself e.0)
 
-  none_again : find nat_cmp e.0 es ≡ None
+  pub none_again : find nat_cmp e.0 es ≡ None
   none_again = not_below e.0 es (first_so (below_all nat_cmp e.0 es) _ rise)
 
   pub behind_first : (id : ℕ) (x : X) → find nat_cmp id es ≡ Some x → find nat_cmp id (e ∷ es) ≡ Some x

@@ -6,6 +6,7 @@ pub mod Reserved
 pub mod Results
 pub mod PathOrder
 pub mod NameTexts
+pub mod NamesOnce
 pub mod Refusals
 pub mod Spellings
 pub mod Accepted

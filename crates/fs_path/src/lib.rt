@@ -32,7 +32,7 @@ pub use field_print::print_field;
 pub use ids::{Ids, Texts};
 pub use list::{Copied, List};
 pub use name::{DocName, Root};
-pub use names::Names;
+pub use names::{Names, sorted_names};
 pub use parse::{parse_document, parse_parent, parse_reference};
 pub use paths::Paths;
 pub use place::{Place, Rule};

@@ -29,7 +29,7 @@ pub fn answer(alloc: Global, q: &Query, docs: &Documents) -> Result<Documents, A
     requires { IsTrue (is_sorted name_cmp (by_name docs.now)) }
     ensures { IfOk result (λ ds. IsAnswer q.now docs.now ds) }
 {
-    let lent = lent(alloc, docs.as_slice())?;
+    let lent = docs.lent(alloc)?;
     answer_among(alloc, q, lent.as_slice())
 }
 
@@ -42,16 +42,6 @@ pub fn answer_among(alloc: Global, q: &Query, docs: &[&Document]) -> Result<Docu
 {
     let orders = whole_order(alloc, q)?;
     answer_by(alloc, q, orders.as_slice(), docs)
-}
-
-fn lent(alloc: Global, docs: &[Document]) -> Result<Vec<&Document>, AllocError>
-    ensures { IfOk result (λ v. map (λ d. d.now) v.items ≡ docs.now) }
-{
-    let mut lent = Vec::with_capacity(alloc, docs.len())?;
-    for d in docs {
-        lent.push(d)?;
-    }
-    Ok(lent)
 }
 
 fn answer_by(

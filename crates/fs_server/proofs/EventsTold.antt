@@ -1,22 +1,20 @@
 -- What commits are to the targets of all sessions is, of each number, what they are to its target.
 use Rattle.std.proofs.Common.{◌≡◌, ℕ, ℤ, ◌≤ℤ◌, ◌<ℤ◌, Bool, true, false, cond, List, [], ◌∷◌, ◌++◌, Option, Some, None, refl, sym, ap, ◌∙◌, subst, arith}
 use Rattle.std.specs.Prelude.{IfSome, IsTrue, ◌==◌, ◌≢◌}
-use Rattle.std.specs.Cmp.{Equal-is, first_so, second_so}
+use Rattle.std.specs.Cmp.{second_so}
 use Rattle.std.specs.FinMap.{entries, entries_sorted, find, get, get-entries, is_sorted}
 use Rattle.std.specs.FinMap.Entries.{below_all}
 use Rattle.std.specs.List.{AllByRecursion, flat_map}
 use Rattle.std.specs.Ordering.{eq_by_cmp, nat_cmp}
 use Rattle.std.proofs.lemmas.Bool.{eqb-true}
-use Rattle.std.proofs.lemmas.Cmp.{nat_cmp_total, tied_itself}
 use Rattle.std.proofs.lemmas.Int.{ints}
 use Rattle.std.proofs.lemmas.List.{append-nil, append_assoc}
 use Rattle.fs_path.proofs.Bools.{to_true}
-use Rattle.fs_path.proofs.Orders.{below_less}
+use Rattle.fs_pairs.proofs.Entries.{behind_first, first_found, none_again, number_is, number_itself}
 use Rattle.fs_path.specs.Scope.{in_shard}
 use Rattle.fs_history.specs.Brings.{AreChangesIn}
 use Rattle.fs_history.specs.declared.batch.Batch.{Batch}
 use Rattle.fs_listen.specs.Listening.{Listened}
-use Rattle.fs_listen.proofs.Listed.{number_is}
 use Rattle.fs_query.specs.declared.target.Target.{Target}
 use Rattle.fs_target.specs.Held.{position_in}
 use Rattle.fs_target.specs.declared.event.TimedEvent.{TimedEvent}
@@ -28,30 +26,6 @@ use Rattle.fs_sessions.specs.Heard.{Heard, listener_of, listeners_of}
 use Rattle.fs_sessions.specs.Matched.{ear_events, events_from, events_to, least_in, numbered_events}
 use Rattle.fs_server.proofs.EventsOf.{for_both, none_for, target_own, target_same}
 use Rattle.fs_server.proofs.Positions.{IsFrom, IsLeast, are_least}
-
--- ---- entries by rising numbers
-
-number_itself : (a : ℕ) → eq_by_cmp nat_cmp a a ≡ true
-number_itself a = (Equal-is _).1 (tied_itself nat_cmp_total a)
-
-not_below : {X : Type 0} (id : ℕ) (es : List (ℕ × X)) → IsTrue (below_all nat_cmp id es) → find nat_cmp id es ≡ None
-not_below id [] below = refl
-not_below id (e ∷ es) below =
-    let both = below_less (nat_cmp id e.0) (below_all nat_cmp id es) below in
-    ap (λ b. cond b (Some e.1) (find nat_cmp id es)) both.0 ∙ not_below id es both.1
-
-module _ {X : Type 0} (e : ℕ × X) (es : List (ℕ × X)) (rise : IsTrue (is_sorted nat_cmp (e ∷ es))) where
-  pub first_found : find nat_cmp e.0 (e ∷ es) ≡ Some e.1
-  first_found = ap (λ b. cond b (Some e.1) (find nat_cmp e.0 es)) (number_itself e.0)
-
-  none_again : find nat_cmp e.0 es ≡ None
-  none_again = not_below e.0 es (first_so (below_all nat_cmp e.0 es) _ rise)
-
-  pub behind_first : (id : ℕ) (x : X) → find nat_cmp id es ≡ Some x → find nat_cmp id (e ∷ es) ≡ Some x
-  behind_first id x found = by_test (eq_by_cmp nat_cmp id e.0) refl where
-    by_test : (same : Bool) → eq_by_cmp nat_cmp id e.0 ≡ same → find nat_cmp id (e ∷ es) ≡ Some x
-    by_test false is = ap (λ b. cond b (Some e.1) (find nat_cmp id es)) is ∙ found
-    by_test true is = absurd (let both : None ≡ Some x = sym none_again ∙ ap (λ k. find nat_cmp k es) (sym (number_is id e.0 is)) ∙ found in cc)
 
 -- ---- of one session
 

@@ -29,7 +29,7 @@ use Rattle.fs_server.specs.Events.{AreEventsFor, AreEventsOf, events_for}
 use Rattle.fs_sessions.specs.Heard.{AreHeard, Heard, heard_fed, IsHeard, listener_of, listeners_of, picked, picked_as}
 use Rattle.fs_pairs.specs.Pairs.{key_of}
 use Rattle.fs_server.proofs.EventsOf.{renamed, renamed_events}
-use Rattle.fs_server.proofs.EventsTold.{behind_first, first_found}
+use Rattle.fs_pairs.proofs.Entries.{behind_first, first_found}
 use Rattle.fs_server.proofs.Unnumbered.{matching_numbered}
 
 -- ---- whose a number is

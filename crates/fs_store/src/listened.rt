@@ -1,10 +1,9 @@
 //! What a target listens to, and what it shows.
 ghost use Rattle.std.specs.Prelude.{◌≡◌, ◌≤ℤ◌, List, IfOk, IsTrue, map};
 ghost use Rattle.std.specs.FinMap.{is_sorted};
-ghost use Rattle.std.specs.List.{filter, list_any};
-ghost use Rattle.std.specs.List.Sorted.{IsPermutation, IsSortedByKey, IsStrictlySortedBy};
-ghost use Rattle.fs_path.specs.NameOrder.{name_cmp, name_eq};
-ghost use Rattle.fs_path.specs.declared.name.DocName.{DocName};
+ghost use Rattle.std.specs.List.{filter};
+ghost use Rattle.std.specs.List.Sorted.{IsPermutation, IsSortedByKey};
+ghost use Rattle.fs_path.specs.NameOrder.{name_cmp};
 ghost use Rattle.fs_value.specs.Named.{by_name};
 ghost use Rattle.fs_write.specs.Batch.{docs_of};
 ghost use Rattle.fs_query.specs.Fits.{fits};
@@ -21,7 +20,7 @@ ghost use Rattle.fs_store.specs.Held.{AreNamed};
 
 use fs_history::histories_are_lawful;
 use fs_listen::is_whole;
-use fs_path::{DocName, Names};
+use fs_path::{DocName, Names, sorted_names};
 use fs_query::{Query, Target, answer_among, answers_are_lawful, matches};
 use fs_time::Micros;
 use fs_value::{Document, Documents};
@@ -85,18 +84,6 @@ fn answered(
     answers_are_lawful();
     let documents = versions.documents_in(alloc, &query.scope, time)?;
     in_order(answer_among(alloc, query, documents.as_slice())?)
-}
-
-// Names in their order, each once.
-fn sorted_names<'a>(alloc: Global, names: &'a Names) -> Result<BTreeSet<&'a DocName>, AllocError>
-    ensures rise { IfOk result (λ s. IsStrictlySortedBy name_cmp (map (λ n. n.now) s.keys)) }
-    ensures same { IfOk result (λ s. (q : DocName) → list_any (name_eq q) (map (λ n. n.now) s.keys) ≡ list_any (name_eq q) names.now) }
-{
-    let mut sorted = BTreeSet::new(alloc);
-    for name in names.as_slice() {
-        sorted.insert(name)?;
-    }
-    Ok(sorted)
 }
 
 // The documents that stand at names.

@@ -79,7 +79,7 @@ impl Model for Documents {
 }
 
 impl Documents {
-    ghost use Rattle.std.specs.Prelude.{◌≡◌, ◌↔◌, ◌<◌, ◌∷◌, ◌++◌, IfOk, OnOk, OnErr, IsTrue, Some, [], length, option_map, slice_get};
+    ghost use Rattle.std.specs.Prelude.{◌≡◌, ◌↔◌, ◌<◌, ◌∷◌, ◌++◌, IfOk, OnOk, OnErr, IsTrue, Some, [], length, map, option_map, slice_get};
     ghost use Rattle.std.specs.FinMap.{find, is_sorted};
     ghost use Rattle.fs_path.specs.NameOrder.{name_cmp};
     ghost use Rattle.fs_value.specs.Named.{by_name};
@@ -152,6 +152,28 @@ impl Documents {
         ensures err { OnErr result (self.new ≡ self.old) }
     {
         Ok(self.items.push(document)?)
+    }
+
+    /// The documents where they stand. None is copied.
+    pub fn lent(&self, alloc: Global) -> Result<Vec<&Document>, AllocError>
+        ensures { IfOk result (λ v. map (λ d. d.now) v.items ≡ self.now) }
+    {
+        let mut lent = Vec::with_capacity(alloc, self.items.len())?;
+        for document in &self.items {
+            lent.push(document)?;
+        }
+        Ok(lent)
+    }
+
+    /// Copies of documents that stand elsewhere. They share their fields with those there.
+    pub fn copied(alloc: Global, docs: &[&Document]) -> Result<Documents, AllocError>
+        ensures { IfOk result (λ ds. ds ≡ map (λ d. d.now) docs.now) }
+    {
+        let mut items = Vec::with_capacity(alloc, docs.len())?;
+        for document in docs {
+            items.push(document.copy(alloc)?)?;
+        }
+        Ok(Documents { items })
     }
 
     pub fn copy(&self, alloc: Global) -> Result<Documents, AllocError>

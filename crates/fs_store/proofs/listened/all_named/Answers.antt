@@ -12,7 +12,8 @@ use Rattle.fs_match.specs.Event.{is_among}
 use Rattle.fs_match.specs.Followed.{docs_fitting}
 use Rattle.fs_versions.specs.Listed.{all_shown}
 use Rattle.fs_versions.specs.Shows.{Shows}
-use Rattle.fs_store.proofs.Standing.{chains_at, docs_standing, names_at, rise_standing}
+use Rattle.fs_path.proofs.NamesOnce.{names_at}
+use Rattle.fs_store.proofs.Standing.{chains_at, docs_standing, rise_standing}
 use Rattle.fs_store.proofs.listened.all_named.Goals as goal
 
 pub returns-clause-sorted : goal.returns-clause-sorted

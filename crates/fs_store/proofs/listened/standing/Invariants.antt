@@ -1,6 +1,7 @@
 use Rattle.std.proofs.Common.{◌≡◌, ◌++◌}
 use Rattle.fs_versions.specs.Listed.{all_shown}
-use Rattle.fs_store.proofs.Standing.{chains_at, names_at}
+use Rattle.fs_path.proofs.NamesOnce.{names_at}
+use Rattle.fs_store.proofs.Standing.{chains_at}
 use Rattle.fs_store.proofs.listened.standing.Given as goal
 
 -- the documents so far, and then those of the names that are left, are the whole

@@ -1,6 +1,6 @@
-use Rattle.fs_store.proofs.Standing.{is_named, names_at, named_next, rise_lent}
+use Rattle.fs_path.proofs.NamesOnce.{is_named, names_at, named_next, rise_lent}
 use Rattle.std.proofs.Common.{◌||◌, drop, ◌+◌, ap, ◌∙◌}
-use Rattle.fs_store.proofs.listened.sorted_names.Goals as goal
+use Rattle.fs_path.proofs.names.sorted_names.Goals as goal
 
 pub loop-name-preserved : goal.loop-name-preserved
 loop-name-preserved c =
