@@ -1,11 +1,12 @@
 -- The numbers that requests may not pass. (This project's own.)
 use Rattle.std.specs.Prelude.{ℕ, ◌≤◌, unsigned_abs}
 use Rattle.fs_time.specs.Moment.{last_moment}
+use Rattle.fs_write.specs.Limits.{most_writes}
 use Rattle.fs_machine.specs.declared.limits.Limits.{Limits}
 
 abbrev pub greatest : Limits
 greatest = record {
-  writes = 500;
+  writes = most_writes;
   outbox = 1000;
   sessions = 64;
   targets = 100;
@@ -17,6 +18,7 @@ greatest = record {
   reads = 134217728;
   ids = 18446744073709551615;
   time = unsigned_abs last_moment;
+  queue = 1000;
 }
 
 -- no session has a number so high
@@ -37,3 +39,4 @@ pub record AreAllowed (limits : Limits) : Type 0 where
   pub reads : limits.reads ≤ greatest.reads
   pub ids : limits.ids ≤ greatest.ids
   pub time : limits.time ≤ greatest.time
+  pub queue : limits.queue ≤ greatest.queue

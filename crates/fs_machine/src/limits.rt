@@ -1,5 +1,6 @@
 //! Limits.
 use fs_time::Micros;
+use fs_write::MOST_WRITES;
 
 /// The numbers that requests may not pass, by the names that refusals tell. A server may be given smaller ones, as tests do,
 /// but no greater.
@@ -29,6 +30,8 @@ pub struct Limits {
     pub ids: u64,
     /// The last commit time, in microseconds since 1970.
     pub time: u64,
+    /// Batches of a client that aren't covered by a snapshot.
+    pub queue: u64,
 }
 
 impl Limits {
@@ -40,7 +43,7 @@ impl Limits {
         ensures { result ≡ greatest }
     {
         Limits {
-            writes: 500,
+            writes: MOST_WRITES,
             outbox: 1_000,
             sessions: 64,
             targets: 100,
@@ -52,6 +55,7 @@ impl Limits {
             reads: 134_217_728,
             ids: u64::MAX,
             time: Micros::LAST.unsigned_abs(),
+            queue: 1_000,
         }
     }
 
@@ -72,5 +76,6 @@ impl Limits {
             && self.reads <= greatest.reads
             && self.ids <= greatest.ids
             && self.time <= greatest.time
+            && self.queue <= greatest.queue
     }
 }

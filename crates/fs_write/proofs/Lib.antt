@@ -4,6 +4,7 @@ pub mod Arrays
 pub mod BatchLaws
 pub mod Fields
 pub mod Names
+pub mod Locally
 pub mod Numbers
 pub mod Overlaps
 pub mod StageChanges

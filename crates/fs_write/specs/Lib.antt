@@ -1,6 +1,7 @@
 pub mod After
 pub mod Batch
 pub mod Limits
+pub mod Local
 pub mod Neighbours
 pub mod OneWrite
 pub mod Operation

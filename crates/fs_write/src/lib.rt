@@ -20,6 +20,8 @@ mod write_result;
 pub use batch::apply_batch;
 pub use change::{Change, Changes, copy_document};
 pub use laws::operations_are_lawful;
+pub use limits::MOST_WRITES;
+pub use one_write::write_locally;
 pub use overlap::overlap_with;
 pub use rules::{check, check_with};
 pub use timed_change::{TimedChange, TimedChanges};

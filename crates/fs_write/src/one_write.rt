@@ -4,12 +4,14 @@ ghost use Rattle.std.specs.List.{list_any};
 ghost use Rattle.fs_status.specs.Refusal.{refusal_of};
 ghost use Rattle.fs_status.specs.declared.reason.Reason.TheVariants.{Memory};
 ghost use Rattle.fs_value.specs.FieldPaths.{get_fields};
+ghost use Rattle.fs_write.specs.Local.{untimed, written_locally};
 ghost use Rattle.fs_write.specs.OneWrite.{has_long_path, unmet, with_field, merged, fields_there, fields_left, document_left, unfit, written, carried_out, one_write};
 ghost use Rattle.fs_value.specs.Same.{same_fields};
 ghost use Rattle.fs_write.specs.Refused.{reason_of, refused};
 ghost use Rattle.fs_write.specs.Transforms.{transformed, transform_results};
 
 use crate::apply::apply_transforms;
+use crate::change::copy_document;
 use crate::limits::LONGEST_TRANSFORM_PATH;
 use crate::transform::{Transform, Transforms};
 use crate::value_rules::are_fields_deep;
@@ -17,7 +19,7 @@ use crate::write::{Act, Precondition, Write};
 use crate::write_result::WriteResult;
 use fs_edit::OpenFields;
 use fs_path::{DocName, FieldPath, Paths};
-use fs_status::{Reason, Refusal};
+use fs_status::{Code, Reason, Refusal};
 use fs_time::Micros;
 use fs_value::{Document, Fields, LARGEST_DOCUMENT, SharedFields, Values, fields_same, get, size};
 use std::alloc::{AllocError, Global};
@@ -252,4 +254,50 @@ pub(crate) fn carry_out(
         return Err(Refusal::of(reason));
     }
     acted(alloc, there, write, number, time)
+}
+
+// The document that is there, which a refusal leaves, but for want of memory.
+fn kept_at(
+    alloc: Global,
+    refusal: &Refusal,
+    there: &Option<Document>,
+) -> Result<Option<Document>, AllocError>
+    ensures same { IfOk result (λ d. d ≡ there.now) }
+    ensures told { IfOk result (λ _. refusal.now ≢ refusal_of Memory) }
+{
+    if refusal.code == Code::OutOfMemory {
+        return Err(AllocError);
+    }
+    copy_document(alloc, there)
+}
+
+// The precondition without an update time.
+fn untimed(condition: Precondition) -> Precondition
+    ensures { result ≡ untimed condition }
+{
+    match condition {
+        Precondition::UpdateTime(_) => Precondition::None,
+        _ => condition,
+    }
+}
+
+/// What a client makes of a write that no server has answered yet, on the document that it has, or has not: at its own moment, without
+/// a look at when the document was updated last. A write that would be refused has no effect.
+/// (Cloud Firestore documentation, "Access data offline".)
+#[tactic(auto, using(crate::proofs::Locally::unmet_stays, crate::proofs::Locally::met_done, crate::proofs::Locally::met_refused))]
+pub fn write_locally(
+    alloc: Global,
+    there: &Option<Document>,
+    write: &Write,
+    moment: Micros,
+) -> Result<Option<Document>, AllocError>
+    ensures { IfOk result (λ d. d ≡ written_locally there.now write.now moment) }
+{
+    if unmet(&untimed(write.condition), there, 0).is_some() {
+        return copy_document(alloc, there);
+    }
+    match acted(alloc, copy_document(alloc, there)?, write, 0, moment) {
+        Ok((left, _)) => Ok(left),
+        Err(refusal) => kept_at(alloc, &refusal, there),
+    }
 }

@@ -28,6 +28,7 @@ greatest_allowed = record {
   targets = omega arith;
   transactions = omega arith;
   streams = omega arith;
+  queue = omega arith;
   parked = omega arith;
   batches = omega arith;
   journal = omega arith;
