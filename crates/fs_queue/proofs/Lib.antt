@@ -1,0 +1,4 @@
+mod Laying
+mod Merging
+pub mod Named
+mod Parting

@@ -1,0 +1,5 @@
+pub mod Queue
+pub mod Overlay
+pub mod Refusal
+pub mod Room
+pub mod Parted
