@@ -1,0 +1,7 @@
+mod Each
+mod OverlayNamed
+mod Refusing
+mod Small
+mod StandingAt
+mod Trying
+mod Walks

@@ -1,0 +1,17 @@
+pub mod State
+pub mod Codes
+pub mod Ask
+pub mod Listen
+pub mod Unlisten
+pub mod Write
+pub mod Connect
+pub mod TakeOut
+pub mod Raise
+pub mod Told
+pub mod Answered
+pub mod Receive
+pub mod Shown
+pub mod Stands
+pub mod Gathered
+pub mod Runs
+pub mod Laws
