@@ -483,4 +483,5 @@ def main():
         measure_growth(name, make, count)
 
 
-main()
+if __name__ == "__main__":
+    main()
