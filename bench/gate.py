@@ -1,6 +1,6 @@
 #!/usr/bin/env python3
 """Runs a command, `rt ci` for one, and tells the processor minutes of the provers that run meanwhile, by crate: its check, its
-tests, and its edits with the check that they begin with.
+tests, and its edits with the check that they begin with. Then the longest chain of crates, each of which waits for the check of the one before.
 
   bench/gate.py rt ci
 
@@ -42,6 +42,21 @@ def look(used):
             continue
 
 
+def longest_chain(checks):
+    """The minutes of the chain of crates whose checks take longest together, and its crates, lowest first."""
+    chains = {}
+    with open(os.path.join(os.path.dirname(os.path.abspath(__file__)), "..", "crates.txt"), encoding="utf-8") as it:
+        stands_on = {line.split(":")[0].split()[0]: line.split(":")[1].split() for line in it if ":" in line and line[0] != "#"}
+
+    def chain(crate):
+        if crate not in chains:
+            minutes, below = max((chain(it) for it in stands_on[crate] if it in stands_on), default=(0, []))
+            chains[crate] = minutes + checks.get(crate, 0), below + [crate]
+        return chains[crate]
+
+    return max(map(chain, stands_on))
+
+
 def main(command):
     if not command:
         sys.exit(__doc__)
@@ -58,6 +73,8 @@ def main(command):
         print(f"{crate:24}" + "".join(f"{minutes[kind]:8.1f}" for kind in KINDS))
     together = [sum(minutes[kind] for minutes in sums.values()) for kind in KINDS]
     print(f"{'together':24}" + "".join(f"{it:8.1f}" for it in together) + f"{sum(together):8.1f}")
+    minutes, crates = longest_chain({crate: minutes["check"] for crate, minutes in sums.items()})
+    print(f"the longest chain of checks: {minutes:.1f}, {' '.join(crates)}")
     return ran.returncode
 
 
