@@ -17,3 +17,5 @@ mod Fronts
 mod Parts
 mod SameAnswers
 mod ShownViews
+mod Exchanging
+mod ExchangeStays

@@ -14,4 +14,5 @@ pub mod Shown
 pub mod Stands
 pub mod Gathered
 pub mod Runs
+pub mod Exchange
 pub mod Laws

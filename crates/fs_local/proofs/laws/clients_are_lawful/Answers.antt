@@ -1,4 +1,5 @@
 use Rattle.fs_local.proofs.Acknowledging.{acknowledged_stays}
+use Rattle.fs_local.proofs.ExchangeStays.{exchange_stays}
 use Rattle.fs_local.proofs.Gathering.{gathered_is_staged, members_are_staged}
 use Rattle.fs_local.proofs.LostLink.{connected_shows_the_same, lost_shows_the_same}
 use Rattle.fs_local.proofs.ShownViews.{shows_what_it_took}
@@ -25,3 +26,6 @@ returns-clause-gathered c = gathered_is_staged
 
 pub returns-clause-members : goal.returns-clause-members
 returns-clause-members c = members_are_staged
+
+pub returns-clause-exchange : goal.returns-clause-exchange
+returns-clause-exchange c = exchange_stays
