@@ -8,7 +8,7 @@ use fs_cache::Cache;
 use fs_local::BatchRefusal;
 use fs_path::Text;
 use fs_queue::Queue;
-use fs_rpc::StreamAnswer;
+use fs_request::StreamAnswer;
 use fs_status::Code;
 use fs_time::Micros;
 use std::alloc::{AllocError, Global};

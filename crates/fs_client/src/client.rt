@@ -10,7 +10,7 @@ use fs_local::{BatchRefusal, ClientError, View};
 use fs_path::{List, Root};
 use fs_query::{Cause, Target};
 use fs_queue::{Queue, QueueError};
-use fs_rpc::{Envelope, Message};
+use fs_request::{Envelope, Message};
 use fs_time::Micros;
 use fs_write::Writes;
 use std::alloc::{AllocError, Global};

@@ -3,7 +3,7 @@ ghost use Rattle.std.specs.Prelude.{◌≡◌, ◌<◌, ◌^◌, IfOk};
 ghost use Rattle.fs_local.specs.Ask.{batch_request, remove_request};
 
 use fs_path::Root;
-use fs_rpc::{Envelope, Request, StreamRequest};
+use fs_request::{Envelope, Request, StreamRequest};
 use fs_write::Writes;
 use std::alloc::{AllocError, Global};
 use std::marker::Model;
@@ -90,7 +90,7 @@ impl Hand {
     ghost use Rattle.fs_local.specs.Raise.{raised_link};
     ghost use Rattle.fs_local.specs.Shown.{is_raised};
     ghost use Rattle.fs_local.specs.State.{Hand as HandState, empty_hand};
-    ghost use Rattle.fs_rpc.specs.declared.request.Envelope.{Envelope};
+    ghost use Rattle.fs_request.specs.declared.request.Envelope.{Envelope};
     ghost use Rattle.fs_local.specs.TakeOut.{is_greeted};
 
     /// No stream and no link.

@@ -8,7 +8,7 @@ ghost use Rattle.fs_local.specs.Listen.{rule_of_target};
 use fs_local::{ClientError, Listened};
 use fs_path::{Bytes, Root};
 use fs_query::{Cause, Numbers, QueryRule, Target, check_with};
-use fs_rpc::{Envelope, Request};
+use fs_request::{Envelope, Request};
 use std::alloc::{AllocError, Global};
 use std::collections::BTreeMap;
 use std::marker::Model;

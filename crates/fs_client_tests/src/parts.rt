@@ -5,7 +5,7 @@ use crate::table::{Answers, holds};
 use crate::told::{Told, documents_told, number_told, unwritten_told};
 use fs_cache::Cache;
 use fs_queue::{Phase, Queue};
-use fs_rpc::Message;
+use fs_request::Message;
 use fs_time::Micros;
 use std::alloc::{AllocError, Global};
 use std::process::Abort;

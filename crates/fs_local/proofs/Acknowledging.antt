@@ -8,10 +8,10 @@ use Rattle.fs_query.specs.declared.listen.Cause.{Cause}
 use Rattle.fs_query.specs.declared.listen.ListenMessage.{ListenMessage}
 use Rattle.fs_query.specs.declared.listen.ListenMessage.TheVariants as message
 use Rattle.fs_query.proofs.Rising.{keeps}
-use Rattle.fs_rpc.specs.declared.message.Message.{Message}
-use Rattle.fs_rpc.specs.declared.message.Message.TheVariants as received_message
-use Rattle.fs_rpc.specs.declared.message.StreamAnswer.{StreamAnswer}
-use Rattle.fs_rpc.specs.declared.message.StreamAnswer.TheVariants as answer
+use Rattle.fs_request.specs.declared.message.Message.{Message}
+use Rattle.fs_request.specs.declared.message.Message.TheVariants as received_message
+use Rattle.fs_request.specs.declared.message.StreamAnswer.{StreamAnswer}
+use Rattle.fs_request.specs.declared.message.StreamAnswer.TheVariants as answer
 use Rattle.fs_status.specs.declared.code.Code.{Code}
 use Rattle.fs_queue.specs.Queue.{Queue, acknowledged_at, acknowledged_of, is_uncovered, oldest_of}
 use Rattle.fs_queue.specs.declared.batch.Acknowledged.{Acknowledged}

@@ -5,11 +5,11 @@ use Rattle.std.proofs.lemmas.Bool.Decides.{nat_tests}
 use Rattle.fs_query.specs.declared.listen.ListenMessage.{ListenMessage}
 use Rattle.fs_query.specs.declared.listen.ListenMessage.TheVariants as listen
 use Rattle.fs_query.specs.declared.listen.Cause.{Cause}
-use Rattle.fs_rpc.specs.declared.message.Message.{Message}
-use Rattle.fs_rpc.specs.declared.message.Message.TheVariants as message
-use Rattle.fs_rpc.specs.declared.message.StreamAnswer.{StreamAnswer}
-use Rattle.fs_rpc.specs.declared.message.StreamAnswer.TheVariants as told_of
-use Rattle.fs_rpc.specs.declared.request.Envelope.{Envelope}
+use Rattle.fs_request.specs.declared.message.Message.{Message}
+use Rattle.fs_request.specs.declared.message.Message.TheVariants as message
+use Rattle.fs_request.specs.declared.message.StreamAnswer.{StreamAnswer}
+use Rattle.fs_request.specs.declared.message.StreamAnswer.TheVariants as told_of
+use Rattle.fs_request.specs.declared.request.Envelope.{Envelope}
 use Rattle.fs_queue.specs.declared.batch.LocalBatch.{LocalBatch}
 use Rattle.fs_queue.specs.Queue.{Queue, acknowledged_at, oldest_in, oldest_of, refused_oldest}
 use Rattle.fs_status.specs.declared.code.Code.{Code}

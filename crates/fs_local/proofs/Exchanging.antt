@@ -5,15 +5,15 @@ use Rattle.std.specs.FinMap.{entries}
 use Rattle.std.specs.List.{AllByRecursion}
 use Rattle.std.proofs.lemmas.Bool.Decides.{nat_tests}
 use Rattle.fs_path.specs.declared.name.Root.{Root}
-use Rattle.fs_rpc.specs.declared.message.Message.{Message}
-use Rattle.fs_rpc.specs.declared.message.Message.TheVariants as message
-use Rattle.fs_rpc.specs.declared.message.StreamAnswer.{StreamAnswer}
-use Rattle.fs_rpc.specs.declared.message.StreamAnswer.TheVariants as told
-use Rattle.fs_rpc.specs.declared.request.Envelope.{Envelope}
-use Rattle.fs_rpc.specs.declared.request.Request.{Request}
-use Rattle.fs_rpc.specs.declared.request.Request.TheVariants as request
-use Rattle.fs_rpc.specs.declared.stream_request.StreamRequest.{StreamRequest}
-use Rattle.fs_rpc.specs.declared.stream_request.StreamRequest.TheVariants as asked
+use Rattle.fs_request.specs.declared.message.Message.{Message}
+use Rattle.fs_request.specs.declared.message.Message.TheVariants as message
+use Rattle.fs_request.specs.declared.message.StreamAnswer.{StreamAnswer}
+use Rattle.fs_request.specs.declared.message.StreamAnswer.TheVariants as told
+use Rattle.fs_request.specs.declared.request.Envelope.{Envelope}
+use Rattle.fs_request.specs.declared.request.Request.{Request}
+use Rattle.fs_request.specs.declared.request.Request.TheVariants as request
+use Rattle.fs_request.specs.declared.stream_request.StreamRequest.{StreamRequest}
+use Rattle.fs_request.specs.declared.stream_request.StreamRequest.TheVariants as asked
 use Rattle.fs_write.specs.declared.write.Write.{Write}
 use Rattle.fs_queue.specs.declared.batch.LocalBatch.{LocalBatch}
 use Rattle.fs_queue.specs.Queue.{Queue}

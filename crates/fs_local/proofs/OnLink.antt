@@ -2,7 +2,7 @@
 use Rattle.std.proofs.Common.{◌≡◌, ℕ, ℤ, Bool, true, false, cond, [], Option, Some, None, refl, sym, ◌∙◌}
 use Rattle.std.specs.Prelude.{◌&&◌, not}
 use Rattle.fs_path.specs.declared.name.Root.{Root}
-use Rattle.fs_rpc.specs.declared.request.Envelope.{Envelope}
+use Rattle.fs_request.specs.declared.request.Envelope.{Envelope}
 use Rattle.fs_queue.specs.Queue.{Queue, none_queued, with_link_lost}
 use Rattle.fs_local.specs.Answered.{covered_by, greeted_link, opened_in}
 use Rattle.fs_local.specs.Ask.{asking, out_on}

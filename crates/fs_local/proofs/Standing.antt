@@ -9,10 +9,10 @@ use Rattle.fs_query.specs.declared.listen.Cause.{Cause}
 use Rattle.fs_query.specs.declared.listen.ListenMessage.{ListenMessage}
 use Rattle.fs_query.specs.declared.listen.ListenMessage.TheVariants as message
 use Rattle.fs_query.specs.declared.target.Target.{Target}
-use Rattle.fs_rpc.specs.declared.message.Message.{Message}
-use Rattle.fs_rpc.specs.declared.message.Message.TheVariants as received_message
-use Rattle.fs_rpc.specs.declared.message.StreamAnswer.{StreamAnswer}
-use Rattle.fs_rpc.specs.declared.message.StreamAnswer.TheVariants as answer
+use Rattle.fs_request.specs.declared.message.Message.{Message}
+use Rattle.fs_request.specs.declared.message.Message.TheVariants as received_message
+use Rattle.fs_request.specs.declared.message.StreamAnswer.{StreamAnswer}
+use Rattle.fs_request.specs.declared.message.StreamAnswer.TheVariants as answer
 use Rattle.fs_status.specs.declared.code.Code.{Code}
 use Rattle.fs_queue.specs.Queue.{acknowledged_at, oldest_of, refused_oldest}
 use Rattle.fs_local.specs.Answered.{answered, committed_in, counted, greeted, opened, refused_in, snapshot_by}

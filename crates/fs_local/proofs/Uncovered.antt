@@ -3,7 +3,7 @@ use Rattle.std.proofs.Common.{◌≡◌, ℤ, ◌<ℤ◌, Bool, true, false, con
 use Rattle.std.specs.Prelude.{int_lt}
 use Rattle.std.specs.List.{AllByRecursion, filter}
 use Rattle.std.proofs.lemmas.Int.{ints}
-use Rattle.fs_rpc.specs.declared.request.Envelope.{Envelope}
+use Rattle.fs_request.specs.declared.request.Envelope.{Envelope}
 use Rattle.fs_queue.specs.Queue.{Queue, is_uncovered}
 use Rattle.fs_queue.specs.declared.batch.Acknowledged.{Acknowledged}
 use Rattle.fs_local.specs.Answered.{covered_by}

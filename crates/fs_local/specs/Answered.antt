@@ -4,8 +4,8 @@
 use Rattle.std.specs.Prelude.{ℕ, suc, ◌==◌, ℤ, true, List, [], ◌∷◌, ◌++◌, Option, Some, None, if◌then◌else◌}
 use Rattle.std.specs.FinMap.{len}
 use Rattle.fs_status.specs.declared.code.Code.{Code}
-use Rattle.fs_rpc.specs.declared.message.StreamAnswer.{StreamAnswer}
-use Rattle.fs_rpc.specs.declared.message.StreamAnswer.TheVariants as told
+use Rattle.fs_request.specs.declared.message.StreamAnswer.{StreamAnswer}
+use Rattle.fs_request.specs.declared.message.StreamAnswer.TheVariants as told
 use Rattle.fs_cache.specs.Cached.{Cached, taken_at}
 use Rattle.fs_queue.specs.Queue.{Queue, acknowledged_at, covered_to, oldest_of, refused_oldest}
 use Rattle.fs_local.specs.State.{Client, Hand, Link, Targets}

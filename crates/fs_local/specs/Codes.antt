@@ -7,8 +7,8 @@ use Rattle.fs_path.specs.contracts.name.Root as root
 use Rattle.fs_path.specs.declared.name.Root.{Root}
 use Rattle.fs_query.specs.contracts.listen.Cause as cause
 use Rattle.fs_query.specs.declared.listen.Cause.{Cause}
-use Rattle.fs_rpc.specs.contracts.request.Envelope as envelope
-use Rattle.fs_rpc.specs.declared.request.Envelope.{Envelope}
+use Rattle.fs_request.specs.contracts.request.Envelope as envelope
+use Rattle.fs_request.specs.declared.request.Envelope.{Envelope}
 use Rattle.fs_cache.specs.Cached.{Cached, cached_code}
 use Rattle.fs_queue.specs.Queue.{Queue, queue_code}
 use Rattle.fs_local.specs.State.{Client, Hand, Link, Targets}

@@ -4,7 +4,7 @@
 use Rattle.std.specs.Prelude.{ℕ, false, List, [], ◌∷◌, map, Option, Some, None, if◌then◌else◌}
 use Rattle.std.specs.FinMap.{entries, from_entries}
 use Rattle.fs_path.specs.declared.name.Root.{Root}
-use Rattle.fs_rpc.specs.declared.request.Envelope.{Envelope}
+use Rattle.fs_request.specs.declared.request.Envelope.{Envelope}
 use Rattle.fs_cache.specs.Cached.{thrown}
 use Rattle.fs_queue.specs.Queue.{with_link_lost}
 use Rattle.fs_local.specs.Ask.{add_request, stream_request}

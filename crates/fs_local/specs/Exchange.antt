@@ -10,15 +10,15 @@
 -- (v1 reference, `WriteRequest.stream_token`.)
 use Rattle.std.specs.Prelude.{◌≡◌, ◌≢◌, ◌<◌, ◌≤◌, ◌⊎◌, ⊤, ℕ, suc, Bool, true, false, List, [], ◌∷◌, ◌++◌, drop, Option, Some, None}
 use Rattle.std.specs.List.{AllByRecursion}
-use Rattle.fs_rpc.specs.declared.message.Message.{Message}
-use Rattle.fs_rpc.specs.declared.message.Message.TheVariants as message
-use Rattle.fs_rpc.specs.declared.message.StreamAnswer.{StreamAnswer}
-use Rattle.fs_rpc.specs.declared.message.StreamAnswer.TheVariants as told
-use Rattle.fs_rpc.specs.declared.request.Envelope.{Envelope}
-use Rattle.fs_rpc.specs.declared.request.Request.{Request}
-use Rattle.fs_rpc.specs.declared.request.Request.TheVariants as request
-use Rattle.fs_rpc.specs.declared.stream_request.StreamRequest.{StreamRequest}
-use Rattle.fs_rpc.specs.declared.stream_request.StreamRequest.TheVariants as asked
+use Rattle.fs_request.specs.declared.message.Message.{Message}
+use Rattle.fs_request.specs.declared.message.Message.TheVariants as message
+use Rattle.fs_request.specs.declared.message.StreamAnswer.{StreamAnswer}
+use Rattle.fs_request.specs.declared.message.StreamAnswer.TheVariants as told
+use Rattle.fs_request.specs.declared.request.Envelope.{Envelope}
+use Rattle.fs_request.specs.declared.request.Request.{Request}
+use Rattle.fs_request.specs.declared.request.Request.TheVariants as request
+use Rattle.fs_request.specs.declared.stream_request.StreamRequest.{StreamRequest}
+use Rattle.fs_request.specs.declared.stream_request.StreamRequest.TheVariants as asked
 use Rattle.fs_write.specs.declared.write.Write.{Write}
 use Rattle.fs_queue.specs.declared.batch.LocalBatch.{LocalBatch}
 use Rattle.fs_local.specs.Runs.{Step, after, connects, listens, loses, receives, sends, tells, unlistens, writes}

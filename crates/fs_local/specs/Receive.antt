@@ -1,6 +1,6 @@
 -- What a client makes of a message on its link. Answers to requests that it never makes, and other refusals, are passed over.
-use Rattle.fs_rpc.specs.declared.message.Message.{Message}
-use Rattle.fs_rpc.specs.declared.message.Message.TheVariants as message
+use Rattle.fs_request.specs.declared.message.Message.{Message}
+use Rattle.fs_request.specs.declared.message.Message.TheVariants as message
 use Rattle.fs_local.specs.Answered.{answered, greeted}
 use Rattle.fs_local.specs.State.{Client}
 use Rattle.fs_local.specs.Told.{told}

@@ -2,7 +2,7 @@
 use Rattle.std.specs.Prelude.{◌≡◌, ◌<◌, ℕ, ℤ, ⊤, true, List, [], ◌∷◌, drop, None, is_some}
 use Rattle.std.specs.FinMap.{get}
 use Rattle.fs_query.specs.declared.target.Target.{Target}
-use Rattle.fs_rpc.specs.declared.message.Message.{Message}
+use Rattle.fs_request.specs.declared.message.Message.{Message}
 use Rattle.fs_write.specs.declared.write.Write.{Write}
 use Rattle.fs_local.specs.Connect.{connected, lost}
 use Rattle.fs_local.specs.Listen.{listen_refusal, listened}

@@ -16,7 +16,7 @@ use Rattle.std.specs.FinMap.{FinMap, empty}
 use Rattle.std.specs.Ordering.{nat_cmp}
 use Rattle.fs_path.specs.declared.name.Root.{Root}
 use Rattle.fs_query.specs.declared.listen.Cause.{Cause}
-use Rattle.fs_rpc.specs.declared.request.Envelope.{Envelope}
+use Rattle.fs_request.specs.declared.request.Envelope.{Envelope}
 use Rattle.fs_cache.specs.Cached.{Cached, none_cached}
 use Rattle.fs_queue.specs.Queue.{Queue, none_queued}
 use Rattle.fs_local.specs.declared.listened.Listened.{Listened}

@@ -1,7 +1,7 @@
 -- What a client has to send on its link: what it asked for since, and behind that, once its stream is there, its next batch, one at a time.
 use Rattle.std.specs.Prelude.{ℕ, Bool, false, ◌&&◌, not, List, [], ◌∷◌, ◌++◌, Option, Some, None, if◌then◌else◌}
 use Rattle.fs_path.specs.declared.name.Root.{Root}
-use Rattle.fs_rpc.specs.declared.request.Envelope.{Envelope}
+use Rattle.fs_request.specs.declared.request.Envelope.{Envelope}
 use Rattle.fs_queue.specs.Queue.{Queue, sent_on}
 use Rattle.fs_queue.specs.declared.batch.LocalBatch.{LocalBatch}
 use Rattle.fs_local.specs.Ask.{batch_request}

@@ -1,21 +1,22 @@
 -- What a request that comes, or is tried again, does to what was committed, to the numbers that were drawn, and to what transactions have
 -- read.
-use Rattle.std.proofs.Common.{◌≡◌, ◌⊎◌, inl, inr, ℕ, ℤ, ◌+◌, ◌≤◌, Bool, true, false, cond, List, [], ◌∷◌, Option, Some, None, refl, sym, ap, ◌∙◌, subst, arith}
+use Rattle.std.proofs.Common.{◌≡◌, ◌⊎◌, inl, inr, ℕ, ℤ, ◌<ℤ◌, ◌+◌, ◌≤◌, Bool, true, false, cond, List, [], ◌∷◌, Option, Some, None, refl, sym, ap, ◌∙◌, subst, arith}
+use Rattle.std.proofs.lemmas.Int.{ints}
 use Rattle.std.specs.Prelude.{pos, negsuc, ◌==◌, length, nat_le, codes, slice_get, unwrap_or}
 use Rattle.std.proofs.lemmas.Bool.{eqb-true}
 use Rattle.std.proofs.lemmas.Bool.Decides.{nat_tests}
 use Rattle.std.proofs.lemmas.List.{append-nil}
 use Rattle.std.proofs.lemmas.Option.{same_Some}
 use Rattle.fs_history.specs.declared.read.Read.{Read}
-use Rattle.fs_rpc.specs.When.{transaction_of}
-use Rattle.fs_rpc.specs.declared.options.TransactionOptions.{TransactionOptions}
-use Rattle.fs_rpc.specs.declared.request.Request.{Request}
-use Rattle.fs_rpc.specs.declared.request.Request.TheVariants.{Commit, GetDocument, BatchGetDocuments, RunQuery, BeginTransaction, Rollback, AddTarget, RemoveTarget}
-use Rattle.fs_rpc.specs.declared.request.Request.TheVariants as request
-use Rattle.fs_rpc.specs.declared.stream_request.StreamRequest.{StreamRequest}
-use Rattle.fs_rpc.specs.declared.stream_request.StreamRequest.TheVariants.{Open, Resume, Batch, Ask, Mixed}
-use Rattle.fs_rpc.specs.declared.when.When.{When}
-use Rattle.fs_rpc.specs.declared.when.When.TheVariants.{Released, At, In}
+use Rattle.fs_request.specs.When.{transaction_of}
+use Rattle.fs_request.specs.declared.options.TransactionOptions.{TransactionOptions}
+use Rattle.fs_request.specs.declared.request.Request.{Request}
+use Rattle.fs_request.specs.declared.request.Request.TheVariants.{Commit, GetDocument, BatchGetDocuments, RunQuery, BeginTransaction, Rollback, AddTarget, RemoveTarget}
+use Rattle.fs_request.specs.declared.request.Request.TheVariants as request
+use Rattle.fs_request.specs.declared.stream_request.StreamRequest.{StreamRequest}
+use Rattle.fs_request.specs.declared.stream_request.StreamRequest.TheVariants.{Open, Resume, Batch, Ask, Mixed}
+use Rattle.fs_request.specs.declared.when.When.{When}
+use Rattle.fs_request.specs.declared.when.When.TheVariants.{Released, At, In}
 use Rattle.fs_status.specs.Refusal.{at_limit}
 use Rattle.fs_status.specs.declared.refusal.Refusal.{Refusal}
 use Rattle.fs_txn.specs.Transactions.{Transactions, all_noted, is_read_write, noted, txn_of, with_read}
@@ -28,6 +29,7 @@ use Rattle.fs_machine.specs.Listeners.{Listener}
 use Rattle.fs_machine.specs.Numbered.{draws, number_of, transaction_in}
 use Rattle.fs_machine.specs.Past.{Past}
 use Rattle.fs_machine.specs.Read.{read_in, reader_behind, shown_at}
+use Rattle.fs_machine.specs.Refusing.{next_time}
 use Rattle.fs_machine.specs.Request.{Decision, arrives, asked_unless, comes, taken_unless, carried, carried_by, check_refusal, decision, drawn, held_by, unless_full, unless_held, unless_refused}
 use Rattle.fs_machine.specs.Retry.{retried_if, retry_decision, tried, unparked}
 use Rattle.fs_machine.specs.Sessions.{outbox_in, owning}
@@ -45,14 +47,17 @@ use Rattle.fs_machine.proofs.SessionsNumbered.{numbers_of, numbers_owning}
 use Rattle.fs_machine.proofs.Streaming.{streamed_rest, taken_rest}
 use Rattle.fs_machine.proofs.TransactionsHold.{noted_keeps}
 
--- ---- what was committed stays as it is, or a commit is prepared
+-- ---- what was committed stays as it is, or a commit is prepared, at a time above the last
 
 abbrev pub AtMostPrepares : Past → Past → Type 0
-AtMostPrepares p q = (q ≡ p) ⊎ ((u : Unreleased) × (q ≡ past_prepared p u))
+AtMostPrepares p q = (q ≡ p) ⊎ ((u : Unreleased) × (q ≡ past_prepared p u) × (p.last <ℤ u.batch.time))
+
+next_above : (p : Past) → p.last <ℤ next_time p
+next_above p = omega (arith, ints)
 
 unless_follows : (m : Machine) (r : ParkedRequest) (writes : List Write) (t : Txn) (found : Option ℕ) → AtMostPrepares m.past (committed_unless m r writes t found).past
 unless_follows m r writes t (Some other) = inl refl
-unless_follows m r writes t None = inr (next_commit m.past t.id r writes t.reads, refl)
+unless_follows m r writes t None = inr (next_commit m.past t.id r writes t.reads, refl, next_above m.past)
 
 if_follows : (m : Machine) (r : ParkedRequest) (writes : List Write) (t : Txn) (b : Bool)
     → AtMostPrepares m.past (cond b (committed_unless m r writes t (conflict m.config.mode m.past m.txns.open t writes)) (with_ended m t.id)).past
@@ -64,7 +69,7 @@ in_follows m r writes None = inl refl
 in_follows m r writes (Some t) = if_follows m r writes t (is_read_write t.kind)
 
 committed_follows : (m : Machine) (r : ParkedRequest) (writes : List Write) (transaction : Option ℕ) → AtMostPrepares m.past (committed m r writes transaction).past
-committed_follows m r writes None = inr (next_commit m.past r.id r writes [], refl)
+committed_follows m r writes None = inr (next_commit m.past r.id r writes [], refl, next_above m.past)
 committed_follows m r writes (Some id) = in_follows m r writes (txn_of id m.txns.open)
 
 read_follows : (m : Machine) (when : When) (q : Request) → AtMostPrepares m.past (read_in m when q).past

@@ -8,8 +8,8 @@ use Rattle.std.proofs.lemmas.Int.{ints}
 use Rattle.std.proofs.lemmas.List.{append_assoc, append-nil}
 use Rattle.fs_query.specs.declared.listen.ListenMessage.{ListenMessage}
 use Rattle.fs_query.specs.declared.listen.ListenMessage.TheVariants as listen
-use Rattle.fs_rpc.specs.declared.message.Message.TheVariants as message
-use Rattle.fs_rpc.specs.declared.request.Envelope.{Envelope}
+use Rattle.fs_request.specs.declared.message.Message.TheVariants as message
+use Rattle.fs_request.specs.declared.request.Envelope.{Envelope}
 use Rattle.fs_status.specs.declared.refusal.Refusal.{Refusal}
 use Rattle.fs_write.specs.Batch.{Docs}
 use Rattle.fs_write.specs.declared.write_result.WriteResult.{WriteResult}

@@ -1,7 +1,7 @@
 -- Answers change no numbers of sessions.
 use Rattle.std.proofs.Common.{◌≡◌, ℕ, List, [], ◌∷◌, ◌++◌, Option, Some, None, refl, ◌∙◌}
-use Rattle.fs_rpc.specs.MessageJson.{refused}
-use Rattle.fs_rpc.specs.declared.message.Message.TheVariants as message
+use Rattle.fs_request.specs.Refused.{refused}
+use Rattle.fs_request.specs.declared.message.Message.TheVariants as message
 use Rattle.fs_status.specs.declared.refusal.Refusal.{Refusal}
 use Rattle.fs_stream.specs.declared.kept.Kept.{Kept}
 use Rattle.fs_machine.specs.Release.{all_answered, answered_to}

@@ -5,9 +5,9 @@ use Rattle.std.specs.FinMap.{entries}
 use Rattle.std.proofs.lemmas.List.Elements.{filter_map-append}
 use Rattle.fs_pairs.specs.Pairs.{key_of}
 use Rattle.std.proofs.lemmas.List.{append-nil, append_assoc}
-use Rattle.fs_rpc.specs.MessageJson.{refused}
-use Rattle.fs_rpc.specs.declared.message.Message.{Message}
-use Rattle.fs_rpc.specs.declared.message.Message.TheVariants as message
+use Rattle.fs_request.specs.Refused.{refused}
+use Rattle.fs_request.specs.declared.message.Message.{Message}
+use Rattle.fs_request.specs.declared.message.Message.TheVariants as message
 use Rattle.fs_status.specs.declared.refusal.Refusal.{Refusal}
 use Rattle.fs_stream.specs.declared.kept.Kept.{Kept}
 use Rattle.fs_machine.specs.Release.{all_answered, answered_to}

@@ -5,8 +5,8 @@ use Rattle.std.proofs.Math.Seq.{drop-append_seam, drop-length, drop-nil}
 use Rattle.std.proofs.lemmas.Bool.{eqb-true}
 use Rattle.std.proofs.lemmas.Bool.Decides.{nat_tests}
 use Rattle.fs_query.specs.declared.listen.ListenMessage.{ListenMessage}
-use Rattle.fs_rpc.specs.declared.message.Message.{Message}
-use Rattle.fs_rpc.specs.declared.message.Message.TheVariants as message
+use Rattle.fs_request.specs.declared.message.Message.{Message}
+use Rattle.fs_request.specs.declared.message.Message.TheVariants as message
 use Rattle.fs_listen.specs.Listening.{Listening, matched as matched_in, none_listened}
 use Rattle.fs_machine.specs.Listeners.{Listener, listening_in, unheard, unlistening, with_listener}
 use Rattle.fs_machine.specs.Match.{matched_to}

@@ -41,3 +41,5 @@ mod Tallies
 pub mod TransactionsHold
 pub mod UnreleasedRise
 pub mod Verdicts
+mod ResultsStand
+mod RefusalsStand

@@ -6,7 +6,7 @@ use Rattle.std.specs.List.{AllByRecursion}
 use Rattle.std.specs.Int.Signed.{≤ℤ_refl}
 use Rattle.std.proofs.lemmas.Int.{ints}
 use Rattle.fs_query.specs.declared.listen.ListenMessage.TheVariants as listen
-use Rattle.fs_rpc.specs.declared.message.Message.TheVariants as message
+use Rattle.fs_request.specs.declared.message.Message.TheVariants as message
 use Rattle.fs_status.specs.declared.refusal.Refusal.{Refusal}
 use Rattle.fs_listen.specs.Cuts.{is_loaded, is_ready}
 use Rattle.fs_listen.specs.Listening.{Listened, loaded as loaded_in}

@@ -1,7 +1,7 @@
 -- The number of a commit that was dropped is nobody's any more, whatever events come.
 use Rattle.std.proofs.Common.{◌≡◌, ℕ, ◌+◌, ◌<◌, ◌≤◌, Bool, true, false, cond, List, [], ◌∷◌, Option, Some, None, Result, Ok, Err, refl, sym, ap, ◌∙◌, subst, arith}
 use Rattle.std.specs.Prelude.{slice_get}
-use Rattle.fs_rpc.specs.declared.request.Envelope.{Envelope}
+use Rattle.fs_request.specs.declared.request.Envelope.{Envelope}
 use Rattle.fs_txn.specs.Expiry.{expired_at}
 use Rattle.fs_txn.specs.Transactions.{Transactions}
 use Rattle.fs_status.specs.declared.refusal.Refusal.{Refusal}

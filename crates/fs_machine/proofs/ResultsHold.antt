@@ -29,7 +29,7 @@ use Rattle.fs_machine.proofs.Pending.{number_found, pending_found}
 
 -- ---- what other commits leave of the names of some writes
 
-unwritten : (ws vs : List Write) (w : Write) → write_same ws vs ≡ false → Contains ws w → is_written (written_name w) vs ≡ false
+pub unwritten : (ws vs : List Write) (w : Write) → write_same ws vs ≡ false → Contains ws w → is_written (written_name w) vs ≡ false
 unwritten ws vs w free at =
     All-contains (λ x. is_written (written_name x) vs ≡ false) ws w (All-from_recursion (λ x. is_written (written_name x) vs ≡ false) ws (none_any (λ x. is_written (written_name x) vs) ws free)) at
 
@@ -102,7 +102,7 @@ one_stays : (b : Batch) (docs other : Docs) (results : Option (List WriteResult)
 one_stays b docs other None agree has = tt
 one_stays b docs other (Some results) agree has = law_named_results docs other b.writes b.time (has.0, results) agree has.1
 
-results_behind : (us : List Unreleased) (h : List Batch) (u : Unreleased) → AllByRecursion (HasResults (whole h)) us → AllByRecursion (IsApartFrom u.batch) (batches us)
+pub results_behind : (us : List Unreleased) (h : List Batch) (u : Unreleased) → AllByRecursion (HasResults (whole h)) us → AllByRecursion (IsApartFrom u.batch) (batches us)
     → AllByRecursion (HasResults (whole (u.batch ∷ h))) us
 results_behind [] h u all apart = tt
 results_behind (v ∷ us) h u all apart = (
@@ -110,7 +110,7 @@ results_behind (v ∷ us) h u all apart = (
   results_behind us h u all.1 apart.1,
 )
 
-abbrev Moves : List Batch → List Unreleased → Type 0
+abbrev pub Moves : List Batch → List Unreleased → Type 0
 Moves h us = AllByRecursion (HasResults (whole h)) us × AreApart (batches us)
 
 pub results_released : (p : Past) → UnreleasedRise p → NamesApart p → ResultsHold p → ResultsHold (past_released p)

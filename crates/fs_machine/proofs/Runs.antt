@@ -3,7 +3,7 @@ use Rattle.std.proofs.Common.{◌≡◌, inl, inr, ℕ, ℤ, ◌≤ℤ◌, Bool,
 use Rattle.std.specs.Prelude.{not, slice_get}
 use Rattle.std.specs.Int.Signed.{≤ℤ_refl}
 use Rattle.std.proofs.lemmas.Int.{ints}
-use Rattle.fs_rpc.specs.declared.request.Envelope.{Envelope}
+use Rattle.fs_request.specs.declared.request.Envelope.{Envelope}
 use Rattle.fs_txn.specs.Expiry.{expired_at, is_over}
 use Rattle.fs_txn.specs.Reading.{oldest}
 use Rattle.fs_listen.specs.Cuts.{least_position}

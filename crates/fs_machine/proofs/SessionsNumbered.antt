@@ -1,7 +1,7 @@
 -- The numbers of sessions rise in the order of opening, still, after each event.
 use Rattle.std.proofs.Common.{◌≡◌, ℕ, ◌+◌, ◌≤◌, Bool, true, false, cond, List, [], ◌∷◌, ◌++◌, map, refl, sym, ap, subst, arith}
 use Rattle.std.specs.Prelude.{◌==◌}
-use Rattle.fs_rpc.specs.declared.message.Message.{Message}
+use Rattle.fs_request.specs.declared.message.Message.{Message}
 use Rattle.fs_machine.specs.Sessions.{owning, with_outbox, without}
 use Rattle.fs_machine.specs.SessionsNumbered.{NumbersRise, SessionsNumbered}
 use Rattle.fs_machine.specs.declared.session.Session.{Session}

@@ -9,13 +9,13 @@ use Rattle.fs_path.specs.declared.field.FieldPath.{FieldPath}
 use Rattle.fs_query.specs.declared.listen.ListenMessage.{ListenMessage}
 use Rattle.fs_query.specs.declared.listen.ListenMessage.TheVariants as listen
 use Rattle.fs_query.specs.declared.target.Target.{Target}
-use Rattle.fs_rpc.specs.declared.message.Message.TheVariants as message
-use Rattle.fs_rpc.specs.declared.request.Envelope.{Envelope}
-use Rattle.fs_rpc.specs.declared.request.Request.{Request}
-use Rattle.fs_rpc.specs.declared.request.Request.TheVariants.{Commit, GetDocument, BatchGetDocuments, RunQuery, BeginTransaction, Rollback, AddTarget, RemoveTarget}
-use Rattle.fs_rpc.specs.declared.request.Request.TheVariants as request
-use Rattle.fs_rpc.specs.declared.stream_request.StreamRequest.{StreamRequest}
-use Rattle.fs_rpc.specs.declared.stream_request.StreamRequest.TheVariants as write
+use Rattle.fs_request.specs.declared.message.Message.TheVariants as message
+use Rattle.fs_request.specs.declared.request.Envelope.{Envelope}
+use Rattle.fs_request.specs.declared.request.Request.{Request}
+use Rattle.fs_request.specs.declared.request.Request.TheVariants.{Commit, GetDocument, BatchGetDocuments, RunQuery, BeginTransaction, Rollback, AddTarget, RemoveTarget}
+use Rattle.fs_request.specs.declared.request.Request.TheVariants as request
+use Rattle.fs_request.specs.declared.stream_request.StreamRequest.{StreamRequest}
+use Rattle.fs_request.specs.declared.stream_request.StreamRequest.TheVariants as write
 use Rattle.fs_status.specs.Refusal.{refusal_of}
 use Rattle.fs_status.specs.declared.reason.Reason.TheVariants.{TargetUnknown}
 use Rattle.fs_status.specs.declared.refusal.Refusal.{Refusal}
@@ -36,7 +36,7 @@ use Rattle.fs_listen.specs.Runs as run
 use Rattle.fs_history.specs.History.{at}
 use Rattle.fs_machine.specs.Commit.{committed_answer_in, committed_answer_unless}
 use Rattle.fs_machine.specs.Conflict.{conflict}
-use Rattle.fs_machine.specs.Listen.{cause_of, has_target, is_rule, listening_of, removing_refusal, token_time, unadded_answer}
+use Rattle.fs_machine.specs.Listen.{cause_of, has_target, is_plain, listening_of, removing_refusal, token_time, unadded_answer}
 use Rattle.fs_machine.specs.Listeners.{Listener, listening_in, with_listener}
 use Rattle.fs_machine.specs.Numbered.{draws, number_of}
 use Rattle.fs_machine.specs.Read.{document_answer, read_time}
@@ -281,7 +281,7 @@ module _ (shards : ℕ) (m : Machine) (session : ℕ) where
 
   -- it isn't, and is told to be removed, or only the request is refused
   unadded_tells : (id : ℕ) (refusal : Refusal) → Tells shards m m session (said_by (unadded_answer m session id refusal))
-  unadded_tells id refusal = by_rule (is_rule refusal.reason) where
+  unadded_tells id refusal = by_rule (is_plain refusal.reason) where
     by_rule : (rule : Bool) → Tells shards m m session (said_by (cond rule (Refused refusal) (cond (has_target m session id) (Refused refusal) (Reply (message.Listen (listen.Remove (id ∷ []) (Some (cause_of refusal))))))))
     by_rule true = tells_nothing shards m m session refl
     by_rule false = by_use (has_target m session id) refl where

@@ -7,7 +7,7 @@ use Rattle.std.specs.Prelude.{ℕ, Bool, true, false, List, [], ◌∷◌, ◌++
 use Rattle.std.specs.Option.{option_map_or}
 use Rattle.fs_history.specs.declared.batch.Batch.{Batch}
 use Rattle.fs_history.specs.declared.read.Read.{Read}
-use Rattle.fs_rpc.specs.declared.message.Message.TheVariants as message
+use Rattle.fs_request.specs.declared.message.Message.TheVariants as message
 use Rattle.fs_status.specs.Refusal.{conflict_with, refusal_of}
 use Rattle.fs_status.specs.declared.reason.Reason.TheVariants.{ReadOnly}
 use Rattle.fs_status.specs.declared.refusal.Refusal.{Refusal}

@@ -10,6 +10,7 @@ pub mod Grows
 pub mod HistoryRises
 pub mod IdsAreDrawn
 pub mod Laws
+pub mod AnswersStand
 pub mod Leave
 pub mod Limits
 pub mod Listen

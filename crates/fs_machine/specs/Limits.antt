@@ -19,6 +19,7 @@ greatest = record {
   ids = 18446744073709551615;
   time = unsigned_abs last_moment;
   queue = 1000;
+  clients = 64;
 }
 
 -- no session has a number so high
@@ -40,3 +41,4 @@ pub record AreAllowed (limits : Limits) : Type 0 where
   pub ids : limits.ids ≤ greatest.ids
   pub time : limits.time ≤ greatest.time
   pub queue : limits.queue ≤ greatest.queue
+  pub clients : limits.clients ≤ greatest.clients

@@ -1,10 +1,11 @@
 -- A session begins to listen to a target, or ends it. A target that is added is told so at once, and isn't loaded yet. One that is refused
--- is told to be removed, with the cause, unless the session listens to another of its id, or the request breaks a rule; then the request is
--- refused, as it is where there is no target to be removed.
+-- is told to be removed, with the cause, unless the session listens to another of its id, or the request breaks a rule or asks for what isn't
+-- built; then the request is refused, as it is where there is no target to be removed.
 --
 --     target 1 is added             ADD 1
 --     target 1 again                target 1 in use
 --     target 2 with 11 bytes        REMOVE 2 with the cause that a token of 11 bytes is none
+--     target 2 that selects fields  method select
 --     target 1 is removed           REMOVE 1
 --     and once more                 target 1 unknown
 -- (v1 reference, `ListenRequest`, `Target`, `TargetChange`.)
@@ -13,12 +14,13 @@ use Rattle.std.specs.FinMap.{get, insert, len, remove}
 use Rattle.std.specs.Option.{option_map_or}
 use Rattle.fs_path.specs.Place.{member_place}
 use Rattle.fs_path.specs.declared.place.Rule.TheVariants.{Q}
+use Rattle.fs_query.specs.Asked.{Asked}
 use Rattle.fs_query.specs.Rules.{rule_of_query}
 use Rattle.fs_query.specs.declared.listen.Cause.{Cause}
 use Rattle.fs_query.specs.declared.listen.ListenMessage.TheVariants as listen
 use Rattle.fs_query.specs.declared.target.Target.{Target}
 use Rattle.fs_query.specs.declared.target.Target.TheVariants as target
-use Rattle.fs_rpc.specs.declared.message.Message.TheVariants as message
+use Rattle.fs_request.specs.declared.message.Message.TheVariants as message
 use Rattle.fs_status.specs.Message.{message_text}
 use Rattle.fs_status.specs.Refusal.{refusal_of}
 use Rattle.fs_status.specs.Status.{rpc_of}
@@ -45,12 +47,23 @@ has_target m session id = is_some (get (listening_of m session).targets id)
 
 -- ---- rules and limits
 
+-- what isn't built: a listener's query has no `select` and skips nothing. The first of the two is named; JSON never brings either
+abbrev pub unbuilt_name : Asked → Option (List ℕ)
+unbuilt_name q = if is_some q.select then Some (codes "select") else if int_lt (pos 0) q.offset then Some (codes "offset") else None
+
+abbrev pub unless_unbuilt : Option (List ℕ) → Option Refusal → Option Refusal
+unless_unbuilt (Some name) others = Some (refusal_of (reasons.Method name))
+unless_unbuilt None others = others
+
 -- the query of a target that breaks a rule is refused at its place; one that was read from JSON breaks none
 abbrev pub target_query_place : List ℕ
 target_query_place = member_place (member_place (member_place (codes "listen") (codes "addTarget")) (codes "query")) (codes "structuredQuery")
 
+abbrev pub rule_refusal : Asked → Option Refusal
+rule_refusal q = option_map (λ rule. refusal_of (reasons.Rule (Q rule.number rule.count) target_query_place)) (rule_of_query q)
+
 abbrev pub target_refusal : Target → Option Refusal
-target_refusal (target.Query q) = option_map (λ rule. refusal_of (reasons.Rule (Q rule.number rule.count) target_query_place)) (rule_of_query q)
+target_refusal (target.Query q) = unless_unbuilt (unbuilt_name q) (rule_refusal q)
 target_refusal (target.Documents names) = None
 
 -- as many targets as may be, or there is no number left
@@ -123,15 +136,16 @@ without_target m session (negsuc id) = m
 abbrev pub cause_of : Refusal → Cause
 cause_of refusal = record { code = rpc_of refusal.code; message = message_text refusal.reason }
 
--- one that breaks a rule isn't told as a target's
-abbrev pub is_rule : Reason → Bool
-is_rule (reasons.Rule rule place) = true
-is_rule _ = false
+-- one that breaks a rule, or asks for what isn't built, isn't told as a target's
+abbrev pub is_plain : Reason → Bool
+is_plain (reasons.Rule rule place) = true
+is_plain (reasons.Method name) = true
+is_plain _ = false
 
 -- a target that isn't added
 abbrev pub unadded_answer : Machine → ℕ → ℕ → Refusal → Answer
 unadded_answer m session id refusal =
-    if is_rule refusal.reason then Refused refusal
+    if is_plain refusal.reason then Refused refusal
     else if has_target m session id then Refused refusal
     else Reply (message.Listen (listen.Remove (id ∷ []) (Some (cause_of refusal))))
 

@@ -9,7 +9,7 @@
 use Rattle.std.specs.Prelude.{ℕ, ℤ, pos, Bool, List, [], ◌∷◌, Option, Some, None, if◌then◌else◌, unwrap_or}
 use Rattle.std.specs.FinMap.{get}
 use Rattle.fs_query.specs.declared.listen.ListenMessage.TheVariants as listen
-use Rattle.fs_rpc.specs.declared.message.Message.TheVariants as message
+use Rattle.fs_request.specs.declared.message.Message.TheVariants as message
 use Rattle.fs_status.specs.Refusal.{refusal_of}
 use Rattle.fs_status.specs.declared.reason.Reason.TheVariants.{TargetUnknown}
 use Rattle.fs_status.specs.declared.refusal.Refusal.{Refusal}

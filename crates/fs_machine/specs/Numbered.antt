@@ -3,11 +3,11 @@
 --
 --     3 was drawn last      a plain commit and a begin draw 4; a commit of transaction 2 has 2, and so has a read in it
 use Rattle.std.specs.Prelude.{ℕ, ◌+◌, Bool, true, false, is_none, Option, Some, None, unwrap_or}
-use Rattle.fs_rpc.specs.When.{transaction_of}
-use Rattle.fs_rpc.specs.declared.request.Request.{Request}
-use Rattle.fs_rpc.specs.declared.request.Request.TheVariants.{Commit, GetDocument, BatchGetDocuments, RunQuery, BeginTransaction, Rollback, AddTarget, RemoveTarget, Write}
-use Rattle.fs_rpc.specs.declared.stream_request.StreamRequest.{StreamRequest}
-use Rattle.fs_rpc.specs.declared.stream_request.StreamRequest.TheVariants.{Open, Resume, Batch, Ask, Mixed}
+use Rattle.fs_request.specs.When.{transaction_of}
+use Rattle.fs_request.specs.declared.request.Request.{Request}
+use Rattle.fs_request.specs.declared.request.Request.TheVariants.{Commit, GetDocument, BatchGetDocuments, RunQuery, BeginTransaction, Rollback, AddTarget, RemoveTarget, Write}
+use Rattle.fs_request.specs.declared.stream_request.StreamRequest.{StreamRequest}
+use Rattle.fs_request.specs.declared.stream_request.StreamRequest.TheVariants.{Open, Resume, Batch, Ask, Mixed}
 
 -- the transaction that a request names
 abbrev pub transaction_in : Request → Option ℕ

@@ -1,6 +1,6 @@
 -- A session's messages are taken: they are its messages, and it has none left.
 use Rattle.std.specs.Prelude.{ℕ, List}
-use Rattle.fs_rpc.specs.declared.message.Message.{Message}
+use Rattle.fs_request.specs.declared.message.Message.{Message}
 use Rattle.fs_machine.specs.Sessions.{outbox_in, emptied}
 use Rattle.fs_machine.specs.State.{Machine}
 

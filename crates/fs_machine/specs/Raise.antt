@@ -3,7 +3,7 @@
 -- (v1 reference, `TargetChange`: CURRENT, NO_CHANGE.)
 use Rattle.std.specs.Prelude.{ℕ, ℤ, List, ◌++◌, map, if◌then◌else◌}
 use Rattle.fs_query.specs.declared.listen.ListenMessage.{ListenMessage}
-use Rattle.fs_rpc.specs.declared.message.Message.TheVariants as message
+use Rattle.fs_request.specs.declared.message.Message.TheVariants as message
 use Rattle.fs_listen.specs.Cuts.{cut, is_ready}
 use Rattle.fs_listen.specs.Listening.{raised_to}
 use Rattle.fs_listen.specs.Raised.{raised as sent_by}

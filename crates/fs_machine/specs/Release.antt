@@ -3,7 +3,7 @@
 use Rattle.std.specs.Prelude.{ℤ, pos, ◌-ℤ◌, Bool, not, ◌&&◌, int_le, List, [], ◌∷◌, map, unwrap_or, if◌then◌else◌}
 use Rattle.std.specs.List.{filter}
 use Rattle.fs_history.specs.declared.batch.Batch.{Batch}
-use Rattle.fs_rpc.specs.declared.message.Message.TheVariants as message
+use Rattle.fs_request.specs.declared.message.Message.TheVariants as message
 use Rattle.fs_machine.specs.Past.{Past, is_pending}
 use Rattle.fs_machine.specs.declared.unreleased.Unreleased.{Unreleased}
 use Rattle.fs_machine.specs.Sessions.{delivered}

@@ -3,13 +3,13 @@
 -- the time that is to be read, then whether it has to wait, which as many do as may. What is left is carried out: then a commit may be
 -- aborted, or it may be that no document is there. A batch that is the next of its stream is a commit in all this.
 use Rattle.std.specs.Prelude.{ℕ, ◌+◌, List, [], ◌∷◌, ◌++◌, Option, Some, None, option_map, length, nat_le, codes, if◌then◌else◌}
-use Rattle.fs_rpc.specs.declared.message.Message.TheVariants as message
-use Rattle.fs_rpc.specs.declared.options.TransactionOptions.{TransactionOptions}
-use Rattle.fs_rpc.specs.declared.options.TransactionOptions.TheVariants.{ReadWrite, ReadOnly}
-use Rattle.fs_rpc.specs.declared.request.Envelope.{Envelope}
-use Rattle.fs_rpc.specs.declared.request.Request.{Request}
-use Rattle.fs_rpc.specs.declared.request.Request.TheVariants.{Commit, GetDocument, BatchGetDocuments, RunQuery, BeginTransaction, Rollback, AddTarget, RemoveTarget}
-use Rattle.fs_rpc.specs.declared.request.Request.TheVariants as request
+use Rattle.fs_request.specs.declared.message.Message.TheVariants as message
+use Rattle.fs_request.specs.declared.options.TransactionOptions.{TransactionOptions}
+use Rattle.fs_request.specs.declared.options.TransactionOptions.TheVariants.{ReadWrite, ReadOnly}
+use Rattle.fs_request.specs.declared.request.Envelope.{Envelope}
+use Rattle.fs_request.specs.declared.request.Request.{Request}
+use Rattle.fs_request.specs.declared.request.Request.TheVariants.{Commit, GetDocument, BatchGetDocuments, RunQuery, BeginTransaction, Rollback, AddTarget, RemoveTarget}
+use Rattle.fs_request.specs.declared.request.Request.TheVariants as request
 use Rattle.fs_path.specs.Place.{member_place}
 use Rattle.fs_path.specs.declared.place.Rule.TheVariants.{Q}
 use Rattle.fs_query.specs.Asked.{Asked}

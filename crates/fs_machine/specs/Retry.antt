@@ -2,7 +2,7 @@
 -- then waits no more, and a batch of a stream is finished so; it waits on where something holds it still; else it is carried out, as if it came
 -- now, and waits no more.
 use Rattle.std.specs.Prelude.{ℕ, Option, Some, None, option_map, slice_get, remove}
-use Rattle.fs_rpc.specs.declared.request.Request.{Request}
+use Rattle.fs_request.specs.declared.request.Request.{Request}
 use Rattle.fs_status.specs.declared.refusal.Refusal.{Refusal}
 use Rattle.fs_machine.specs.Request.{Decision, carried, decided_answer, decision, held_by, retry_refusal, unless_refused}
 use Rattle.fs_machine.specs.State.{Machine}

@@ -1,6 +1,6 @@
 -- The sessions that are open, each with the messages that it has still to be sent.
 use Rattle.std.specs.Prelude.{ℕ, Bool, true, false, List, [], ◌∷◌, ◌++◌, ◌==◌, if◌then◌else◌}
-use Rattle.fs_rpc.specs.declared.message.Message.{Message}
+use Rattle.fs_request.specs.declared.message.Message.{Message}
 use Rattle.fs_machine.specs.declared.session.Session.{Session}
 
 -- the messages of a session; none where it isn't open

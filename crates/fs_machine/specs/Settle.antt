@@ -3,7 +3,7 @@
 -- is released.
 use Rattle.std.specs.Prelude.{◌≡◌, ℕ, ℤ, Bool, not, ◌&&◌, ◌==◌, int_lt, List, [], ◌∷◌, Option, Some, None, Result, Ok, Err, if◌then◌else◌}
 use Rattle.std.specs.List.{filter, AllByRecursion}
-use Rattle.fs_rpc.specs.MessageJson.{refused}
+use Rattle.fs_request.specs.Refused.{refused}
 use Rattle.fs_status.specs.declared.refusal.Refusal.{Refusal}
 use Rattle.fs_write.specs.Batch.{Docs, batch, IsNamed, IsOutcome}
 use Rattle.fs_write.specs.declared.write_result.WriteResult.{WriteResult}

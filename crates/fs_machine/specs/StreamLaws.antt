@@ -11,8 +11,8 @@
 -- (v1 reference, "Write": `streamToken`.)
 use Rattle.std.specs.Prelude.{◌≡◌, ℕ, ◌+◌, ℤ, Bool, true, false, ◌&&◌, ⊤, List, [], ◌∷◌, ◌++◌, Option, Some, None, Result, Ok, Err, is_some, map, slice_get, if◌then◌else◌}
 use Rattle.std.specs.List.{filter}
-use Rattle.fs_rpc.specs.declared.request.Request.{Request}
-use Rattle.fs_rpc.specs.declared.request.Request.TheVariants.{Commit}
+use Rattle.fs_request.specs.declared.request.Request.{Request}
+use Rattle.fs_request.specs.declared.request.Request.TheVariants.{Commit}
 use Rattle.fs_status.specs.declared.refusal.Refusal.{Refusal}
 use Rattle.fs_stream.specs.Streams.{stream_of}
 use Rattle.fs_stream.specs.declared.kept.Kept.{Kept}

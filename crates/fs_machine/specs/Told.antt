@@ -9,8 +9,8 @@
 use Rattle.std.specs.Prelude.{ℕ, Bool, ◌==◌, List, [], ◌∷◌, ◌++◌, Option, Some, None, drop, length, slice_get, if◌then◌else◌}
 use Rattle.std.specs.List.{filter_map, list_any}
 use Rattle.fs_query.specs.declared.listen.ListenMessage.{ListenMessage}
-use Rattle.fs_rpc.specs.declared.message.Message.{Message}
-use Rattle.fs_rpc.specs.declared.message.Message.TheVariants as message
+use Rattle.fs_request.specs.declared.message.Message.{Message}
+use Rattle.fs_request.specs.declared.message.Message.TheVariants as message
 use Rattle.fs_listen.specs.Runs.{World}
 use Rattle.fs_machine.specs.Event.{Event, asking, retrying, step}
 use Rattle.fs_machine.specs.Listen.{listening_of}

@@ -2,8 +2,8 @@
 -- ends, and a stream is opened or resumed, at once.
 use Rattle.std.specs.Prelude.{◌≡◌, true, false, Bool, List, None, is_some}
 use Rattle.std.specs.List.{AllByRecursion}
-use Rattle.fs_rpc.specs.declared.request.Request.{Request}
-use Rattle.fs_rpc.specs.declared.request.Request.TheVariants.{Commit, GetDocument, BatchGetDocuments, RunQuery, BeginTransaction, Rollback, AddTarget, RemoveTarget, Write}
+use Rattle.fs_request.specs.declared.request.Request.{Request}
+use Rattle.fs_request.specs.declared.request.Request.TheVariants.{Commit, GetDocument, BatchGetDocuments, RunQuery, BeginTransaction, Rollback, AddTarget, RemoveTarget, Write}
 use Rattle.fs_machine.specs.declared.parked_request.ParkedRequest.{ParkedRequest}
 
 abbrev pub may_wait : Request → Bool

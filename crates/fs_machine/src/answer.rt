@@ -1,5 +1,5 @@
 //! What calls of a server answer.
-use fs_rpc::Message;
+use fs_request::Message;
 use fs_status::{Id, Refusal};
 use fs_time::Micros;
 use fs_write::{Changes, WriteResults};

@@ -1,6 +1,6 @@
 //! Whom a commit is answered.
 use fs_path::Text;
-use fs_rpc::copy_id;
+use fs_request::copy_id;
 use std::alloc::{AllocError, Global};
 
 /// Whom a commit is answered: the session that asked for it, or the stream whose batch it is. The session of a batch may leave before it is

@@ -1,4 +1,5 @@
 //! The laws of servers.
+ghost use Rattle.fs_machine.specs.AnswersStand.{RefusalsStand, ResultsStand};
 ghost use Rattle.fs_machine.specs.ListenLaws.{CutsAreConsistent, RaisesNeverFall};
 ghost use Rattle.fs_machine.specs.Laws.{AbortedByTheLeast, AlwaysGrows, AlwaysKept, AlwaysSerial, DocumentsStay, HeldByTheLeast, OutcomesStay, ReadOnlyCommits, ReadOnlyGoesOn, RefusedIsNeverSeen, RepliesComeOnce, RetriedAsIfItCame, SameRepliesInAnyOrder, SettledInAnyOrder};
 ghost use Rattle.fs_machine.specs.StreamLaws.{BatchesOnceInOrder, CommittedOnceInOrder, RepeatsAreAnsweredAlike};
@@ -12,7 +13,8 @@ use fs_listen::listening_is_lawful;
 ///
 /// What was computed for a pending commit stays right as long as it is pending, in whatever order others are settled
 /// (`outcomes`). So any number of them leave the same, in whatever order they are settled (`any_order`), with the same replies in the
-/// same order where none is refused (`same_replies`).
+/// same order where none is refused (`same_replies`). The results that a commit is answered, and why one was refused as it was settled, are
+/// what its writes come to on the documents just before its time in every later state (`results`, `refusals`).
 ///
 /// What waits, waits for the least of those that hold it, and what goes on has none (`held`): a commit for those that aren't released
 /// and write one of its names, and in pessimistic mode a plain one for the open transactions that have read what it writes, and a read in
@@ -23,9 +25,8 @@ use fs_listen::listening_is_lawful;
 /// that only reads never waits (`goes_on`) and is never aborted (`commits`). So whatever events come, the history is serial: each of
 /// its batches had read what the batches before it leave (`serial`).
 ///
-/// The commits that are let out and
-/// answered are the batches that the history has more, in its order: each is answered once, as it comes to be seen
-/// (`replies`). One whose writes are refused is never seen (`refused`).
+/// The commits that are let out and answered are the batches that the history has more, in its order: each is answered once, as it comes
+/// to be seen (`replies`). One whose writes are refused is never seen (`refused`).
 ///
 /// A session that listens is told of its targets so that whoever gathers all that it was told has, at each NO_CHANGE, just the views of
 /// all its targets at that one time (`cuts`), which never falls (`times`): whenever targets were added, resumed, loaded or removed,
@@ -40,6 +41,8 @@ pub fn machines_are_lawful()
     ensures grows { AlwaysGrows }
     ensures unchanged { DocumentsStay }
     ensures outcomes { OutcomesStay }
+    ensures results { ResultsStand }
+    ensures refusals { RefusalsStand }
     ensures any_order { SettledInAnyOrder }
     ensures same_replies { SameRepliesInAnyOrder }
     ensures held { HeldByTheLeast }

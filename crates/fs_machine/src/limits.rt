@@ -32,6 +32,8 @@ pub struct Limits {
     pub time: u64,
     /// Batches of a client that aren't covered by a snapshot.
     pub queue: u64,
+    /// Clients of a script.
+    pub clients: u64,
 }
 
 impl Limits {
@@ -56,6 +58,7 @@ impl Limits {
             ids: u64::MAX,
             time: Micros::LAST.unsigned_abs(),
             queue: 1_000,
+            clients: 64,
         }
     }
 
@@ -77,5 +80,6 @@ impl Limits {
             && self.ids <= greatest.ids
             && self.time <= greatest.time
             && self.queue <= greatest.queue
+            && self.clients <= greatest.clients
     }
 }

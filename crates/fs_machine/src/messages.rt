@@ -1,5 +1,5 @@
 //! Messages that are still to be sent.
-use fs_rpc::Message;
+use fs_request::Message;
 use std::alloc::{AllocError, Global};
 use std::marker::Model;
 
@@ -12,8 +12,8 @@ pub struct Messages {
 impl Model for Messages {
     ghost use Rattle.std.specs.Prelude.{List};
     ghost use Rattle.std.specs.Coded.{coded_list};
-    ghost use Rattle.fs_rpc.specs.contracts.message.Message as message;
-    ghost use Rattle.fs_rpc.specs.declared.message.Message.{Message};
+    ghost use Rattle.fs_request.specs.contracts.message.Message as message;
+    ghost use Rattle.fs_request.specs.declared.message.Message.{Message};
 
     ghost Value = { List Message };
 

@@ -1,5 +1,5 @@
 //! Requests that wait.
-use fs_rpc::Envelope;
+use fs_request::Envelope;
 use fs_status::Id;
 
 /// A request that is held by a commit which isn't released yet, or by a transaction that is open. It waits, and is tried again.

@@ -1,5 +1,5 @@
 //! Replies.
-use fs_rpc::Message;
+use fs_request::Message;
 
 /// What a session is told of its commit.
 #[derive(Drop)]

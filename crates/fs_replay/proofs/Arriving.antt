@@ -1,10 +1,10 @@
 -- A request comes as it was asked, of no stream; or it is the next batch of a stream, and comes as the commit that it is.
 use Rattle.std.proofs.Common.{◌≡◌, ℕ, ◌+◌, List, Option, Some, None, Result, Ok, Err, refl}
 use Rattle.fs_path.specs.declared.name.Root.{Root}
-use Rattle.fs_rpc.specs.declared.request.Envelope.{Envelope}
-use Rattle.fs_rpc.specs.declared.request.Request.{Request}
-use Rattle.fs_rpc.specs.declared.request.Request.TheVariants as request
-use Rattle.fs_rpc.specs.declared.stream_request.StreamRequest.TheVariants.{Open, Resume, Batch, Ask, Mixed}
+use Rattle.fs_request.specs.declared.request.Envelope.{Envelope}
+use Rattle.fs_request.specs.declared.request.Request.{Request}
+use Rattle.fs_request.specs.declared.request.Request.TheVariants as request
+use Rattle.fs_request.specs.declared.stream_request.StreamRequest.TheVariants.{Open, Resume, Batch, Ask, Mixed}
 use Rattle.fs_stream.specs.declared.error.StreamError.{StreamError}
 use Rattle.fs_stream.specs.declared.take.Take.{Take}
 use Rattle.fs_stream.specs.declared.take.Take.TheVariants as take

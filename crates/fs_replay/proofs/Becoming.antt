@@ -3,18 +3,18 @@ use Rattle.std.proofs.Common.{◌≡◌, ℕ, ◌+◌, Bool, true, false, cond, 
 use Rattle.std.specs.Prelude.{codes, length, nat_le, nat_lt}
 use Rattle.fs_history.specs.declared.read.Read.{Read}
 use Rattle.fs_query.specs.declared.listen.ListenMessage.TheVariants as listen
-use Rattle.fs_rpc.specs.declared.message.Message.{Message}
-use Rattle.fs_rpc.specs.declared.message.Message.TheVariants as message
-use Rattle.fs_rpc.specs.declared.request.Envelope.{Envelope}
-use Rattle.fs_rpc.specs.declared.request.Request.{Request}
-use Rattle.fs_rpc.specs.declared.request.Request.TheVariants.{Commit, GetDocument, BatchGetDocuments, RunQuery, BeginTransaction, Rollback, AddTarget, RemoveTarget}
-use Rattle.fs_rpc.specs.declared.request.Request.TheVariants as request
+use Rattle.fs_request.specs.declared.message.Message.{Message}
+use Rattle.fs_request.specs.declared.message.Message.TheVariants as message
+use Rattle.fs_request.specs.declared.request.Envelope.{Envelope}
+use Rattle.fs_request.specs.declared.request.Request.{Request}
+use Rattle.fs_request.specs.declared.request.Request.TheVariants.{Commit, GetDocument, BatchGetDocuments, RunQuery, BeginTransaction, Rollback, AddTarget, RemoveTarget}
+use Rattle.fs_request.specs.declared.request.Request.TheVariants as request
 use Rattle.fs_status.specs.Refusal.{at_limit}
 use Rattle.fs_status.specs.declared.refusal.Refusal.{Refusal}
 use Rattle.fs_write.specs.declared.write.Write.{Write}
 use Rattle.fs_history.specs.Bytes.{commit_size}
 use Rattle.fs_machine.specs.Commit.{growth_refusal, number_refusal, only_reads, unless_closed}
-use Rattle.fs_machine.specs.Listen.{cause_of, has_target, is_rule}
+use Rattle.fs_machine.specs.Listen.{cause_of, has_target, is_plain}
 use Rattle.fs_machine.specs.Numbered.{draws}
 use Rattle.fs_machine.specs.Read.{read_limit_refusal}
 use Rattle.fs_machine.specs.Refusing.{journal_count, journal_size, outbox_is_full, outbox_refusal, passed, room_refusal, time_limit_refusal}
@@ -149,7 +149,7 @@ refused_told m session (RunQuery database query when) refusal = refl
 refused_told m session (BeginTransaction database options) refusal = refl
 refused_told m session (Rollback database transaction) refusal = refl
 refused_told m session (AddTarget database target t token) refusal =
-    unadded_told (is_rule refusal.reason) (has_target m session target) refusal (message.Listen (listen.Remove (target ∷ []) (Some (cause_of refusal))))
+    unadded_told (is_plain refusal.reason) (has_target m session target) refusal (message.Listen (listen.Remove (target ∷ []) (Some (cause_of refusal))))
 refused_told m session (RemoveTarget database target) refusal = refl
 refused_told m session (request.Write database asked) refusal = refl
 

@@ -4,7 +4,7 @@ use Rattle.std.proofs.Common.{◌≡◌, ℕ, Bool, true, false, cond, List, [],
 use Rattle.std.specs.Prelude.{length, slice_get, ℤ}
 use Rattle.std.proofs.lemmas.List.{append-nil}
 use Rattle.fs_rpc.specs.MessageJson.{message_json_on}
-use Rattle.fs_rpc.specs.declared.message.Message.{Message}
+use Rattle.fs_request.specs.declared.message.Message.{Message}
 use Rattle.fs_machine.specs.Request.{Decision}
 use Rattle.fs_machine.specs.Retry.{retried, retry_decision, tried}
 use Rattle.fs_machine.specs.Settle.{settled}

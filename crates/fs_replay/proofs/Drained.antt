@@ -4,7 +4,7 @@ use Rattle.std.specs.Prelude.{◌==◌}
 use Rattle.std.specs.List.{AllByRecursion}
 use Rattle.std.proofs.lemmas.Bool.{eqb-true}
 use Rattle.std.proofs.lemmas.List.{append-nil}
-use Rattle.fs_rpc.specs.declared.message.Message.{Message}
+use Rattle.fs_request.specs.declared.message.Message.{Message}
 use Rattle.fs_machine.specs.Outbox.{outbox_of, taken}
 use Rattle.fs_machine.specs.Sessions.{outbox_in, delivered}
 use Rattle.fs_machine.specs.State.{Machine}

@@ -4,8 +4,8 @@ use Rattle.std.specs.Prelude.{◌&&◌, ⊤, codes, length, slice_get, is_some}
 use Rattle.std.specs.FinMap.{entries}
 use Rattle.fs_json.specs.declared.bad.Bad.{Bad}
 use Rattle.fs_rpc.specs.declared.envelope.SessionRequest.{SessionRequest}
-use Rattle.fs_rpc.specs.declared.request.Envelope.{Envelope}
-use Rattle.fs_rpc.specs.declared.request.Request.{Request}
+use Rattle.fs_request.specs.declared.request.Envelope.{Envelope}
+use Rattle.fs_request.specs.declared.request.Request.{Request}
 use Rattle.fs_status.specs.Refusal.{at_limit}
 use Rattle.fs_status.specs.declared.refusal.Refusal.{Refusal}
 use Rattle.fs_listen.specs.Cuts.{first_loading}

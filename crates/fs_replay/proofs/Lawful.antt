@@ -7,10 +7,10 @@ use Rattle.std.proofs.lemmas.List.Splits.{length-slice_split}
 use Rattle.std.specs.FinMap.{get}
 use Rattle.std.specs.List.{onto_first}
 use Rattle.fs_path.specs.declared.name.DocName.{DocName}
-use Rattle.fs_rpc.specs.declared.message.Message.{Message}
-use Rattle.fs_rpc.specs.declared.message.Message.TheVariants as message
-use Rattle.fs_rpc.specs.declared.request.Request.TheVariants.{GetDocument}
-use Rattle.fs_rpc.specs.declared.when.When.TheVariants.{Released}
+use Rattle.fs_request.specs.declared.message.Message.{Message}
+use Rattle.fs_request.specs.declared.message.Message.TheVariants as message
+use Rattle.fs_request.specs.declared.request.Request.TheVariants.{GetDocument}
+use Rattle.fs_request.specs.declared.when.When.TheVariants.{Released}
 use Rattle.fs_value.specs.declared.document.Document.{Document}
 use Rattle.fs_write.specs.WrittenName.{is_written}
 use Rattle.fs_history.specs.History.{at, whole}
@@ -30,7 +30,6 @@ use Rattle.fs_replay.specs.Held.{held_lines}
 use Rattle.fs_replay.specs.BetweenLines.{IsBetweenLines}
 use Rattle.fs_replay.specs.Commits.{asked_writes, is_commit, is_written_in, may_move, will_be_written}
 use Rattle.fs_replay.specs.Lines.{IsOneLine, is_answered, is_silent, keeps_waiting, line_in_state, may_let_on, nobody_listens}
-use Rattle.fs_replay.specs.Run.{GrowsThroughout, IsSerialThroughout}
 use Rattle.fs_replay.specs.Step.{after_line, line_output, start}
 use Rattle.fs_replay.specs.Transcript.{after_lines, lines_of, transcript, written}
 use Rattle.fs_replay.specs.declared.state.State.{State}
@@ -83,22 +82,6 @@ pub lines_serial : (s : State) (n : ℕ) (lines : List (List ℕ)) → IsBetween
 lines_serial s n lines between =
     let past = (all_between s n lines between).facts.past in
     serial_is (after_lines s n lines).server.past.history past.history.rising past.reads.serial
-
--- lines, and more behind them
-after_both : (s : State) (n : ℕ) (front back : List (List ℕ)) → (k : ℕ) × (after_lines s n (front ++ back) ≡ after_lines (after_lines s n front) k back)
-after_both s n [] back = (n, refl)
-after_both s n (bytes ∷ front) back = after_both (after_line s n bytes) (n + 1) front back
-
-pub runs_grow : AlwaysKept → AlwaysGrows → (config : Config) (limits : Limits) (lines : List (List ℕ)) → AreAllowed limits → GrowsThroughout config limits lines
-runs_grow kept grow config limits lines allowed = λ front back is.
-    let s = start config limits in
-    let cut = after_lines s 1 front in
-    let both = after_both s 1 front back in
-    let between = all_between s 1 front (starts_between kept config limits allowed) in
-    subst (λ (t : State). Grows cut.server.past t.server.past) (sym (ap (after_lines s 1) is ∙ both.1)) (lines_grow grow cut both.0 back between)
-
-pub runs_serial : AlwaysKept → (config : Config) (limits : Limits) (lines : List (List ℕ)) → AreAllowed limits → IsSerialThroughout config limits lines
-runs_serial kept config limits lines allowed = λ front back is. lines_serial (start config limits) 1 front (starts_between kept config limits allowed)
 
 pub past_unmoved : (s : State) (n : ℕ) (bytes : List ℕ) → IsBetweenLines s → may_move s (line_in_state s bytes) ≡ false → (after_line s n bytes).server.past ≡ s.server.past
 unfolding after_line

@@ -1,13 +1,15 @@
 -- The events of what is played lead from its server to the server then: those of each line, and so of all lines.
-use Rattle.std.proofs.Common.{◌≡◌, ℕ, ℤ, ◌+◌, suc, zero, Bool, true, false, cond, List, [], ◌∷◌, ◌++◌, map, Option, Some, None, Result, Ok, Err, refl, sym, ap, ◌∙◌}
+use Rattle.std.proofs.Common.{◌≡◌, ℕ, ℤ, ◌+◌, suc, zero, Bool, true, false, cond, List, [], ◌∷◌, ◌++◌, map, Option, Some, None, Result, Ok, Err, refl, sym, ap, ◌∙◌, subst, append_assoc}
 use Rattle.std.specs.Prelude.{◌&&◌, is_some, length, slice_get}
 use Rattle.std.specs.FinMap.{entries}
 use Rattle.fs_json.specs.declared.bad.Bad.{Bad}
 use Rattle.fs_rpc.specs.declared.envelope.SessionRequest.{SessionRequest}
 use Rattle.fs_status.specs.declared.refusal.Refusal.{Refusal}
-use Rattle.fs_rpc.specs.declared.request.Request.{Request}
+use Rattle.fs_request.specs.declared.request.Request.{Request}
 use Rattle.fs_listen.specs.Cuts.{first_loading}
 use Rattle.fs_machine.specs.Event.{Event, after, step}
+use Rattle.fs_machine.specs.Grows.{Grows}
+use Rattle.fs_machine.specs.Laws.{AlwaysGrows, AlwaysKept, AlwaysSerial}
 use Rattle.fs_machine.specs.Limits.{AreAllowed}
 use Rattle.fs_machine.specs.Listen.{listening_of}
 use Rattle.fs_machine.specs.ListenLaws.{CutsAreConsistent, RaisesNeverFall}
@@ -25,7 +27,7 @@ use Rattle.fs_replay.specs.Directory.{number_of, without}
 use Rattle.fs_replay.specs.Lines.{line_in_state}
 use Rattle.fs_replay.specs.Outboxes.{drained}
 use Rattle.fs_replay.specs.Played.{Played, followed_by, happens, nothing}
-use Rattle.fs_replay.specs.Run.{CutsThroughout}
+use Rattle.fs_replay.specs.Run.{CutsThroughout, GrowsThroughout, IsSerialThroughout, KeptThroughout, LinesAreEvents}
 use Rattle.fs_replay.specs.Settling.{closed, did_something, emptied, left_to_do, loads_each, loads_from, loads_next, loads_of, loads_one, matches_all, matches_from, place_after, raises_each, retry_output, serves, settles, settles_if, settles_next, settling, tries, tries_all, tries_from, tries_if, turn, turns, unless_by_hand, unloaded_count}
 use Rattle.fs_replay.specs.Step.{after_line, asks, asks_if, clocks, does_not_apply, enters, entry, in_session, leaves, line_events, line_played, named_if, start}
 use Rattle.fs_replay.specs.Transcript.{after_lines, events_of}
@@ -228,9 +230,37 @@ lines_lead s n (bytes ∷ lines) =
     let more = events_of t (n + 1) lines in
     lines_lead t (n + 1) lines ∙ ap (λ (m : Machine). after m more) (leads_once s n bytes) ∙ sym (after_both s.server (line_events s n bytes) more)
 
+-- those of some lines, and of more behind them
+events_both : (s : State) (n : ℕ) (front back : List (List ℕ)) → (more : List Event) × (events_of s n (front ++ back) ≡ events_of s n front ++ more)
+events_both s n [] back = (events_of s n back, refl)
+events_both s n (bytes ∷ front) back =
+    let rest = events_both (after_line s n bytes) (n + 1) front back in
+    let first = line_events s n bytes in
+    let of_front = events_of (after_line s n bytes) (n + 1) front in
+    (rest.0, ap (λ (es : List Event). first ++ es) rest.1 ∙ sym (append_assoc first of_front rest.0))
+
+pub lines_are_events : (config : Config) (limits : Limits) (lines : List (List ℕ)) → LinesAreEvents config limits lines
+lines_are_events config limits lines front back is =
+    let s = start config limits in
+    let both = events_both s 1 front back in
+    record { more = both.0; events = ap (events_of s 1) is ∙ both.1; server = lines_lead s 1 front }
+
+-- ---- wherever they are cut
+
+pub runs_kept : AlwaysKept → (config : Config) (limits : Limits) (lines : List (List ℕ)) → KeptThroughout config limits lines
+runs_kept kept config limits lines front back is = kept config limits (start config limits).moment front
+
+pub runs_serial : AlwaysSerial → (config : Config) (limits : Limits) (lines : List (List ℕ)) → IsSerialThroughout config limits lines
+runs_serial serial config limits lines front back is = serial config limits (start config limits).moment front
+
+pub runs_grow : AlwaysKept → AlwaysGrows → (config : Config) (limits : Limits) (lines : List (List ℕ)) → GrowsThroughout config limits lines
+runs_grow kept grow config limits lines front back is =
+    let m = (start config limits).server in
+    let cut = after m front in
+    subst (λ (n : Machine). Grows cut.past n.past) (sym (ap (after m) is ∙ after_both m front back)) (grow cut back (kept config limits (start config limits).moment front))
+
 pub runs_cut : CutsAreConsistent → RaisesNeverFall → (config : Config) (limits : Limits) (lines : List (List ℕ)) → AreAllowed limits → CutsThroughout config limits lines
 runs_cut cuts times config limits lines allowed = record {
-  server = lines_lead (start config limits) 1 lines;
   cuts = λ front back session time is opened ended. cuts config limits (start config limits).moment front session time opened ended;
   times = λ front back session is opened. times config limits (start config limits).moment front session opened;
 }

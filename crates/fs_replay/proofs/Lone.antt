@@ -3,9 +3,9 @@ use Rattle.std.proofs.Common.{◌≡◌, ℕ, ◌≤ℤ◌, true, cond, List, []
 use Rattle.std.specs.FinMap.{entries}
 use Rattle.std.specs.Prelude.{◌==◌, is_none, map, not, option_map}
 use Rattle.std.proofs.lemmas.Bool.{and_from, eq-eqb}
-use Rattle.fs_rpc.specs.MessageJson.{refused}
-use Rattle.fs_rpc.specs.declared.message.Message.{Message}
-use Rattle.fs_rpc.specs.declared.message.Message.TheVariants as message
+use Rattle.fs_request.specs.Refused.{refused}
+use Rattle.fs_request.specs.declared.message.Message.{Message}
+use Rattle.fs_request.specs.declared.message.Message.TheVariants as message
 use Rattle.fs_pairs.specs.Pairs.{key_of}
 use Rattle.fs_status.specs.declared.refusal.Refusal.{Refusal}
 use Rattle.fs_stream.specs.declared.kept.Kept.{Kept}

@@ -5,14 +5,14 @@ use Rattle.std.specs.List.{AllByRecursion}
 use Rattle.std.proofs.lemmas.List.Folds.{list_any-append}
 use Rattle.fs_history.specs.Touches.{some_touched, touched}
 use Rattle.fs_history.specs.declared.read.Read.{Read}
-use Rattle.fs_rpc.specs.declared.request.Envelope.{Envelope}
-use Rattle.fs_rpc.specs.declared.request.Request.{Request}
-use Rattle.fs_rpc.specs.declared.request.Request.TheVariants.{Commit, GetDocument, BatchGetDocuments, RunQuery, BeginTransaction, Rollback, AddTarget, RemoveTarget}
-use Rattle.fs_rpc.specs.declared.request.Request.TheVariants as request
-use Rattle.fs_rpc.specs.declared.stream_request.StreamRequest.{StreamRequest}
-use Rattle.fs_rpc.specs.declared.stream_request.StreamRequest.TheVariants.{Open, Resume, Batch, Ask, Mixed}
-use Rattle.fs_rpc.specs.declared.when.When.{When}
-use Rattle.fs_rpc.specs.declared.when.When.TheVariants.{Released, At, In}
+use Rattle.fs_request.specs.declared.request.Envelope.{Envelope}
+use Rattle.fs_request.specs.declared.request.Request.{Request}
+use Rattle.fs_request.specs.declared.request.Request.TheVariants.{Commit, GetDocument, BatchGetDocuments, RunQuery, BeginTransaction, Rollback, AddTarget, RemoveTarget}
+use Rattle.fs_request.specs.declared.request.Request.TheVariants as request
+use Rattle.fs_request.specs.declared.stream_request.StreamRequest.{StreamRequest}
+use Rattle.fs_request.specs.declared.stream_request.StreamRequest.TheVariants.{Open, Resume, Batch, Ask, Mixed}
+use Rattle.fs_request.specs.declared.when.When.{When}
+use Rattle.fs_request.specs.declared.when.When.TheVariants.{Released, At, In}
 use Rattle.fs_txn.specs.Transactions.{Transactions, all_noted, changed_at, is_read_write, noted, put_in, with_read}
 use Rattle.fs_txn.specs.declared.txn.Txn.{Txn}
 use Rattle.fs_write.specs.declared.write.Write.{Write}

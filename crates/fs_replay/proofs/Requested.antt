@@ -5,7 +5,7 @@ use Rattle.std.specs.List.{AllByRecursion}
 use Rattle.std.proofs.lemmas.List.{append-nil}
 use Rattle.fs_json.specs.declared.bad.Bad.{Bad}
 use Rattle.fs_rpc.specs.declared.envelope.SessionRequest.{SessionRequest}
-use Rattle.fs_rpc.specs.declared.request.Request.{Request}
+use Rattle.fs_request.specs.declared.request.Request.{Request}
 use Rattle.fs_machine.specs.Commit.{next_commit}
 use Rattle.fs_machine.specs.Past.{Past}
 use Rattle.fs_machine.specs.Request.{arrival_refusal, arrived, asked}

@@ -5,7 +5,7 @@ use Rattle.std.specs.FinMap.{entries, get}
 use Rattle.std.specs.List.{AllByRecursion, count_by, list_any}
 use Rattle.std.proofs.lemmas.Bool.{eqb-true}
 use Rattle.std.proofs.lemmas.List.Sums.{sum_by-cons}
-use Rattle.fs_rpc.specs.declared.message.Message.{Message}
+use Rattle.fs_request.specs.declared.message.Message.{Message}
 use Rattle.fs_listen.specs.Cuts.{cut, first_loading, is_loaded, is_ready, is_ready_at}
 use Rattle.fs_listen.specs.Listening.{Listened, Listening, each, made_current, moved, none_listened, raised_to}
 use Rattle.fs_listen.specs.declared.cut.Cut.{Cut}

@@ -3,7 +3,7 @@ use Rattle.std.proofs.Common.{◌≡◌, ℕ, true, refl, sym, ap, ◌∙◌}
 use Rattle.std.specs.FinMap.{entries}
 use Rattle.fs_pairs.proofs.Laws.{key_is}
 use Rattle.fs_pairs.specs.Pairs.{key_of}
-use Rattle.fs_rpc.specs.declared.request.Envelope.{Envelope}
+use Rattle.fs_request.specs.declared.request.Envelope.{Envelope}
 use Rattle.fs_stream.proofs.Standing.{new_owned, owners_with}
 use Rattle.fs_stream.specs.Stands.{Stands}
 use Rattle.fs_stream.specs.Streams.{stream_of}

@@ -8,8 +8,8 @@ use Rattle.serde_json.specs.View.{items_of}
 use Rattle.serde_json.specs.Written.{items_outline}
 use Rattle.fs_rpc.specs.ListenJson.{listen_json}
 use Rattle.fs_rpc.specs.MessageJson.{begin_json, commit_json, error_json, error_members, message_members, query_answers_json, result_members, with_id, with_results as listed_results}
-use Rattle.fs_rpc.specs.declared.message.Message.{Message}
-use Rattle.fs_rpc.specs.declared.message.Message.TheVariants.{Commit, GetDocument, BatchGetDocuments, RunQuery, BeginTransaction, Rollback, Listen, Write, Error}
+use Rattle.fs_request.specs.declared.message.Message.{Message}
+use Rattle.fs_request.specs.declared.message.Message.TheVariants.{Commit, GetDocument, BatchGetDocuments, RunQuery, BeginTransaction, Rollback, Listen, Write, Error}
 use Rattle.fs_value.specs.Data.{Data}
 use Rattle.fs_valjson.specs.Document.{document_json}
 use Rattle.fs_valjson.proofs.Tokens.{object_tokens}

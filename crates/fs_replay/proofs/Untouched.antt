@@ -8,8 +8,8 @@ use Rattle.fs_path.specs.declared.name.DocName.{DocName}
 use Rattle.fs_json.specs.declared.bad.Bad.{Bad}
 use Rattle.fs_history.specs.History.{whole}
 use Rattle.fs_history.specs.declared.batch.Batch.{Batch}
-use Rattle.fs_rpc.specs.declared.request.Envelope.{Envelope}
-use Rattle.fs_rpc.specs.declared.request.Request.{Request}
+use Rattle.fs_request.specs.declared.request.Envelope.{Envelope}
+use Rattle.fs_request.specs.declared.request.Request.{Request}
 use Rattle.fs_status.specs.declared.refusal.Refusal.{Refusal}
 use Rattle.fs_value.specs.declared.document.Document.{Document}
 use Rattle.fs_write.specs.After.{after_batch}

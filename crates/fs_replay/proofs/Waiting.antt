@@ -2,7 +2,7 @@
 use Rattle.std.proofs.Common.{◌≡◌, ℕ, Bool, true, false, cond, List, [], ◌∷◌, ◌++◌, refl, sym, ap, subst}
 use Rattle.std.specs.Prelude.{◌==◌, ◌||◌}
 use Rattle.std.specs.List.{AllByRecursion}
-use Rattle.fs_rpc.specs.declared.message.Message.{Message}
+use Rattle.fs_request.specs.declared.message.Message.{Message}
 use Rattle.fs_machine.specs.Sessions.{emptied, outbox_in, delivered, owning, with_outbox, without}
 use Rattle.fs_machine.specs.declared.session.Session.{Session}
 use Rattle.fs_replay.specs.BetweenLines.{HasNothing, is_open}

@@ -9,11 +9,11 @@ use Rattle.fs_machine.specs.State.{Machine}
 use Rattle.fs_machine.specs.declared.answer.Answer.{Answer}
 use Rattle.fs_machine.specs.declared.answer.Answer.TheVariants.{Reply, Prepared, Held, InProgress, Refused}
 use Rattle.fs_rpc.specs.declared.envelope.SessionRequest.{SessionRequest}
-use Rattle.fs_rpc.specs.declared.request.Request.{Request}
-use Rattle.fs_rpc.specs.declared.request.Request.TheVariants.{Commit, GetDocument, BatchGetDocuments, RunQuery, BeginTransaction, Rollback, AddTarget, RemoveTarget}
-use Rattle.fs_rpc.specs.declared.request.Request.TheVariants as request
-use Rattle.fs_rpc.specs.declared.stream_request.StreamRequest.{StreamRequest}
-use Rattle.fs_rpc.specs.declared.stream_request.StreamRequest.TheVariants.{Open, Resume, Batch, Ask, Mixed}
+use Rattle.fs_request.specs.declared.request.Request.{Request}
+use Rattle.fs_request.specs.declared.request.Request.TheVariants.{Commit, GetDocument, BatchGetDocuments, RunQuery, BeginTransaction, Rollback, AddTarget, RemoveTarget}
+use Rattle.fs_request.specs.declared.request.Request.TheVariants as request
+use Rattle.fs_request.specs.declared.stream_request.StreamRequest.{StreamRequest}
+use Rattle.fs_request.specs.declared.stream_request.StreamRequest.TheVariants.{Open, Resume, Batch, Ask, Mixed}
 use Rattle.fs_status.specs.declared.refusal.Refusal.{Refusal}
 use Rattle.fs_write.specs.WrittenName.{is_written}
 use Rattle.fs_write.specs.declared.write.Write.{Write}

@@ -5,8 +5,9 @@ use Rattle.fs_machine.specs.declared.answer.Answer.{Answer}
 use Rattle.fs_machine.specs.declared.answer.Answer.TheVariants.{Reply, Prepared, Held, InProgress, Refused}
 use Rattle.fs_machine.specs.Outbox.{outbox_of, taken}
 use Rattle.fs_machine.specs.State.{Machine}
-use Rattle.fs_rpc.specs.MessageJson.{message_json_on, refused}
-use Rattle.fs_rpc.specs.declared.message.Message.{Message}
+use Rattle.fs_request.specs.Refused.{refused}
+use Rattle.fs_rpc.specs.MessageJson.{message_json_on}
+use Rattle.fs_request.specs.declared.message.Message.{Message}
 use Rattle.fs_replay.specs.Reply.{json_line}
 use Rattle.fs_replay.specs.declared.directory.Named.{Named}
 

@@ -9,8 +9,8 @@ use Rattle.fs_history.specs.Serial.{IsSerial}
 use Rattle.fs_listen.specs.Gathered.{NeverFalls, ended_at, raise_in}
 use Rattle.fs_listen.specs.Laws.{IsOneTime}
 use Rattle.fs_machine.specs.Event.{Event, after}
+use Rattle.fs_machine.specs.Facts.{Facts}
 use Rattle.fs_machine.specs.Grows.{Grows}
-use Rattle.fs_machine.specs.Past.{Past}
 use Rattle.fs_machine.specs.State.{Machine}
 use Rattle.fs_machine.specs.Told.{is_open, told_in, world_of}
 use Rattle.fs_machine.specs.declared.config.Config.{Config}
@@ -62,31 +62,43 @@ WriteFaults status.WriteFault before after = after ≡ one_more before
 WriteFaults status.InputLimit before after = after ≡ before
 WriteFaults status.DoorFault before after = after ≡ before
 
--- What was committed after these lines.
-abbrev pub past_after : Config → Limits → List (List ℕ) → Past
-past_after config limits lines = (after_lines (start config limits) 1 lines).server.past
+-- ---- the events of a run
 
--- Wherever a run of these lines is cut, what was committed explains every read in it,
-abbrev pub IsSerialThroughout : Config → Limits → List (List ℕ) → Type 0
-IsSerialThroughout config limits lines = (front back : List (List ℕ)) → lines ≡ front ++ back → IsSerial (past_after config limits front).history
-
--- and what stood then at a time that was released stands there for good.
-abbrev pub GrowsThroughout : Config → Limits → List (List ℕ) → Type 0
-GrowsThroughout config limits lines = (front back : List (List ℕ)) → lines ≡ front ++ back → Grows (past_after config limits front) (past_after config limits lines)
-
--- ---- what sessions are told of their targets
-
--- the server after events of a run, and all that a session was told of its targets by then
+-- the server after them
 abbrev pub server_after : Config → Limits → List Event → Machine
 server_after config limits events = after (start config limits).server events
 
+-- A cut between lines is one between events: those of the lines before it are a front of the run's, and lead to the server there.
+pub record IsAfterItsEvents (config : Config) (limits : Limits) (front lines : List (List ℕ)) : Type 0 where
+  pub more : List Event
+  pub events : events_of (start config limits) 1 lines ≡ events_of (start config limits) 1 front ++ more
+  pub server : (after_lines (start config limits) 1 front).server ≡ server_after config limits (events_of (start config limits) 1 front)
+
+abbrev pub LinesAreEvents : Config → Limits → List (List ℕ) → Type 0
+LinesAreEvents config limits lines = (front back : List (List ℕ)) → lines ≡ front ++ back → IsAfterItsEvents config limits front lines
+
+-- Wherever the events are cut, what always holds of a server holds there,
+abbrev pub KeptThroughout : Config → Limits → List (List ℕ) → Type 0
+KeptThroughout config limits lines = (front back : List Event) → events_of (start config limits) 1 lines ≡ front ++ back → Facts (server_after config limits front)
+
+-- what was committed by then explains every read in it,
+abbrev pub IsSerialThroughout : Config → Limits → List (List ℕ) → Type 0
+IsSerialThroughout config limits lines = (front back : List Event) → events_of (start config limits) 1 lines ≡ front ++ back → IsSerial (server_after config limits front).past.history
+
+-- and what stood then at a time that was released stands there to the end.
+abbrev pub GrowsThroughout : Config → Limits → List (List ℕ) → Type 0
+GrowsThroughout config limits lines = (front back : List Event) → events_of (start config limits) 1 lines ≡ front ++ back
+    → Grows (server_after config limits front).past (server_after config limits (events_of (start config limits) 1 lines)).past
+
+-- ---- what sessions are told of their targets
+
+-- all that a session was told of its targets by then
 abbrev pub told_by_then : Config → Limits → List Event → ℕ → List ListenMessage
 told_by_then config limits events session = told_in (start config limits).server events session
 
 -- Wherever the events of a run are cut, and what a session was told by then ends with NO_CHANGE, whoever gathered all of it has just the views
--- of all its targets at that time; and none of these times is below one before it. The server is after all events where it is after the lines.
+-- of all its targets at that time; and none of these times is below one before it.
 pub record CutsThroughout (config : Config) (limits : Limits) (lines : List (List ℕ)) : Type 0 where
-  pub server : (after_lines (start config limits) 1 lines).server ≡ server_after config limits (events_of (start config limits) 1 lines)
   pub cuts : (front back : List Event) (session : ℕ) (time : ℤ) → events_of (start config limits) 1 lines ≡ front ++ back
       → is_open session (server_after config limits front).sessions ≡ true → ended_at (told_by_then config limits front session) ≡ Some time
       → IsOneTime (world_of (server_after config limits front) session (told_by_then config limits front session)) time

@@ -21,10 +21,11 @@ use Rattle.fs_machine.specs.Request.{answered}
 use Rattle.fs_machine.specs.Settle.{pending_of}
 use Rattle.fs_machine.specs.State.{started}
 use Rattle.fs_machine.specs.Tick.{later}
-use Rattle.fs_rpc.specs.MessageJson.{error_json, refused}
+use Rattle.fs_request.specs.Refused.{refused}
+use Rattle.fs_rpc.specs.MessageJson.{error_json}
 use Rattle.fs_rpc.specs.declared.envelope.SessionRequest.{SessionRequest}
-use Rattle.fs_rpc.specs.declared.request.Envelope.{Envelope}
-use Rattle.fs_rpc.specs.declared.request.Request.{Request}
+use Rattle.fs_request.specs.declared.request.Envelope.{Envelope}
+use Rattle.fs_request.specs.declared.request.Request.{Request}
 use Rattle.fs_status.specs.Refusal.{refusal_of}
 use Rattle.fs_status.specs.declared.code.Code.TheVariants.{Unimplemented}
 use Rattle.fs_status.specs.declared.reason.LineFault.TheVariants.{DoesNotApply}

@@ -4,9 +4,9 @@ use Rattle.json.specs.Token.{Token, begin_object, end_object, key, number}
 use Rattle.serde_json.specs.Data.{Data, array, no_members}
 use Rattle.serde_json.specs.View.{items_of}
 use Rattle.fs_rpc.specs.MessageJson.{batch_answer_json, with_id}
-use Rattle.fs_rpc.specs.declared.message.BatchAnswer.{BatchAnswer}
-use Rattle.fs_rpc.specs.declared.message.Message.{Message}
-use Rattle.fs_rpc.specs.declared.message.Message.TheVariants.{Commit, GetDocument, BatchGetDocuments, RunQuery, BeginTransaction, Rollback, Listen, Write, Error}
+use Rattle.fs_request.specs.declared.message.BatchAnswer.{BatchAnswer}
+use Rattle.fs_request.specs.declared.message.Message.{Message}
+use Rattle.fs_request.specs.declared.message.Message.TheVariants.{Commit, GetDocument, BatchGetDocuments, RunQuery, BeginTransaction, Rollback, Listen, Write, Error}
 use Rattle.fs_status.specs.Status.{http_of}
 use Rattle.fs_status.specs.declared.code.Code.{Code}
 use Rattle.fs_valjson.specs.Tokens.{member_tokens}

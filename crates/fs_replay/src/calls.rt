@@ -10,7 +10,7 @@ ghost use Rattle.fs_machine.specs.Request.{answered, asked};
 ghost use Rattle.fs_machine.specs.Retry.{retried, retry_answer};
 ghost use Rattle.fs_machine.specs.Settle.{pending_of, settled};
 
-use fs_rpc::Envelope;
+use fs_request::Envelope;
 use fs_server::{Answer, Server, Settled};
 use fs_status::{Id, Reason, Refusal};
 use fs_time::Micros;

@@ -10,14 +10,14 @@ ghost use Rattle.fs_machine.specs.Request.{answered};
 ghost use Rattle.fs_machine.specs.declared.config.Config.{Config};
 ghost use Rattle.fs_machine.specs.declared.limits.Limits.{Limits};
 ghost use Rattle.fs_machine.specs.declared.answer.Answer.TheVariants.{Reply};
-ghost use Rattle.fs_rpc.specs.declared.message.Message.TheVariants as message;
-ghost use Rattle.fs_rpc.specs.declared.request.Request.TheVariants.{GetDocument};
-ghost use Rattle.fs_rpc.specs.declared.when.When.TheVariants.{Released};
+ghost use Rattle.fs_request.specs.declared.message.Message.TheVariants as message;
+ghost use Rattle.fs_request.specs.declared.request.Request.TheVariants.{GetDocument};
+ghost use Rattle.fs_request.specs.declared.when.When.TheVariants.{Released};
 ghost use Rattle.fs_value.specs.declared.document.Document.{Document};
 ghost use Rattle.fs_replay.specs.BetweenLines.{IsBetweenLines};
 ghost use Rattle.fs_replay.specs.Commits.{is_commit, is_written_in, may_move, will_be_written};
 ghost use Rattle.fs_replay.specs.Lines.{IsOneLine, is_answered, is_silent, keeps_waiting, line_in_state, may_let_on, nobody_listens};
-ghost use Rattle.fs_replay.specs.Run.{CutsThroughout, GrowsThroughout, IsSerialThroughout};
+ghost use Rattle.fs_replay.specs.Run.{CutsThroughout, GrowsThroughout, IsSerialThroughout, KeptThroughout, LinesAreEvents};
 ghost use Rattle.fs_replay.specs.Step.{after_line, line_output, start};
 ghost use Rattle.fs_replay.specs.Transcript.{after_lines, transcript};
 ghost use Rattle.fs_replay.specs.declared.state.State.{State};
@@ -40,10 +40,11 @@ pub fn scripts_are_lawful()
     // What was committed explains every read in it: the same would come of transactions that run one after another.
     ensures serial { (s : State) (n : ℕ) (lines : List (List ℕ)) → IsBetweenLines s
         → IsSerial (after_lines s n lines).server.past.history }
-    // So it is of each run, wherever it is cut.
-    ensures runs_grow { (config : Config) (limits : Limits) (lines : List (List ℕ)) → AreAllowed limits → GrowsThroughout config limits lines }
-    ensures runs_are_serial { (config : Config) (limits : Limits) (lines : List (List ℕ)) → AreAllowed limits
-        → IsSerialThroughout config limits lines }
+    // So it is of each run, wherever its events are cut; and each cut between lines is one between events.
+    ensures lines_are_events { (config : Config) (limits : Limits) (lines : List (List ℕ)) → LinesAreEvents config limits lines }
+    ensures runs_kept { (config : Config) (limits : Limits) (lines : List (List ℕ)) → KeptThroughout config limits lines }
+    ensures runs_grow { (config : Config) (limits : Limits) (lines : List (List ℕ)) → GrowsThroughout config limits lines }
+    ensures runs_are_serial { (config : Config) (limits : Limits) (lines : List (List ℕ)) → IsSerialThroughout config limits lines }
     // What a session was told is, wherever it ends with NO_CHANGE, just the views of all its targets at one time.
     ensures runs_cut { (config : Config) (limits : Limits) (lines : List (List ℕ)) → AreAllowed limits → CutsThroughout config limits lines }
     // A line leaves what was committed and its times as they are that asks for no commit, or for one that is refused, aborted or waits,

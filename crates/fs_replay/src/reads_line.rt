@@ -10,7 +10,7 @@ ghost use Rattle.fs_valjson.specs.Tokens.{tokens_of};
 ghost use Rattle.fs_replay.specs.Tokens.{answers_json};
 
 use fs_path::{DocName, print_document};
-use fs_rpc::BatchAnswer;
+use fs_request::BatchAnswer;
 use fs_time::{Micros, print};
 use fs_valjson::{push_document, push_text, push_time};
 use fs_value::Document;

@@ -2,13 +2,15 @@
 ghost use Rattle.std.specs.Prelude.{◌≡◌, ◌++◌, IfOk, OnOk, false};
 ghost use Rattle.serde_json.specs.View.{view};
 ghost use Rattle.serde_json.specs.Written.{has_float};
-ghost use Rattle.fs_rpc.specs.MessageJson.{error_json, refused};
+ghost use Rattle.fs_request.specs.Refused.{refused};
+ghost use Rattle.fs_rpc.specs.MessageJson.{error_json};
 ghost use Rattle.fs_replay.specs.Outboxes.{message_line, message_lines};
 ghost use Rattle.fs_replay.specs.Reply.{json_line, line_error, refusal_json, refused_json};
 
 use crate::message_line::message_bytes;
 use fs_path::Text;
-use fs_rpc::{Message, error_json};
+use fs_request::Message;
+use fs_rpc::error_json;
 use fs_status::{Reason, Refusal, message};
 use serde_json::{Value, json};
 use std::alloc::{AllocError, Global};

@@ -5,7 +5,7 @@ ghost use Rattle.fs_machine.specs.Config.{IsAllowed};
 ghost use Rattle.fs_machine.specs.Limits.{AreAllowed};
 ghost use Rattle.fs_replay.specs.Limits.{longest_input};
 ghost use Rattle.fs_replay.specs.Moved.{TakenUpTo, IfTaken, Gained, GainedFront};
-ghost use Rattle.fs_replay.specs.Run.{CutsThroughout, Ends, GrowsThroughout, IsSerialThroughout, ReadFaults, WriteFaults, Wrote};
+ghost use Rattle.fs_replay.specs.Run.{CutsThroughout, Ends, GrowsThroughout, IsSerialThroughout, KeptThroughout, LinesAreEvents, ReadFaults, WriteFaults, Wrote};
 ghost use Rattle.fs_replay.specs.Transcript.{lines_of, transcript};
 
 use crate::gather::gather;
@@ -42,12 +42,14 @@ pub fn replay<S: Source, K: Sink>(
     ensures written { IfTaken (S.left source.old) (S.left source.new) (λ taken.
         Wrote config limits result taken (K.given sink.old) (K.given sink.new)) }
 
-    // Wherever their lines are cut, what was committed explains every read in it, and what stood then at a time that was released stands
-    // there for good.
+    // Wherever their events are cut, what always holds of a server does, what was committed by then explains every read in it, and what
+    // stood then at a time that was released stands there for good. Each cut between lines is one between events.
+    ensures lines { IfTaken (S.left source.old) (S.left source.new) (λ taken. LinesAreEvents config limits (lines_of taken)) }
+    ensures kept { IfTaken (S.left source.old) (S.left source.new) (λ taken. KeptThroughout config limits (lines_of taken)) }
     ensures serial { IfTaken (S.left source.old) (S.left source.new) (λ taken. IsSerialThroughout config limits (lines_of taken)) }
     ensures grows { IfTaken (S.left source.old) (S.left source.new) (λ taken. GrowsThroughout config limits (lines_of taken)) }
 
-    // Wherever their events are cut, and what a session was told by then ends with NO_CHANGE, whoever gathered all of it has just the views of
+    // Wherever they are cut, and what a session was told by then ends with NO_CHANGE, whoever gathered all of it has just the views of
     // all its targets at that one time, which never falls.
     ensures cuts { IfTaken (S.left source.old) (S.left source.new) (λ taken. CutsThroughout config limits (lines_of taken)) }
 

@@ -2,12 +2,13 @@
 ghost use Rattle.std.specs.Prelude.{◌≡◌, ◌++◌, codes, OnOk};
 ghost use Rattle.serde_json.specs.Data.{member, no_members};
 ghost use Rattle.fs_rpc.specs.MessageJson.{stream_answer_json, stream_answer_members, with_stream_and_token};
-ghost use Rattle.fs_rpc.specs.declared.message.StreamAnswer.TheVariants.{Committed, Refused};
+ghost use Rattle.fs_request.specs.declared.message.StreamAnswer.TheVariants.{Committed, Refused};
 ghost use Rattle.fs_valjson.specs.Tokens.{member_tokens, tokens_of};
 
 use crate::commit_line::push_results;
 use crate::message_line::push_status;
-use fs_rpc::{StreamAnswer, print_stream_token};
+use fs_request::StreamAnswer;
+use fs_rpc::print_stream_token;
 use fs_status::Code;
 use fs_time::{Micros, print};
 use fs_valjson::push_text;

@@ -35,10 +35,10 @@ use Rattle.fs_rpc.specs.ReadStreamAnswer.{stream_answer_at}
 use Rattle.fs_rpc.specs.ReadResults.{answered, batch_answer_at, query_answer_at}
 use Rattle.fs_rpc.specs.Eight.{IsEightHeld}
 use Rattle.fs_rpc.specs.ValidMessage.{IsAnswerOf, IsMessageOf}
-use Rattle.fs_rpc.specs.declared.message.BatchAnswer.{BatchAnswer}
-use Rattle.fs_rpc.specs.declared.message.BatchAnswer.TheVariants.{Found, Missing}
-use Rattle.fs_rpc.specs.declared.message.Message.{Message}
-use Rattle.fs_rpc.specs.declared.message.Message.TheVariants.{Commit, GetDocument, BatchGetDocuments, RunQuery, BeginTransaction, Rollback, Listen, Write, Error}
+use Rattle.fs_request.specs.declared.message.BatchAnswer.{BatchAnswer}
+use Rattle.fs_request.specs.declared.message.BatchAnswer.TheVariants.{Found, Missing}
+use Rattle.fs_request.specs.declared.message.Message.{Message}
+use Rattle.fs_request.specs.declared.message.Message.TheVariants.{Commit, GetDocument, BatchGetDocuments, RunQuery, BeginTransaction, Rollback, Listen, Write, Error}
 use Rattle.fs_rpc.proofs.ListenAgain.{listen_again}
 use Rattle.fs_rpc.proofs.StreamAnswerAgain.{refusal_again, results_again, stream_answer_again}
 use Rattle.fs_writejson.specs.Valid.{ResultHasNames}

@@ -21,10 +21,10 @@ use Rattle.fs_rpc.specs.RequestJson.{batch_get_json, name_json, names_json}
 use Rattle.fs_rpc.specs.RequestSteps.{IsMaskHeld, IsWhenHeld}
 use Rattle.fs_rpc.specs.Requests.{batch_get_at, each_once_at, once, once_after}
 use Rattle.fs_rpc.specs.When.{when_at}
-use Rattle.fs_rpc.specs.declared.request.Request.{Request}
-use Rattle.fs_rpc.specs.declared.request.Request.TheVariants.{BatchGetDocuments}
-use Rattle.fs_rpc.specs.declared.when.When.{When}
-use Rattle.fs_rpc.specs.declared.when.When.TheVariants.{Released, At, In}
+use Rattle.fs_request.specs.declared.request.Request.{Request}
+use Rattle.fs_request.specs.declared.request.Request.TheVariants.{BatchGetDocuments}
+use Rattle.fs_request.specs.declared.when.When.{When}
+use Rattle.fs_request.specs.declared.when.When.TheVariants.{Released, At, In}
 use Rattle.fs_path.proofs.Databases.{database_taken}
 
 -- ---- names, each once

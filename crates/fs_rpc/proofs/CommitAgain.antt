@@ -20,8 +20,8 @@ use Rattle.fs_rpc.specs.RequestJson.{commit_json, writes_json}
 use Rattle.fs_rpc.specs.RequestSteps.{IsWriteHeld}
 use Rattle.fs_rpc.specs.Requests.{commit_at}
 use Rattle.fs_rpc.specs.Eight.{IsEightHeld}
-use Rattle.fs_rpc.specs.declared.request.Request.{Request}
-use Rattle.fs_rpc.specs.declared.request.Request.TheVariants.{Commit}
+use Rattle.fs_request.specs.declared.request.Request.{Request}
+use Rattle.fs_request.specs.declared.request.Request.TheVariants.{Commit}
 use Rattle.fs_path.proofs.Databases.{database_taken}
 
 -- ---- one write

@@ -13,12 +13,12 @@ use Rattle.fs_query.specs.declared.listen.ListenMessage.{ListenMessage}
 use Rattle.fs_query.specs.declared.listen.ListenMessage.TheVariants.{Add, Remove, Reset, Current, NoChange, Changed, Deleted, Removed}
 use Rattle.fs_rpc.specs.ListenJson.{listen_json, number_json, with_targets}
 use Rattle.fs_rpc.specs.MessageJson.{batch_answer_json, begin_json, commit_json, error_json, error_members, message_json, query_answer_json, query_answers_json, result_members, stream_answer_json}
-use Rattle.fs_rpc.specs.declared.message.BatchAnswer.{BatchAnswer}
-use Rattle.fs_rpc.specs.declared.message.BatchAnswer.TheVariants.{Found, Missing}
-use Rattle.fs_rpc.specs.declared.message.StreamAnswer.{StreamAnswer}
-use Rattle.fs_rpc.specs.declared.message.StreamAnswer.TheVariants.{Stands, Committed, Refused}
-use Rattle.fs_rpc.specs.declared.message.Message.{Message}
-use Rattle.fs_rpc.specs.declared.message.Message.TheVariants.{Commit, GetDocument, BatchGetDocuments, RunQuery, BeginTransaction, Rollback, Listen, Write, Error}
+use Rattle.fs_request.specs.declared.message.BatchAnswer.{BatchAnswer}
+use Rattle.fs_request.specs.declared.message.BatchAnswer.TheVariants.{Found, Missing}
+use Rattle.fs_request.specs.declared.message.StreamAnswer.{StreamAnswer}
+use Rattle.fs_request.specs.declared.message.StreamAnswer.TheVariants.{Stands, Committed, Refused}
+use Rattle.fs_request.specs.declared.message.Message.{Message}
+use Rattle.fs_request.specs.declared.message.Message.TheVariants.{Commit, GetDocument, BatchGetDocuments, RunQuery, BeginTransaction, Rollback, Listen, Write, Error}
 
 -- ---- the parts of a message
 

@@ -13,10 +13,10 @@ use Rattle.fs_rpc.specs.RequestJson.{get_json}
 use Rattle.fs_rpc.specs.RequestSteps.{IsMaskHeld, IsWhenHeld}
 use Rattle.fs_rpc.specs.Requests.{get_at}
 use Rattle.fs_rpc.specs.When.{when_at}
-use Rattle.fs_rpc.specs.declared.request.Request.{Request}
-use Rattle.fs_rpc.specs.declared.request.Request.TheVariants.{GetDocument}
-use Rattle.fs_rpc.specs.declared.when.When.{When}
-use Rattle.fs_rpc.specs.declared.when.When.TheVariants.{Released, At, In}
+use Rattle.fs_request.specs.declared.request.Request.{Request}
+use Rattle.fs_request.specs.declared.request.Request.TheVariants.{GetDocument}
+use Rattle.fs_request.specs.declared.when.When.{When}
+use Rattle.fs_request.specs.declared.when.When.TheVariants.{Released, At, In}
 
 pub get_again : (root : Root) (name : DocName) (mask : Option (List FieldPath)) (when : When) (place : List ℕ) → IsDocumentOf root name → IsMaskHeld mask → IsWhenHeld when
     → get_at root (get_json name mask when) place ≡ Ok (GetDocument name mask when)

@@ -31,11 +31,11 @@ use Rattle.fs_rpc.specs.ListenJson.{listen_json}
 use Rattle.fs_rpc.specs.ReadListen.{absent_at, listen_at}
 use Rattle.fs_rpc.specs.ReadResults.{answered, batch_answer_at, batch_answer_members, document_in, found_or_missing, query_answer_at, query_answer_members, results_in, answers_time}
 use Rattle.fs_rpc.specs.Eight.{eight_at}
-use Rattle.fs_rpc.specs.declared.message.BatchAnswer.{BatchAnswer}
-use Rattle.fs_rpc.specs.declared.message.Message.{Message}
-use Rattle.fs_rpc.specs.declared.message.Message.TheVariants.{Write}
-use Rattle.fs_rpc.specs.declared.message.StreamAnswer.{StreamAnswer}
-use Rattle.fs_rpc.specs.declared.message.StreamAnswer.TheVariants.{Stands, Committed, Refused}
+use Rattle.fs_request.specs.declared.message.BatchAnswer.{BatchAnswer}
+use Rattle.fs_request.specs.declared.message.Message.{Message}
+use Rattle.fs_request.specs.declared.message.Message.TheVariants.{Write}
+use Rattle.fs_request.specs.declared.message.StreamAnswer.{StreamAnswer}
+use Rattle.fs_request.specs.declared.message.StreamAnswer.TheVariants.{Stands, Committed, Refused}
 use Rattle.fs_query.specs.declared.listen.ListenMessage.{ListenMessage}
 use Rattle.fs_rpc.proofs.ListenDepth.{listen_within}
 use Rattle.fs_writejson.proofs.WriteResults.{write_result_within}

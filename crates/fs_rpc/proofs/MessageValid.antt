@@ -29,7 +29,7 @@ use Rattle.fs_rpc.specs.ReadListen.{absent_at, listen_at}
 use Rattle.fs_rpc.specs.ReadResults.{answered, batch_answer_at, batch_answer_members, document_in, found_at, found_or_missing, missing_at, query_answer_at, query_answer_members, results_in, answers_time}
 use Rattle.fs_rpc.specs.Eight.{eight_at}
 use Rattle.fs_rpc.specs.ValidMessage.{HasAnswerNames, IsAnswerOf, IsListenOf, IsMessageOf}
-use Rattle.fs_rpc.specs.declared.message.Message.TheVariants.{Listen}
+use Rattle.fs_request.specs.declared.message.Message.TheVariants.{Listen}
 use Rattle.fs_rpc.proofs.ListenValid.{listen_valid}
 use Rattle.fs_writejson.proofs.WriteResults.{write_result_valid}
 use Rattle.fs_writejson.specs.Results.{write_result_at}

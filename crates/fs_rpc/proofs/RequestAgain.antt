@@ -6,9 +6,9 @@ use Rattle.fs_rpc.specs.Envelope.{envelope_at}
 use Rattle.fs_rpc.specs.RequestJson.{envelope_json, method_of, request_json}
 use Rattle.fs_rpc.specs.RequestSteps.{IsRequestHeld}
 use Rattle.fs_rpc.specs.ValidRequest.{IsAddingOf, IsRequestOf}
-use Rattle.fs_rpc.specs.declared.request.Envelope.{Envelope}
-use Rattle.fs_rpc.specs.declared.request.Request.{Request}
-use Rattle.fs_rpc.specs.declared.request.Request.TheVariants.{Commit, GetDocument, BatchGetDocuments, RunQuery, BeginTransaction, Rollback, AddTarget, RemoveTarget, Write}
+use Rattle.fs_request.specs.declared.request.Envelope.{Envelope}
+use Rattle.fs_request.specs.declared.request.Request.{Request}
+use Rattle.fs_request.specs.declared.request.Request.TheVariants.{Commit, GetDocument, BatchGetDocuments, RunQuery, BeginTransaction, Rollback, AddTarget, RemoveTarget, Write}
 use Rattle.fs_rpc.proofs.BatchGetAgain.{batch_get_again, batch_get_read}
 use Rattle.fs_rpc.proofs.CommitAgain.{commit_again, commit_read}
 use Rattle.fs_rpc.proofs.GetAgain.{get_again, get_read}

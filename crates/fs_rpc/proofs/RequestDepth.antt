@@ -32,15 +32,16 @@ use Rattle.fs_rpc.specs.ReadTargets.{labels_in, listen_request_at}
 use Rattle.fs_rpc.specs.RequestJson.{envelope_json, name_json, stream_of, token_of, with_mask, with_stream, writes_json, writes_member, writes_of}
 use Rattle.fs_rpc.specs.Requests.{batch_get_at, batch_get_members, begin_at, begin_members, commit_at, commit_members, database_at, drafts_in, get_at, get_members, mask_in, names_at, parent_at, rollback_at, rollback_members, run_query_at, run_query_members, structured_at}
 use Rattle.fs_rpc.specs.Eight.{optional_eight_at, eight_at, with_eight}
-use Rattle.fs_rpc.specs.When.{time_of, transaction_of, when_at, with_read_time, with_when}
-use Rattle.fs_rpc.specs.declared.options.TransactionOptions.{TransactionOptions}
-use Rattle.fs_rpc.specs.declared.options.TransactionOptions.TheVariants.{ReadWrite, ReadOnly}
-use Rattle.fs_rpc.specs.declared.request.Envelope.{Envelope}
-use Rattle.fs_rpc.specs.declared.request.Request.{Request}
-use Rattle.fs_rpc.specs.declared.request.Request.TheVariants.{Commit, GetDocument, BatchGetDocuments, RunQuery, BeginTransaction, Rollback, AddTarget, RemoveTarget}
-use Rattle.fs_rpc.specs.declared.request.Request.TheVariants as requests
-use Rattle.fs_rpc.specs.declared.stream_request.StreamRequest.{StreamRequest}
-use Rattle.fs_rpc.specs.declared.when.When.{When}
+use Rattle.fs_request.specs.When.{time_of, transaction_of}
+use Rattle.fs_rpc.specs.When.{when_at, with_read_time, with_when}
+use Rattle.fs_request.specs.declared.options.TransactionOptions.{TransactionOptions}
+use Rattle.fs_request.specs.declared.options.TransactionOptions.TheVariants.{ReadWrite, ReadOnly}
+use Rattle.fs_request.specs.declared.request.Envelope.{Envelope}
+use Rattle.fs_request.specs.declared.request.Request.{Request}
+use Rattle.fs_request.specs.declared.request.Request.TheVariants.{Commit, GetDocument, BatchGetDocuments, RunQuery, BeginTransaction, Rollback, AddTarget, RemoveTarget}
+use Rattle.fs_request.specs.declared.request.Request.TheVariants as requests
+use Rattle.fs_request.specs.declared.stream_request.StreamRequest.{StreamRequest}
+use Rattle.fs_request.specs.declared.when.When.{When}
 use Rattle.fs_rpc.proofs.TargetsDepth.{IsWithin, listen_within, names_flat}
 
 -- ---- members in front of others

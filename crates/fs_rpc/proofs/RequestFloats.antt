@@ -18,13 +18,14 @@ use Rattle.fs_rpc.specs.Id.{with_id_put}
 use Rattle.fs_rpc.specs.RequestJson.{envelope_json, envelope_members, method_of, names_json, request_json, stream_of, token_of, with_mask, with_stream, with_target, with_token, writes_json, writes_member, writes_of}
 use Rattle.fs_rpc.specs.RequestSteps.{IsMaskHeld, IsRequestHeld, IsTargetHeld, IsWriteHeld}
 use Rattle.fs_rpc.specs.Eight.{with_eight}
-use Rattle.fs_rpc.specs.When.{time_of, transaction_of, with_read_time, with_when}
-use Rattle.fs_rpc.specs.declared.options.TransactionOptions.TheVariants.{ReadWrite, ReadOnly}
-use Rattle.fs_rpc.specs.declared.request.Envelope.{Envelope}
-use Rattle.fs_rpc.specs.declared.request.Request.{Request}
-use Rattle.fs_rpc.specs.declared.request.Request.TheVariants.{Commit, GetDocument, BatchGetDocuments, RunQuery, BeginTransaction, Rollback, AddTarget, RemoveTarget}
-use Rattle.fs_rpc.specs.declared.request.Request.TheVariants as requests
-use Rattle.fs_rpc.specs.declared.when.When.{When}
+use Rattle.fs_request.specs.When.{time_of, transaction_of}
+use Rattle.fs_rpc.specs.When.{with_read_time, with_when}
+use Rattle.fs_request.specs.declared.options.TransactionOptions.TheVariants.{ReadWrite, ReadOnly}
+use Rattle.fs_request.specs.declared.request.Envelope.{Envelope}
+use Rattle.fs_request.specs.declared.request.Request.{Request}
+use Rattle.fs_request.specs.declared.request.Request.TheVariants.{Commit, GetDocument, BatchGetDocuments, RunQuery, BeginTransaction, Rollback, AddTarget, RemoveTarget}
+use Rattle.fs_request.specs.declared.request.Request.TheVariants as requests
+use Rattle.fs_request.specs.declared.when.When.{When}
 
 -- ---- the parts of a request
 

@@ -29,7 +29,7 @@ use Rattle.fs_rpc.specs.ReadStreams.{asked_with, stream_in, stream_request_at, t
 use Rattle.fs_rpc.specs.ReadTargets.{labels_in}
 use Rattle.fs_rpc.specs.ValidRequest.{IsAskedOf, IsRequestOf}
 use Rattle.fs_rpc.specs.When.{when_at}
-use Rattle.fs_rpc.specs.declared.when.When.{When}
+use Rattle.fs_request.specs.declared.when.When.{When}
 use Rattle.fs_rpc.proofs.NamesValid.{AreNames, database_valid, names_valid}
 use Rattle.fs_rpc.proofs.TargetsValid.{listen_request_valid}
 

@@ -17,11 +17,12 @@ use Rattle.fs_rpc.specs.RequestJson.{run_query_json}
 use Rattle.fs_rpc.specs.RequestSteps.{IsWhenHeld}
 use Rattle.fs_rpc.specs.Requests.{run_query_at, structured_at}
 use Rattle.fs_rpc.specs.Eight.{with_eight}
-use Rattle.fs_rpc.specs.When.{time_of, transaction_of, when_at, with_read_time}
-use Rattle.fs_rpc.specs.declared.request.Request.{Request}
-use Rattle.fs_rpc.specs.declared.request.Request.TheVariants.{RunQuery}
-use Rattle.fs_rpc.specs.declared.when.When.{When}
-use Rattle.fs_rpc.specs.declared.when.When.TheVariants.{Released, At, In}
+use Rattle.fs_request.specs.When.{time_of, transaction_of}
+use Rattle.fs_rpc.specs.When.{when_at, with_read_time}
+use Rattle.fs_request.specs.declared.request.Request.{Request}
+use Rattle.fs_request.specs.declared.request.Request.TheVariants.{RunQuery}
+use Rattle.fs_request.specs.declared.when.When.{When}
+use Rattle.fs_request.specs.declared.when.When.TheVariants.{Released, At, In}
 use Rattle.fs_path.proofs.Documents.{parent_only}
 use Rattle.fs_rpc.proofs.Structured.{structured_gives, asked_when}
 

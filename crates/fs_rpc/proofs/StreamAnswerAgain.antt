@@ -18,9 +18,9 @@ use Rattle.fs_rpc.specs.MessageSteps.{IsStreamHeld}
 use Rattle.fs_rpc.specs.ReadError.{refusal_at}
 use Rattle.fs_rpc.specs.ReadStreamAnswer.{stream_answer_at}
 use Rattle.fs_rpc.specs.ValidMessage.{HasAnswerNames}
-use Rattle.fs_rpc.specs.declared.message.Message.TheVariants.{Write}
-use Rattle.fs_rpc.specs.declared.message.StreamAnswer.{StreamAnswer}
-use Rattle.fs_rpc.specs.declared.message.StreamAnswer.TheVariants.{Stands, Committed, Refused}
+use Rattle.fs_request.specs.declared.message.Message.TheVariants.{Write}
+use Rattle.fs_request.specs.declared.message.StreamAnswer.{StreamAnswer}
+use Rattle.fs_request.specs.declared.message.StreamAnswer.TheVariants.{Stands, Committed, Refused}
 
 -- ---- results of writes
 

@@ -14,10 +14,10 @@ use Rattle.fs_rpc.specs.ReadStreams.{stream_request_at}
 use Rattle.fs_rpc.specs.RequestJson.{stream_request_json, writes_json}
 use Rattle.fs_rpc.specs.RequestSteps.{IsAskedHeld}
 use Rattle.fs_rpc.specs.ValidRequest.{IsAskedOf}
-use Rattle.fs_rpc.specs.declared.request.Request.{Request}
-use Rattle.fs_rpc.specs.declared.request.Request.TheVariants as requests
-use Rattle.fs_rpc.specs.declared.stream_request.StreamRequest.{StreamRequest}
-use Rattle.fs_rpc.specs.declared.stream_request.StreamRequest.TheVariants.{Open, Resume, Batch, Ask, Mixed}
+use Rattle.fs_request.specs.declared.request.Request.{Request}
+use Rattle.fs_request.specs.declared.request.Request.TheVariants as requests
+use Rattle.fs_request.specs.declared.stream_request.StreamRequest.{StreamRequest}
+use Rattle.fs_request.specs.declared.stream_request.StreamRequest.TheVariants.{Open, Resume, Batch, Ask, Mixed}
 use Rattle.fs_rpc.proofs.CommitAgain.{AllDrafted, all_drafted, judged}
 
 -- ---- without writes

@@ -10,7 +10,7 @@ use Rattle.fs_query.specs.Asked.{Asked}
 use Rattle.fs_queryjson.specs.Query.{permitted_at, walked_at}
 use Rattle.fs_rpc.specs.Requests.{structured_at}
 use Rattle.fs_rpc.specs.When.{when_at}
-use Rattle.fs_rpc.specs.declared.when.When.{When}
+use Rattle.fs_request.specs.declared.when.When.{When}
 
 -- a fault of the walk
 pub walk_fails : (parent : List (List ℕ)) (d s : Data) (place : List ℕ) (bad : Bad) → required_at (codes "structuredQuery") d place ≡ Ok s

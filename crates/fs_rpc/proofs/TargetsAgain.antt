@@ -26,8 +26,8 @@ use Rattle.fs_rpc.specs.ReadTargets.{add_target_at, documents_target_at, listen_
 use Rattle.fs_rpc.specs.RequestJson.{add_target_json, database_json, documents_target_json, listen_add_json, listen_remove_json, with_token}
 use Rattle.fs_rpc.specs.RequestSteps.{IsNumberHeld, IsTargetHeld}
 use Rattle.fs_rpc.specs.ValidRequest.{IsAddingOf, IsTargetOf}
-use Rattle.fs_rpc.specs.declared.request.Request.{Request}
-use Rattle.fs_rpc.specs.declared.request.Request.TheVariants.{AddTarget, RemoveTarget}
+use Rattle.fs_request.specs.declared.request.Request.{Request}
+use Rattle.fs_request.specs.declared.request.Request.TheVariants.{AddTarget, RemoveTarget}
 use Rattle.fs_rpc.proofs.BatchGetAgain.{names_again}
 use Rattle.fs_rpc.proofs.ListenAgain.{number_again}
 use Rattle.fs_rpc.proofs.RunQueryAgain.{query_given}

@@ -19,8 +19,8 @@ use Rattle.fs_rpc.specs.ListenJson.{number_json}
 use Rattle.fs_rpc.specs.ReadTargets.{add_target_at, add_target_members, change_names, documents_target_at, documents_target_members, expected_in, labels_in, listen_request_at, listen_request_members, permitted_request, permitted_target, query_target_at, query_target_members, remove_target_at, some_names, target_at, target_change_by, target_id_at, target_members, target_query_place, token_in}
 use Rattle.fs_rpc.specs.RequestJson.{names_json, request_json, with_target, with_token}
 use Rattle.fs_rpc.specs.Requests.{database_at, names_at, parent_at}
-use Rattle.fs_rpc.specs.declared.request.Request.{Request}
-use Rattle.fs_rpc.specs.declared.request.Request.TheVariants.{Commit, GetDocument, BatchGetDocuments, RunQuery, BeginTransaction, Rollback, AddTarget, RemoveTarget, Write}
+use Rattle.fs_request.specs.declared.request.Request.{Request}
+use Rattle.fs_request.specs.declared.request.Request.TheVariants.{Commit, GetDocument, BatchGetDocuments, RunQuery, BeginTransaction, Rollback, AddTarget, RemoveTarget, Write}
 
 -- what is written under the method
 abbrev pub IsWithin : ℕ → Request → Type 0

@@ -25,8 +25,8 @@ use Rattle.fs_rpc.specs.ReadTargets.{add_target_at, add_target_members, change_n
 use Rattle.fs_rpc.specs.Requests.{database_at, names_at, parent_at}
 use Rattle.fs_rpc.specs.ValidMessage.{IsSmall}
 use Rattle.fs_rpc.specs.ValidRequest.{IsRequestOf, IsTargetOf}
-use Rattle.fs_rpc.specs.declared.request.Request.{Request}
-use Rattle.fs_rpc.specs.declared.request.Request.TheVariants.{Commit, GetDocument, BatchGetDocuments, RunQuery, BeginTransaction, Rollback, AddTarget, RemoveTarget, Write}
+use Rattle.fs_request.specs.declared.request.Request.{Request}
+use Rattle.fs_request.specs.declared.request.Request.TheVariants.{Commit, GetDocument, BatchGetDocuments, RunQuery, BeginTransaction, Rollback, AddTarget, RemoveTarget, Write}
 use Rattle.fs_rpc.proofs.ListenValid.{number_small}
 use Rattle.fs_rpc.proofs.NamesValid.{AreNames, database_valid, names_valid}
 

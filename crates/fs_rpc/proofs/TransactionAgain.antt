@@ -11,10 +11,10 @@ use Rattle.fs_rpc.specs.RequestJson.{begin_json, rollback_json}
 use Rattle.fs_rpc.specs.RequestSteps.{AreOptionsHeld}
 use Rattle.fs_rpc.specs.Requests.{begin_at, rollback_at}
 use Rattle.fs_rpc.specs.Eight.{IsEightHeld}
-use Rattle.fs_rpc.specs.declared.options.TransactionOptions.{TransactionOptions}
-use Rattle.fs_rpc.specs.declared.options.TransactionOptions.TheVariants.{ReadWrite, ReadOnly}
-use Rattle.fs_rpc.specs.declared.request.Request.{Request}
-use Rattle.fs_rpc.specs.declared.request.Request.TheVariants.{BeginTransaction, Rollback}
+use Rattle.fs_request.specs.declared.options.TransactionOptions.{TransactionOptions}
+use Rattle.fs_request.specs.declared.options.TransactionOptions.TheVariants.{ReadWrite, ReadOnly}
+use Rattle.fs_request.specs.declared.request.Request.{Request}
+use Rattle.fs_request.specs.declared.request.Request.TheVariants.{BeginTransaction, Rollback}
 use Rattle.fs_path.proofs.Databases.{database_taken}
 
 options_again : (options : TransactionOptions) (place : List ℕ) → AreOptionsHeld options → options_at (options_json options) place ≡ Ok options

@@ -8,7 +8,7 @@ use Rattle.fs_json.specs.declared.bad.Bad.TheVariants.{Method}
 use Rattle.fs_rpc.specs.ReadStreams.{stream_request_at}
 use Rattle.fs_rpc.specs.ReadTargets.{listen_request_at}
 use Rattle.fs_rpc.specs.Requests.{batch_get_at, begin_at, commit_at, get_at, rollback_at, run_query_at}
-use Rattle.fs_rpc.specs.declared.request.Request.{Request}
+use Rattle.fs_request.specs.declared.request.Request.{Request}
 
 abbrev pub request_at : Root → List ℕ → Data → Result Request Bad
 request_at root method d =

@@ -13,7 +13,7 @@ use Rattle.fs_rpc.specs.Id.{id_at}
 use Rattle.fs_rpc.specs.Methods.{methods, envelope_head, session_head}
 use Rattle.fs_rpc.specs.ByMethod.{request_at}
 use Rattle.fs_rpc.specs.declared.envelope.SessionRequest.{SessionRequest}
-use Rattle.fs_rpc.specs.declared.request.Envelope.{Envelope}
+use Rattle.fs_request.specs.declared.request.Envelope.{Envelope}
 
 unfoldable pub envelope_at : Root → Data → Result Envelope Bad
 envelope_at root d = do

@@ -15,10 +15,8 @@ use Rattle.serde_json.specs.View.{items_of}
 use Rattle.fs_json.specs.Members.{with_one}
 use Rattle.fs_json.specs.Time.{time_json}
 use Rattle.fs_path.specs.Document.{document_text}
-use Rattle.fs_status.specs.Message.{message_text}
 use Rattle.fs_status.specs.Status.{http_of, status_text}
 use Rattle.fs_status.specs.declared.code.Code.{Code}
-use Rattle.fs_status.specs.declared.refusal.Refusal.{Refusal}
 use Rattle.fs_valjson.specs.Document.{document_json}
 use Rattle.fs_value.specs.declared.document.Document.{Document}
 use Rattle.fs_write.specs.declared.write_result.WriteResult.{WriteResult}
@@ -26,22 +24,18 @@ use Rattle.fs_writejson.specs.Results.{result_json}
 use Rattle.fs_rpc.specs.ListenJson.{listen_json}
 use Rattle.fs_rpc.specs.Decimal.{decimal_json}
 use Rattle.fs_rpc.specs.Eight.{eight_json}
-use Rattle.fs_rpc.specs.declared.message.BatchAnswer.{BatchAnswer}
-use Rattle.fs_rpc.specs.declared.message.BatchAnswer.TheVariants.{Found, Missing}
-use Rattle.fs_rpc.specs.declared.message.StreamAnswer.{StreamAnswer}
-use Rattle.fs_rpc.specs.declared.message.StreamAnswer.TheVariants.{Stands, Committed, Refused}
-use Rattle.fs_rpc.specs.declared.message.Message.{Message}
-use Rattle.fs_rpc.specs.declared.message.Message.TheVariants.{Commit, GetDocument, BatchGetDocuments, RunQuery, BeginTransaction, Rollback, Listen, Write, Error}
+use Rattle.fs_request.specs.declared.message.BatchAnswer.{BatchAnswer}
+use Rattle.fs_request.specs.declared.message.BatchAnswer.TheVariants.{Found, Missing}
+use Rattle.fs_request.specs.declared.message.StreamAnswer.{StreamAnswer}
+use Rattle.fs_request.specs.declared.message.StreamAnswer.TheVariants.{Stands, Committed, Refused}
+use Rattle.fs_request.specs.declared.message.Message.{Message}
+use Rattle.fs_request.specs.declared.message.Message.TheVariants.{Commit, GetDocument, BatchGetDocuments, RunQuery, BeginTransaction, Rollback, Listen, Write, Error}
 
 -- ---- errors
 
 -- `{"code":404,"message":"..","status":"NOT_FOUND"}`
 abbrev pub error_json : Code → List ℕ → Data
 error_json code message = object (member (codes "code") (number (unsigned (http_of code))) (member (codes "message") (string message) (member (codes "status") (string (status_text code)) no_members)))
-
--- the message that tells a refusal
-abbrev pub refused : Option (List ℕ) → Refusal → Message
-refused id refusal = Error id refusal.code (message_text refusal.reason)
 
 -- ---- results
 

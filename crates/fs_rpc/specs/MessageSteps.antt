@@ -20,12 +20,12 @@ use Rattle.fs_rpc.specs.Decimal.{IsDecimalHeld, decimal_json}
 use Rattle.fs_rpc.specs.Eight.{IsEightHeld, eight_json}
 use Rattle.fs_rpc.specs.MessageJson.{error_json}
 use Rattle.fs_rpc.specs.Steps.{with_list_put}
-use Rattle.fs_rpc.specs.declared.message.BatchAnswer.{BatchAnswer}
-use Rattle.fs_rpc.specs.declared.message.BatchAnswer.TheVariants.{Found, Missing}
-use Rattle.fs_rpc.specs.declared.message.StreamAnswer.{StreamAnswer}
-use Rattle.fs_rpc.specs.declared.message.StreamAnswer.TheVariants.{Stands, Committed, Refused}
-use Rattle.fs_rpc.specs.declared.message.Message.{Message}
-use Rattle.fs_rpc.specs.declared.message.Message.TheVariants.{Commit, GetDocument, BatchGetDocuments, RunQuery, BeginTransaction, Rollback, Listen, Write, Error}
+use Rattle.fs_request.specs.declared.message.BatchAnswer.{BatchAnswer}
+use Rattle.fs_request.specs.declared.message.BatchAnswer.TheVariants.{Found, Missing}
+use Rattle.fs_request.specs.declared.message.StreamAnswer.{StreamAnswer}
+use Rattle.fs_request.specs.declared.message.StreamAnswer.TheVariants.{Stands, Committed, Refused}
+use Rattle.fs_request.specs.declared.message.Message.{Message}
+use Rattle.fs_request.specs.declared.message.Message.TheVariants.{Commit, GetDocument, BatchGetDocuments, RunQuery, BeginTransaction, Rollback, Listen, Write, Error}
 
 -- an object of this member and the time of the read
 abbrev pub timed_put : List ℕ → Data → ℤ → Data

@@ -16,8 +16,8 @@ use Rattle.fs_json.specs.Time.{optional_time_at}
 use Rattle.fs_json.specs.declared.bad.Bad.{Bad}
 use Rattle.fs_rpc.specs.Eight.{optional_eight_at}
 use Rattle.fs_rpc.specs.When.{with_read_time}
-use Rattle.fs_rpc.specs.declared.options.TransactionOptions.{TransactionOptions}
-use Rattle.fs_rpc.specs.declared.options.TransactionOptions.TheVariants.{ReadWrite, ReadOnly}
+use Rattle.fs_request.specs.declared.options.TransactionOptions.{TransactionOptions}
+use Rattle.fs_request.specs.declared.options.TransactionOptions.TheVariants.{ReadWrite, ReadOnly}
 
 -- ---- reading
 

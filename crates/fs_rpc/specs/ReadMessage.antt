@@ -26,8 +26,8 @@ use Rattle.fs_rpc.specs.ReadResults.{results_in, batch_answer_at, query_answer_a
 use Rattle.fs_rpc.specs.ReadStreamAnswer.{stream_answer_at}
 use Rattle.fs_json.specs.Time.{required_time_at}
 use Rattle.fs_rpc.specs.Eight.{eight_at}
-use Rattle.fs_rpc.specs.declared.message.Message.{Message}
-use Rattle.fs_rpc.specs.declared.message.Message.TheVariants.{Commit, GetDocument, BatchGetDocuments, RunQuery, BeginTransaction, Rollback, Listen, Error}
+use Rattle.fs_request.specs.declared.message.Message.{Message}
+use Rattle.fs_request.specs.declared.message.Message.TheVariants.{Commit, GetDocument, BatchGetDocuments, RunQuery, BeginTransaction, Rollback, Listen, Error}
 
 -- ---- errors
 

@@ -19,10 +19,10 @@ use Rattle.fs_rpc.specs.Eight.{eight_at}
 use Rattle.fs_rpc.specs.ReadError.{refusal_at}
 use Rattle.fs_rpc.specs.ReadListen.{absent_at}
 use Rattle.fs_rpc.specs.ReadResults.{results_in}
-use Rattle.fs_rpc.specs.declared.message.Message.{Message}
-use Rattle.fs_rpc.specs.declared.message.Message.TheVariants.{Write}
-use Rattle.fs_rpc.specs.declared.message.StreamAnswer.{StreamAnswer}
-use Rattle.fs_rpc.specs.declared.message.StreamAnswer.TheVariants.{Stands, Committed, Refused}
+use Rattle.fs_request.specs.declared.message.Message.{Message}
+use Rattle.fs_request.specs.declared.message.Message.TheVariants.{Write}
+use Rattle.fs_request.specs.declared.message.StreamAnswer.{StreamAnswer}
+use Rattle.fs_request.specs.declared.message.StreamAnswer.TheVariants.{Stands, Committed, Refused}
 
 abbrev pub stream_answer_members : List (List ℕ)
 stream_answer_members = codes "commitTime" ∷ codes "error" ∷ codes "streamId" ∷ codes "streamToken" ∷ codes "writeResults" ∷ []

@@ -23,10 +23,10 @@ use Rattle.fs_rpc.specs.Decimal.{decimal_at}
 use Rattle.fs_rpc.specs.Eight.{optional_eight_at}
 use Rattle.fs_rpc.specs.ReadTargets.{labels_in}
 use Rattle.fs_rpc.specs.Requests.{database_at, drafts_in}
-use Rattle.fs_rpc.specs.declared.request.Request.{Request}
-use Rattle.fs_rpc.specs.declared.request.Request.TheVariants as requests
-use Rattle.fs_rpc.specs.declared.stream_request.StreamRequest.{StreamRequest}
-use Rattle.fs_rpc.specs.declared.stream_request.StreamRequest.TheVariants.{Open, Resume, Batch, Ask, Mixed}
+use Rattle.fs_request.specs.declared.request.Request.{Request}
+use Rattle.fs_request.specs.declared.request.Request.TheVariants as requests
+use Rattle.fs_request.specs.declared.stream_request.StreamRequest.{StreamRequest}
+use Rattle.fs_request.specs.declared.stream_request.StreamRequest.TheVariants.{Open, Resume, Batch, Ask, Mixed}
 
 -- in the order of the walk
 abbrev pub write_members : List (List ℕ)

@@ -23,8 +23,8 @@ use Rattle.fs_query.specs.declared.target.Target.TheVariants as target
 use Rattle.fs_queryjson.specs.Query.{listened_at, permitted_at}
 use Rattle.fs_rpc.specs.ReadListen.{number_at, token_at}
 use Rattle.fs_rpc.specs.Requests.{database_at, names_at, parent_at}
-use Rattle.fs_rpc.specs.declared.request.Request.{Request}
-use Rattle.fs_rpc.specs.declared.request.Request.TheVariants.{Commit, GetDocument, BatchGetDocuments, RunQuery, BeginTransaction, Rollback, AddTarget, RemoveTarget, Write}
+use Rattle.fs_request.specs.declared.request.Request.{Request}
+use Rattle.fs_request.specs.declared.request.Request.TheVariants.{Commit, GetDocument, BatchGetDocuments, RunQuery, BeginTransaction, Rollback, AddTarget, RemoveTarget, Write}
 
 -- ---- what a target is
 

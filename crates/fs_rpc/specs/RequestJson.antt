@@ -45,15 +45,16 @@ use Rattle.fs_rpc.specs.ListenJson.{number_json}
 use Rattle.fs_rpc.specs.Options.{options_json}
 use Rattle.fs_rpc.specs.Decimal.{decimal_json}
 use Rattle.fs_rpc.specs.Eight.{eight_json, with_eight}
-use Rattle.fs_rpc.specs.When.{time_of, transaction_of, with_read_time, with_when}
-use Rattle.fs_rpc.specs.declared.options.TransactionOptions.{TransactionOptions}
-use Rattle.fs_rpc.specs.declared.request.Envelope.{Envelope}
-use Rattle.fs_rpc.specs.declared.request.Request.{Request}
-use Rattle.fs_rpc.specs.declared.request.Request.TheVariants.{Commit, GetDocument, BatchGetDocuments, RunQuery, BeginTransaction, Rollback, AddTarget, RemoveTarget}
-use Rattle.fs_rpc.specs.declared.request.Request.TheVariants as requests
-use Rattle.fs_rpc.specs.declared.stream_request.StreamRequest.{StreamRequest}
-use Rattle.fs_rpc.specs.declared.stream_request.StreamRequest.TheVariants.{Open, Resume, Batch, Ask, Mixed}
-use Rattle.fs_rpc.specs.declared.when.When.{When}
+use Rattle.fs_request.specs.When.{time_of, transaction_of}
+use Rattle.fs_rpc.specs.When.{with_read_time, with_when}
+use Rattle.fs_request.specs.declared.options.TransactionOptions.{TransactionOptions}
+use Rattle.fs_request.specs.declared.request.Envelope.{Envelope}
+use Rattle.fs_request.specs.declared.request.Request.{Request}
+use Rattle.fs_request.specs.declared.request.Request.TheVariants.{Commit, GetDocument, BatchGetDocuments, RunQuery, BeginTransaction, Rollback, AddTarget, RemoveTarget}
+use Rattle.fs_request.specs.declared.request.Request.TheVariants as requests
+use Rattle.fs_request.specs.declared.stream_request.StreamRequest.{StreamRequest}
+use Rattle.fs_request.specs.declared.stream_request.StreamRequest.TheVariants.{Open, Resume, Batch, Ask, Mixed}
+use Rattle.fs_request.specs.declared.when.When.{When}
 
 -- ---- parts
 

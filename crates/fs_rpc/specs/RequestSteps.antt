@@ -28,14 +28,14 @@ use Rattle.fs_rpc.specs.ReadTargets.{labels_in, permitted_request}
 use Rattle.fs_rpc.specs.RequestJson.{documents_target_json, query_target_json, stream_of, token_of, writes_of}
 use Rattle.fs_rpc.specs.Decimal.{IsDecimalHeld, decimal_json}
 use Rattle.fs_rpc.specs.Eight.{IsEightHeld, eight_json}
-use Rattle.fs_rpc.specs.declared.options.TransactionOptions.{TransactionOptions}
-use Rattle.fs_rpc.specs.declared.options.TransactionOptions.TheVariants.{ReadWrite, ReadOnly}
-use Rattle.fs_rpc.specs.declared.request.Request.{Request}
-use Rattle.fs_rpc.specs.declared.request.Request.TheVariants.{Commit, GetDocument, BatchGetDocuments, RunQuery, BeginTransaction, Rollback, AddTarget, RemoveTarget}
-use Rattle.fs_rpc.specs.declared.request.Request.TheVariants as requests
-use Rattle.fs_rpc.specs.declared.stream_request.StreamRequest.{StreamRequest}
-use Rattle.fs_rpc.specs.declared.when.When.{When}
-use Rattle.fs_rpc.specs.declared.when.When.TheVariants.{Released, At, In}
+use Rattle.fs_request.specs.declared.options.TransactionOptions.{TransactionOptions}
+use Rattle.fs_request.specs.declared.options.TransactionOptions.TheVariants.{ReadWrite, ReadOnly}
+use Rattle.fs_request.specs.declared.request.Request.{Request}
+use Rattle.fs_request.specs.declared.request.Request.TheVariants.{Commit, GetDocument, BatchGetDocuments, RunQuery, BeginTransaction, Rollback, AddTarget, RemoveTarget}
+use Rattle.fs_request.specs.declared.request.Request.TheVariants as requests
+use Rattle.fs_request.specs.declared.stream_request.StreamRequest.{StreamRequest}
+use Rattle.fs_request.specs.declared.when.When.{When}
+use Rattle.fs_request.specs.declared.when.When.TheVariants.{Released, At, In}
 
 -- ---- what is read
 

@@ -31,9 +31,9 @@ use Rattle.fs_writejson.specs.declared.draft.Draft.{Draft}
 use Rattle.fs_rpc.specs.Options.{options_in}
 use Rattle.fs_rpc.specs.Eight.{optional_eight_at, eight_at}
 use Rattle.fs_rpc.specs.When.{when_at, when_members}
-use Rattle.fs_rpc.specs.declared.request.Request.{Request}
-use Rattle.fs_rpc.specs.declared.request.Request.TheVariants.{Commit, GetDocument, BatchGetDocuments, RunQuery, BeginTransaction, Rollback}
-use Rattle.fs_rpc.specs.declared.when.When.{When}
+use Rattle.fs_request.specs.declared.request.Request.{Request}
+use Rattle.fs_request.specs.declared.request.Request.TheVariants.{Commit, GetDocument, BatchGetDocuments, RunQuery, BeginTransaction, Rollback}
+use Rattle.fs_request.specs.declared.when.When.{When}
 
 -- ---- members
 

@@ -6,12 +6,12 @@ use Rattle.fs_path.specs.declared.name.Root.{Root}
 use Rattle.fs_query.specs.declared.listen.ListenMessage.{ListenMessage}
 use Rattle.fs_query.specs.declared.listen.ListenMessage.TheVariants.{Add, Remove, Reset, Current, NoChange, Changed, Deleted, Removed}
 use Rattle.fs_valjson.specs.Valid.{IsValid}
-use Rattle.fs_rpc.specs.declared.message.BatchAnswer.{BatchAnswer}
-use Rattle.fs_rpc.specs.declared.message.BatchAnswer.TheVariants.{Found, Missing}
-use Rattle.fs_rpc.specs.declared.message.StreamAnswer.{StreamAnswer}
-use Rattle.fs_rpc.specs.declared.message.StreamAnswer.TheVariants.{Stands, Committed, Refused}
-use Rattle.fs_rpc.specs.declared.message.Message.{Message}
-use Rattle.fs_rpc.specs.declared.message.Message.TheVariants.{Commit, GetDocument, BatchGetDocuments, RunQuery, BeginTransaction, Rollback, Listen, Write, Error}
+use Rattle.fs_request.specs.declared.message.BatchAnswer.{BatchAnswer}
+use Rattle.fs_request.specs.declared.message.BatchAnswer.TheVariants.{Found, Missing}
+use Rattle.fs_request.specs.declared.message.StreamAnswer.{StreamAnswer}
+use Rattle.fs_request.specs.declared.message.StreamAnswer.TheVariants.{Stands, Committed, Refused}
+use Rattle.fs_request.specs.declared.message.Message.{Message}
+use Rattle.fs_request.specs.declared.message.Message.TheVariants.{Commit, GetDocument, BatchGetDocuments, RunQuery, BeginTransaction, Rollback, Listen, Write, Error}
 use Rattle.fs_writejson.specs.Valid.{ResultHasNames}
 
 -- what is told of a name of the root

@@ -13,9 +13,10 @@ use Rattle.fs_json.specs.Answer.{made, ◌>>=◌}
 use Rattle.fs_json.specs.Members.{at_most_one_at}
 use Rattle.fs_json.specs.Time.{time_at, time_json}
 use Rattle.fs_json.specs.declared.bad.Bad.{Bad}
+use Rattle.fs_request.specs.When.{time_of, transaction_of}
 use Rattle.fs_rpc.specs.Eight.{eight_at, with_eight}
-use Rattle.fs_rpc.specs.declared.when.When.{When}
-use Rattle.fs_rpc.specs.declared.when.When.TheVariants.{Released, At, In}
+use Rattle.fs_request.specs.declared.when.When.{When}
+use Rattle.fs_request.specs.declared.when.When.TheVariants.{Released, At, In}
 
 -- ---- reading
 
@@ -38,17 +39,6 @@ when_at d place = at_most_one_at when_members d place >>= λ one. option_map_or 
 abbrev pub with_read_time : Option ℤ → Members → Members
 with_read_time None rest = rest
 with_read_time (Some time) rest = member (codes "readTime") (time_json time) rest
-
--- the time and the transaction that are given
-abbrev pub time_of : When → Option ℤ
-time_of Released = None
-time_of (At time) = Some time
-time_of (In n) = None
-
-abbrev pub transaction_of : When → Option ℕ
-transaction_of Released = None
-transaction_of (At time) = None
-transaction_of (In n) = Some n
 
 -- the one that is given, in front of what follows
 abbrev pub with_when : When → Members → Members

@@ -9,7 +9,6 @@ ghost use Rattle.fs_json.specs.Answer.{Gives};
 ghost use Rattle.fs_json.specs.Walk.{each_at};
 ghost use Rattle.fs_rpc.specs.ReadResults.{answered, batch_answer_at, document_in, found_at, is_one_answer, missing_at, query_answer_at, answers_time};
 
-use crate::message::{Answers, BatchAnswer};
 use crate::names::{
     BATCH_ANSWER_MEMBERS, DOCUMENT, FOUND, FOUND_OR_MISSING, MISSING, QUERY_ANSWER_MEMBERS,
     READ_TIME,
@@ -18,6 +17,7 @@ use fs_json::{
     Bad, ReadsItem, member, one_of, only, read_document_name, read_items, read_required_time,
 };
 use fs_path::{List as Items, Root, Way};
+use fs_request::{Answers, BatchAnswer};
 use fs_time::Micros;
 use fs_valjson::read_document;
 use fs_value::{Document, Documents};

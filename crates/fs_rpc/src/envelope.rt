@@ -13,9 +13,9 @@ use crate::id::read_id;
 use crate::message_read::read_json;
 use crate::names::{ENVELOPE_HEAD, METHODS, SESSION, SESSION_HEAD};
 use crate::read::read_method;
-use crate::request::{Envelope, Request};
 use fs_json::{Bad, member, one_of, only_of_two, read_text};
 use fs_path::{Root, Rule, Text, Way};
+use fs_request::{Envelope, Request};
 use serde_json::Value;
 use std::alloc::{AllocError, Global};
 

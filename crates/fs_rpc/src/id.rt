@@ -1,5 +1,5 @@
 //! Ids, by which an answer is told from others.
-ghost use Rattle.std.specs.Prelude.{◌≡◌, ℕ, List, Option, IfOk, OnOk};
+ghost use Rattle.std.specs.Prelude.{◌≡◌, ℕ, List, Option, OnOk};
 ghost use Rattle.serde_json.specs.View.{members_view, view as json};
 ghost use Rattle.fs_json.specs.Answer.{Gives};
 ghost use Rattle.fs_rpc.specs.Id.{id_at, with_id_put};
@@ -32,15 +32,5 @@ pub(crate) fn put_id(
     match id {
         Some(id) => serde_json::put(members, alloc, ID, write_text(alloc, id)?),
         None => Ok(()),
-    }
-}
-
-/// A copy of an id, where there is one.
-pub fn copy_id(alloc: Global, id: &Option<Text>) -> Result<Option<Text>, AllocError>
-    ensures { IfOk result (λ i. i ≡ id.now) }
-{
-    match id {
-        Some(id) => Ok(Some(id.copy(alloc)?)),
-        None => Ok(None),
     }
 }

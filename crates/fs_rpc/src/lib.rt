@@ -1,4 +1,4 @@
-//! Firestore's requests and messages: what they ask and answer, read from JSON with the place of each fault, and written.
+//! Firestore's requests and messages in JSON: read, with the place of each fault, and written.
 #![tactic(auto)]
 
 mod answers;
@@ -11,18 +11,15 @@ mod id;
 mod list;
 mod listen_read;
 mod listen_write;
-mod message;
 mod message_read;
 mod message_write;
 mod names;
 mod options;
 mod read;
-mod request;
 mod request_write;
 mod results;
 mod stream_answer_read;
 mod stream_answer_write;
-mod stream_request;
 mod streams_read;
 mod streams_write;
 mod targets_read;
@@ -32,14 +29,8 @@ mod when;
 
 pub use decimal::read_decimal;
 pub use envelope::{SessionRequest, read_envelope, read_request, read_session_request};
-pub use id::copy_id;
-pub use message::{Answers, BatchAnswer, Message, StreamAnswer};
 pub use message_read::read_message;
 pub use message_write::{error_json, write_message};
-pub use options::TransactionOptions;
-pub use request::{Envelope, Request};
 pub use request_write::write_request;
-pub use stream_request::StreamRequest;
 pub use streams_write::print_stream_token;
 pub use transaction::print_transaction;
-pub use when::When;

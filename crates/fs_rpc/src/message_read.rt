@@ -14,7 +14,6 @@ use crate::answers::{answered, read_answers, read_query_answers};
 use crate::error_read::read_refusal;
 use crate::id::read_id;
 use crate::listen_read::read_listen;
-use crate::message::Message;
 use crate::names::{
     BEGIN_RESULT_MEMBERS, COMMIT_RESULT_MEMBERS, COMMIT_TIME, FOUND, ID, LISTEN, MESSAGE_MEMBERS,
     MISSING, OUTCOMES, RESULT, TRANSACTION, WRITE,
@@ -24,6 +23,7 @@ use crate::stream_answer_read::read_stream_answer;
 use crate::transaction::read_transaction;
 use fs_json::{Bad, is_there, one_of, only, read_required_time, required};
 use fs_path::{Root, Rule, Text, Way};
+use fs_request::Message;
 use fs_valjson::read_document;
 use serde_json::{Map, Value};
 use std::alloc::{AllocError, Global};

@@ -19,7 +19,6 @@ use crate::eight::write_eight;
 use crate::id::put_id;
 use crate::list::put_list;
 use crate::listen_write::write_listen;
-use crate::message::{BatchAnswer, Message};
 use crate::names::{
     COMMIT_TIME, DOCUMENT, ERROR, FOUND, LISTEN, MISSING, READ_TIME, RESULT, TRANSACTION, WRITE,
     WRITE_RESULTS,
@@ -27,6 +26,7 @@ use crate::names::{
 use crate::stream_answer_write::write_stream_answer;
 use fs_json::{with_one, write_time};
 use fs_path::{Text, print_document};
+use fs_request::{BatchAnswer, Message};
 use fs_status::{Code, Id};
 use fs_time::Micros;
 use fs_valjson::write_document;

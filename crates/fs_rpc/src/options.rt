@@ -17,18 +17,10 @@ use crate::transaction::read_optional_transaction;
 use crate::when::put_read_time;
 use fs_json::{Bad, at_most_one_of, member, only, read_optional_time, with_one};
 use fs_path::Way;
+use fs_request::TransactionOptions;
 use fs_time::Micros;
 use serde_json::{Map, Value};
 use std::alloc::{AllocError, Global};
-
-/// What a transaction may do. (v1 reference, `TransactionOptions`.)
-#[derive(Clone, Copy, PartialEq, Eq)]
-pub enum TransactionOptions {
-    /// It reads and writes. Which transaction is tried again, its `retryTransaction`, isn't kept.
-    ReadWrite,
-    /// It reads documents as they were at the read time, or where there is none as they are when it begins.
-    ReadOnly { read_time: Option<Micros> },
-}
 
 /// The options of a begin, which may be absent.
 pub(crate) fn read_options_of(

@@ -6,7 +6,7 @@ ghost use Rattle.fs_json.specs.Answer.{Gives};
 ghost use Rattle.fs_rpc.specs.ByMethod.{request_at};
 ghost use Rattle.fs_rpc.specs.Options.{options_in};
 ghost use Rattle.fs_rpc.specs.Requests.{batch_get_at, begin_at, commit_at, database_at, drafts_in, get_at, mask_in, parent_at, rollback_at, run_query_at, structured_at};
-ghost use Rattle.fs_rpc.specs.declared.when.When.{When};
+ghost use Rattle.fs_request.specs.declared.when.When.{When};
 
 use crate::distinct::read_names;
 use crate::names::{
@@ -16,15 +16,15 @@ use crate::names::{
     WRITES,
 };
 use crate::options::read_options_of;
-use crate::request::Request;
 use crate::streams_read::read_stream_request;
 use crate::targets_read::read_listen_request;
 use crate::transaction::{read_optional_transaction, read_transaction};
-use crate::when::{When, read_when};
+use crate::when::read_when;
 use fs_json::{Bad, member, only, read_document_name, required, unless_refused};
 use fs_path::{Ids, Paths, Root, Rule, Text, Way, check_database, parse_parent};
 use fs_query::Query;
 use fs_queryjson::{judge_query, walk_query};
+use fs_request::{Request, When};
 use fs_writejson::{Drafts, judge, read_drafts, read_mask};
 use serde_json::Value;
 use std::alloc::Global;

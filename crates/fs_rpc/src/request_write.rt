@@ -21,15 +21,15 @@ use crate::names::{
     BATCH_GET_DOCUMENTS, BEGIN_TRANSACTION, COMMIT, DATABASE, DOCUMENTS, GET_DOCUMENT, LISTEN,
     MASK, NAME, OPTIONS, PARENT, ROLLBACK, RUN_QUERY, STRUCTURED_QUERY, WRITE, WRITES,
 };
-use crate::options::{TransactionOptions, write_options};
-use crate::request::{Envelope, Request};
+use crate::options::write_options;
 use crate::streams_write::write_stream_request;
 use crate::targets_write::{write_listen_add, write_listen_remove};
 use crate::transaction::put_transaction;
-use crate::when::{When, put_when};
+use crate::when::put_when;
 use fs_path::{DocName, Paths, Root, Scope, Text, print_database, print_document, print_parent};
 use fs_query::Query;
 use fs_queryjson::write_query;
+use fs_request::{Envelope, Request, TransactionOptions, When};
 use fs_status::Id;
 use fs_write::Write;
 use fs_writejson::{write_mask, write_write};

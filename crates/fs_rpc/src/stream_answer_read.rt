@@ -12,7 +12,6 @@ use crate::decimal::read_decimal;
 use crate::eight::read_eight;
 use crate::error_read::read_refusal;
 use crate::listen_read::refuse_given;
-use crate::message::{Message, StreamAnswer};
 use crate::names::{
     BATCH_OUTCOMES, COMMIT_TIME, ERROR, STREAM_ANSWER_MEMBERS, STREAM_ID, STREAM_TOKEN,
     WRITE_RESULTS,
@@ -20,6 +19,7 @@ use crate::names::{
 use crate::results::read_results;
 use fs_json::{Bad, at_most_one_of, only, read_time, required};
 use fs_path::Way;
+use fs_request::{Message, StreamAnswer};
 use serde_json::Value;
 use std::alloc::Global;
 

@@ -12,10 +12,10 @@ ghost use Rattle.fs_rpc.specs.MessageSteps.{IsAnsweredHeld, IsStreamHeld, with_a
 use crate::decimal::write_decimal;
 use crate::eight::put_eight;
 use crate::list::put_list;
-use crate::message::StreamAnswer;
 use crate::message_write::{error_json, write_results};
 use crate::names::{COMMIT_TIME, ERROR, STREAM_ID, STREAM_TOKEN, WRITE_RESULTS};
 use fs_json::write_time;
+use fs_request::StreamAnswer;
 use fs_time::Micros;
 use fs_write::WriteResult;
 use serde_json::{Map, Value};

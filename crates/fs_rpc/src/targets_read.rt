@@ -10,7 +10,7 @@ ghost use Rattle.fs_query.specs.declared.target.Target.{Target as Listened};
 ghost use Rattle.fs_rpc.specs.ReadListen.{token_at};
 ghost use Rattle.fs_rpc.specs.ReadTargets.{add_target_at, documents_target_at, labels_at, labels_in, listen_request_at, permitted_request, permitted_target, query_target_at, remove_target_at, some_names, target_at, target_change_by, target_id_at, texts_at};
 ghost use Rattle.fs_rpc.specs.RequestSteps.{behind_at};
-ghost use Rattle.fs_rpc.specs.declared.request.Request.{Request as Requested};
+ghost use Rattle.fs_request.specs.declared.request.Request.{Request as Requested};
 
 use crate::distinct::read_names;
 use crate::listen_read::read_number;
@@ -20,11 +20,11 @@ use crate::names::{
     TARGET_CHANGES, TARGET_ID, TARGET_MEMBERS, UNBUILT_OF_TARGET,
 };
 use crate::read::{read_database, read_parent};
-use crate::request::Request;
 use fs_json::{Bad, member, one_of, only, read_bytes, read_small, refuse_unbuilt, required};
 use fs_path::{Bytes, Names, Root, Rule, Way};
 use fs_query::Target;
 use fs_queryjson::{refuse_broken, walk_listened};
+use fs_request::Request;
 use serde_json::{Map, Value};
 use std::alloc::Global;
 

@@ -12,22 +12,10 @@ use crate::names::{READ_TIME, TRANSACTION, WHEN_MEMBERS};
 use crate::transaction::{put_transaction, read_transaction};
 use fs_json::{Bad, at_most_one_of, read_time, write_time};
 use fs_path::Way;
-use fs_status::Id;
+use fs_request::When;
 use fs_time::Micros;
 use serde_json::{Map, Value};
 use std::alloc::{AllocError, Global};
-
-/// When documents are read. (v1 reference, the `consistency_selector` of `GetDocumentRequest`, `BatchGetDocumentsRequest` and
-/// `RunQueryRequest`.)
-#[derive(Clone, Copy, PartialEq, Eq)]
-pub enum When {
-    /// As they are now, which is at the released time.
-    Released,
-    /// As they were at this time, the `readTime`.
-    At(Micros),
-    /// In the `transaction` of this number.
-    In(Id),
-}
 
 #[tactic(auto, unfolding(crate::specs::When::when_at))]
 pub(crate) fn read_when(alloc: Global, v: &Value, way: &Way<'_>) -> Result<When, Bad>

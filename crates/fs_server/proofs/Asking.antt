@@ -1,9 +1,9 @@
 -- A request comes, and passes no limit: where that leads, by what becomes of it.
 use Rattle.std.proofs.Common.{◌≡◌, ℕ, Bool, false, cond, List, [], ◌∷◌, ◌++◌, Option, Some, None, length, refl, sym, ap, ◌∙◌, subst}
 use Rattle.std.specs.Prelude.{nat_le, codes}
-use Rattle.fs_rpc.specs.declared.request.Envelope.{Envelope}
-use Rattle.fs_rpc.specs.declared.request.Request.{Request}
-use Rattle.fs_rpc.specs.declared.request.Request.TheVariants as request
+use Rattle.fs_request.specs.declared.request.Envelope.{Envelope}
+use Rattle.fs_request.specs.declared.request.Request.{Request}
+use Rattle.fs_request.specs.declared.request.Request.TheVariants as request
 use Rattle.fs_status.specs.Refusal.{at_limit}
 use Rattle.fs_status.specs.declared.refusal.Refusal.{Refusal}
 use Rattle.fs_txn.specs.Transactions.{Transactions}

@@ -1,15 +1,15 @@
 -- What is carried out of no target and no stream, and what is answered, doesn't hang on the numbers that were drawn, nor on the requests that wait.
 use Rattle.std.proofs.Common.{◌≡◌, ℕ, ◌+◌, Bool, true, false, cond, List, [], Option, Some, None, refl, ap}
 use Rattle.std.specs.Prelude.{unwrap_or}
-use Rattle.fs_rpc.specs.When.{transaction_of}
-use Rattle.fs_rpc.specs.declared.message.Message.TheVariants as message
-use Rattle.fs_rpc.specs.declared.request.Envelope.{Envelope}
-use Rattle.fs_rpc.specs.declared.request.Request.{Request}
-use Rattle.fs_rpc.specs.declared.request.Request.TheVariants.{Commit, GetDocument, BatchGetDocuments, RunQuery, BeginTransaction, Rollback, AddTarget, RemoveTarget, Write}
-use Rattle.fs_rpc.specs.declared.stream_request.StreamRequest.{StreamRequest}
-use Rattle.fs_rpc.specs.declared.stream_request.StreamRequest.TheVariants.{Open, Resume, Batch, Ask, Mixed}
-use Rattle.fs_rpc.specs.declared.when.When.{When}
-use Rattle.fs_rpc.specs.declared.when.When.TheVariants.{Released, At, In}
+use Rattle.fs_request.specs.When.{transaction_of}
+use Rattle.fs_request.specs.declared.message.Message.TheVariants as message
+use Rattle.fs_request.specs.declared.request.Envelope.{Envelope}
+use Rattle.fs_request.specs.declared.request.Request.{Request}
+use Rattle.fs_request.specs.declared.request.Request.TheVariants.{Commit, GetDocument, BatchGetDocuments, RunQuery, BeginTransaction, Rollback, AddTarget, RemoveTarget, Write}
+use Rattle.fs_request.specs.declared.stream_request.StreamRequest.{StreamRequest}
+use Rattle.fs_request.specs.declared.stream_request.StreamRequest.TheVariants.{Open, Resume, Batch, Ask, Mixed}
+use Rattle.fs_request.specs.declared.when.When.{When}
+use Rattle.fs_request.specs.declared.when.When.TheVariants.{Released, At, In}
 use Rattle.fs_txn.specs.Transactions.{is_read_write, txn_of}
 use Rattle.fs_txn.specs.declared.txn.Txn.{Txn}
 use Rattle.fs_write.specs.declared.write.Write.{Write as WriteOne}

@@ -22,7 +22,7 @@ use Rattle.fs_server.proofs.Every.{all_any, all_cons, all_flat}
 -- ---- the events of a target
 
 module _ (Q : TimedEvent → Type 0) (number : ℕ) (t : Target) where
-  told_all : (time : ℤ) (P : Change → Type 0) → ((c : Change) (e : Event) → P c → IfSome (told_as number time c e) Q) → (cs : List Change) → AllByRecursion P cs
+  pub told_all : (time : ℤ) (P : Change → Type 0) → ((c : Change) (e : Event) → P c → IfSome (told_as number time c e) Q) → (cs : List Change) → AllByRecursion P cs
       → AllByRecursion Q (filter_map (event_of number t time) cs)
   told_all time P each [] all = tt
   told_all time P each (c ∷ cs) all =

@@ -24,4 +24,5 @@ mod Listens
 mod Targets
 mod Loads
 mod Every
+mod EventsOwed
 mod Leading

@@ -8,7 +8,7 @@ use Rattle.std.proofs.lemmas.Int.{ints}
 use Rattle.fs_history.specs.History.{at}
 use Rattle.fs_match.specs.Followed.{docs_fitting}
 use Rattle.fs_query.specs.declared.listen.ListenMessage.TheVariants as listen
-use Rattle.fs_rpc.specs.declared.message.Message.TheVariants as message
+use Rattle.fs_request.specs.declared.message.Message.TheVariants as message
 use Rattle.fs_status.specs.Refusal.{refusal_of}
 use Rattle.fs_status.specs.declared.reason.Reason.TheVariants.{TargetUnknown}
 use Rattle.fs_status.specs.declared.refusal.Refusal.{Refusal}

@@ -14,15 +14,15 @@ use Rattle.fs_query.specs.declared.listen.ListenMessage.TheVariants as listen
 use Rattle.fs_query.specs.declared.rule.QueryRule.{QueryRule}
 use Rattle.fs_query.specs.declared.target.Target.{Target}
 use Rattle.fs_query.specs.declared.target.Target.TheVariants as target
-use Rattle.fs_rpc.specs.declared.message.Message.{Message}
-use Rattle.fs_rpc.specs.declared.message.Message.TheVariants as message
-use Rattle.fs_rpc.specs.declared.options.TransactionOptions.{TransactionOptions}
-use Rattle.fs_rpc.specs.declared.options.TransactionOptions.TheVariants as options
-use Rattle.fs_rpc.specs.declared.request.Envelope.{Envelope}
-use Rattle.fs_rpc.specs.declared.request.Request.{Request}
-use Rattle.fs_rpc.specs.declared.request.Request.TheVariants as request
-use Rattle.fs_rpc.specs.declared.when.When.{When}
-use Rattle.fs_rpc.specs.declared.when.When.TheVariants as when
+use Rattle.fs_request.specs.declared.message.Message.{Message}
+use Rattle.fs_request.specs.declared.message.Message.TheVariants as message
+use Rattle.fs_request.specs.declared.options.TransactionOptions.{TransactionOptions}
+use Rattle.fs_request.specs.declared.options.TransactionOptions.TheVariants as options
+use Rattle.fs_request.specs.declared.request.Envelope.{Envelope}
+use Rattle.fs_request.specs.declared.request.Request.{Request}
+use Rattle.fs_request.specs.declared.request.Request.TheVariants as request
+use Rattle.fs_request.specs.declared.when.When.{When}
+use Rattle.fs_request.specs.declared.when.When.TheVariants as when
 use Rattle.fs_status.specs.Refusal.{at_limit, refusal_of}
 use Rattle.fs_status.specs.declared.reason.Reason.{Reason}
 use Rattle.fs_status.specs.declared.reason.Reason.TheVariants.{AtLimit, Conflict, Expired, Memory, NoDocument, NotOpen, ReadOnly, TargetInUse, TargetUnknown, TokenAhead, TooOld, TooNew}
@@ -39,7 +39,7 @@ use Rattle.fs_value.specs.declared.document.Document.{Document}
 use Rattle.fs_write.specs.declared.write.Write.{Write}
 use Rattle.fs_machine.specs.Commit.{author_refusal, commit_refusal, committed_answer, committed_answer_in, committed_answer_unless, growth_refusal, number_refusal, only_reads, unless_closed, writing_refusal}
 use Rattle.fs_machine.specs.Conflict.{conflict}
-use Rattle.fs_machine.specs.Listen.{adding_refusal, cause_of, has_target, is_rule, is_target, listening_of, removed_answer, removing_refusal, shown_refusal, target_query_place, target_refusal, targets_refusal, token_reason, token_refusal, unless_used}
+use Rattle.fs_machine.specs.Listen.{adding_refusal, cause_of, has_target, is_plain, is_target, listening_of, removed_answer, removing_refusal, rule_refusal, shown_refusal, target_query_place, target_refusal, targets_refusal, token_reason, token_refusal, unbuilt_name, unless_unbuilt, unless_used}
 use Rattle.fs_machine.specs.Load.{load_floor, load_refusal, refusal_at, time_refusal as load_time_refusal}
 use Rattle.fs_machine.specs.Past.{Past}
 use Rattle.fs_machine.specs.Read.{batch_answers, document_answer, is_noted, query_answer, read_limit_refusal, read_time, refusal_from, shown_at, time_refusal, when_refusal}
@@ -55,8 +55,8 @@ use Rattle.fs_listen.specs.Cuts.{is_loaded}
 use Rattle.fs_listen.specs.Listening.{Listened}
 use Rattle.fs_machine.specs.Sessions.{has_owned}
 use Rattle.fs_machine.specs.Stream.{asked_answer, batch_refusal, has_stream, is_known, known_answer, own_stream, reason_of as stream_reason, resumed_answer, stream_check, stream_refusal, streamed_answer, take_of, unless_taken, unowned, writes_refusal}
-use Rattle.fs_rpc.specs.declared.stream_request.StreamRequest.{StreamRequest}
-use Rattle.fs_rpc.specs.declared.stream_request.StreamRequest.TheVariants.{Open, Resume, Batch, Ask, Mixed}
+use Rattle.fs_request.specs.declared.stream_request.StreamRequest.{StreamRequest}
+use Rattle.fs_request.specs.declared.stream_request.StreamRequest.TheVariants.{Open, Resume, Batch, Ask, Mixed}
 use Rattle.fs_stream.specs.Answers.{batch_of, by_owned, is_full, is_opened, missed, owns_other, resume_answer, resumed_of, resumption_told}
 use Rattle.fs_stream.specs.Streams.{Streams, owned_by, stream_of}
 use Rattle.fs_stream.specs.declared.error.StreamError.{StreamError}
@@ -152,8 +152,15 @@ begin_other m session =
 
 -- ---- targets
 
+method_not_memory : (name : List ℕ) → IsOther (reasons.Method name)
+method_not_memory name e = cc
+
+unbuilt_other : (name : Option (List ℕ)) (others : Option Refusal) → AreOther others → AreOther (unless_unbuilt name others)
+unbuilt_other (Some name) others rest = method_not_memory name
+unbuilt_other None others rest = rest
+
 target_other : (t : Target) → AreOther (target_refusal t)
-target_other (target.Query q) = rule_other target_query_place (rule_of_query q)
+target_other (target.Query q) = unbuilt_other (unbuilt_name q) (rule_refusal q) (rule_other target_query_place (rule_of_query q))
 target_other (target.Documents names) = tt
 
 token_not_memory : (e : TokenError) → IsOther (token_reason e)
@@ -502,7 +509,7 @@ unadded_not true there id refusal other = refusal_not refusal other
 unadded_not false there id refusal other = told_not there id refusal other
 
 refused_by_not : (m : Machine) (session : ℕ) (q : Request) (refusal : Refusal) → IsOther refusal.reason → IsNot (refused_by m session q refusal)
-refused_by_not m session (request.AddTarget database id t token) refusal other = unadded_not (is_rule refusal.reason) (has_target m session id) id refusal other
+refused_by_not m session (request.AddTarget database id t token) refusal other = unadded_not (is_plain refusal.reason) (has_target m session id) id refusal other
 refused_by_not m session (request.Commit database writes transaction) refusal other = refusal_not refusal other
 refused_by_not m session (request.GetDocument name mask w) refusal other = refusal_not refusal other
 refused_by_not m session (request.BatchGetDocuments database names mask w) refusal other = refusal_not refusal other

@@ -3,7 +3,7 @@ use Rattle.std.proofs.Common.{◌≡◌, inl, inr, refl, arith, ℕ, ◌<◌, fa
 use Rattle.std.specs.Prelude.{length, option_map, remove, slice_get}
 use Rattle.std.proofs.lemmas.Option.{slice_get_cases}
 use Rattle.fs_history.specs.declared.read.Read.{Read}
-use Rattle.fs_rpc.specs.declared.request.Request.{Request}
+use Rattle.fs_request.specs.declared.request.Request.{Request}
 use Rattle.fs_status.specs.declared.refusal.Refusal.{Refusal}
 use Rattle.fs_txn.specs.Transactions.{Transactions}
 use Rattle.fs_machine.specs.Commit.{unless_closed}

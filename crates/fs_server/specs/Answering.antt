@@ -2,7 +2,7 @@
 -- batches of one stream, so each is answered by its stream as it is.
 use Rattle.std.specs.Prelude.{◌≡◌, ℕ, suc, ◌+◌, ◌≤◌, ◌<◌, ◌^◌, ⊤, true, List, [], ◌∷◌, Option, Some, None}
 use Rattle.std.specs.List.{flat_map}
-use Rattle.fs_rpc.specs.declared.message.Message.TheVariants as message
+use Rattle.fs_request.specs.declared.message.Message.TheVariants as message
 use Rattle.fs_stream.specs.Streams.{Streams, finished_with, stream_of}
 use Rattle.fs_machine.specs.Stream.{kept_of, owner_told}
 use Rattle.fs_machine.specs.StreamsHold.{answers, one_if, tally}

@@ -2,9 +2,9 @@
 use Rattle.std.specs.Prelude.{◌≡◌, ℕ, ◌+◌, ◌<◌, ◌≤◌, ◌^◌, ℤ, ⊤, IsNone, IsSome, List, Option, None, Some, sum_by}
 use Rattle.fs_history.specs.Bytes.{batch_size, shown_size}
 use Rattle.fs_history.specs.declared.read.Read.{Read}
-use Rattle.fs_rpc.specs.declared.request.Envelope.{Envelope}
-use Rattle.fs_rpc.specs.declared.request.Request.{Request}
-use Rattle.fs_rpc.specs.declared.request.Request.TheVariants as request
+use Rattle.fs_request.specs.declared.request.Envelope.{Envelope}
+use Rattle.fs_request.specs.declared.request.Request.{Request}
+use Rattle.fs_request.specs.declared.request.Request.TheVariants as request
 use Rattle.fs_txn.specs.Reading.{shown_bytes}
 use Rattle.fs_write.specs.declared.write.Write.{Write}
 use Rattle.fs_txn.specs.Transactions.{IsNew, Transactions, all_noted, begun, ended, txn_of}

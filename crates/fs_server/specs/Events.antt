@@ -1,6 +1,6 @@
 -- What is matched of a shard: for each target that is loaded and was told the shard up to an earlier time, what was changed there behind
 -- that time, up to another, is to it. A target is meant by its number.
-use Rattle.std.specs.Prelude.{◌≡◌, ℕ, ℤ, ◌<ℤ◌, ◌≤ℤ◌, ◌==◌, int_lt, ◌&&◌, List, [], Option, Some, None}
+use Rattle.std.specs.Prelude.{◌≡◌, ℕ, ℤ, ◌<ℤ◌, ◌≤ℤ◌, ◌==◌, int_lt, ◌&&◌, ◌⊎◌, List, [], ◌∷◌, Option, Some, None}
 use Rattle.std.specs.FinMap.{get}
 use Rattle.std.specs.List.{AllByRecursion, filter}
 use Rattle.fs_path.specs.Scope.{in_shard}
@@ -38,6 +38,21 @@ AreEventsOf h shards shard to es l =
 -- and for each
 abbrev pub AreEvents : Machine → ℕ → ℤ → List TimedEvent → Type 0
 AreEvents m shard to es = AllByRecursion (AreEventsOf m.past.history m.config.shards shard to es) m.listeners
+
+-- An event is to a target of a session that is loaded, and of a later time than that was told the shard up to.
+pub record IsOwedTo (shard : ℕ) (l : Listener) (e : TimedEvent) : Type 0 where
+  pub id : ℕ
+  pub target : Listened
+  pub from : ℤ
+  pub there : get l.listening.targets id ≡ Some target
+  pub number : get l.numbers id ≡ Some e.target
+  pub position : position_in shard (Some target) ≡ Some from
+  pub later : from <ℤ e.time
+
+-- so it is of one of these sessions
+abbrev pub IsOwed : ℕ → List Listener → TimedEvent → Type 0
+IsOwed shard [] e = ⊥
+IsOwed shard (l ∷ ls) e = IsOwedTo shard l e ⊎ IsOwed shard ls e
 
 -- ---- staged
 

@@ -1,6 +1,6 @@
 -- Only private clauses cite this: what becomes of a request that is of no target and no write stream, and what it is answered.
 use Rattle.std.specs.Prelude.{ℕ}
-use Rattle.fs_rpc.specs.declared.request.Envelope.{Envelope}
+use Rattle.fs_request.specs.declared.request.Envelope.{Envelope}
 use Rattle.fs_machine.specs.Request.{answered_unless, arrival_refusal, asked_unless, numbered}
 use Rattle.fs_machine.specs.State.{Machine}
 use Rattle.fs_machine.specs.declared.answer.Answer.{Answer}

@@ -5,7 +5,7 @@ ghost use Rattle.fs_stream.specs.Streams.{stream_of};
 ghost use Rattle.fs_server.specs.Answering.{AreAnswerable, CanFinish, CanFinishAll, all_finished, replies_of, replies_to, responses_of, responses_to};
 
 use fs_machine::{Asker, Committed, Reply};
-use fs_rpc::{Message, StreamAnswer};
+use fs_request::{Message, StreamAnswer};
 use fs_sessions::Sessions;
 use fs_status::{Refusal, message};
 use fs_stream::{Kept, Streams};

@@ -10,7 +10,7 @@ use crate::server::Server;
 use crate::write::{lasting, not_taken};
 use fs_machine::{Answer, Asker, ParkedRequest};
 use fs_path::{Root, Text};
-use fs_rpc::{Envelope, Request, copy_id};
+use fs_request::{Envelope, Request, copy_id};
 use fs_status::{Id, Refusal};
 use fs_stream::{StreamError, Take};
 use fs_write::Writes;
@@ -61,7 +61,7 @@ fn commit_of(
 
 impl Server {
     ghost use Rattle.std.specs.Prelude.{◌≡◌, ◌+◌, ℕ, None, Some, IfOk, OnErr, OnOk};
-    ghost use Rattle.fs_rpc.specs.declared.stream_request.StreamRequest.TheVariants as ask;
+    ghost use Rattle.fs_request.specs.declared.stream_request.StreamRequest.TheVariants as ask;
     ghost use Rattle.fs_machine.specs.Refusing.{next_time};
     ghost use Rattle.fs_machine.specs.Request.{answered, asked, writer_behind};
     ghost use Rattle.fs_machine.specs.Sessions.{has_owned};

@@ -9,7 +9,7 @@ use fs_history::Reads;
 use fs_machine::Answer;
 use fs_path::{DocName, Names, Paths};
 use fs_query::Query;
-use fs_rpc::{Envelope, Message, Request, TransactionOptions, When, copy_id};
+use fs_request::{Envelope, Message, Request, TransactionOptions, When, copy_id};
 use fs_status::Id;
 use fs_time::Micros;
 use fs_txn::Kind;
@@ -27,7 +27,7 @@ fn kind_of(options: &TransactionOptions) -> Kind
 
 impl Server {
     ghost use Rattle.std.specs.Prelude.{◌≡◌, ◌≤ℤ◌, [], false, None, IfOk, unwrap_or};
-    ghost use Rattle.fs_rpc.specs.declared.message.Message.TheVariants as message;
+    ghost use Rattle.fs_request.specs.declared.message.Message.TheVariants as message;
     ghost use Rattle.fs_txn.specs.Transactions.{IsNew};
     ghost use Rattle.fs_machine.specs.Read.{batch_get_answer, get_answer, is_noted, read_time, run_answer, when_refusal};
     ghost use Rattle.fs_machine.specs.Request.{answer_by, carried_by, held_by};

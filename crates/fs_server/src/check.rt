@@ -1,7 +1,7 @@
 //! Whether a request may be carried out: its transaction is open, and the time that it reads can be read.
 use crate::read::time_refusal;
 use crate::server::Server;
-use fs_rpc::{Request, TransactionOptions, When};
+use fs_request::{Request, TransactionOptions, When};
 use fs_status::{Id, Reason, Refusal};
 use fs_txn::{Kind, Txn, TxnError};
 use fs_write::Writes;

@@ -7,7 +7,7 @@ use crate::changes::Change;
 use crate::server::Server;
 use fs_history::{Batch, Reads};
 use fs_machine::{Answer, Asker, Unreleased};
-use fs_rpc::{Envelope, Message, copy_id};
+use fs_request::{Envelope, Message, copy_id};
 use fs_status::{Id, Refusal};
 use fs_txn::{Kind, Txn};
 use fs_write::{WriteResults, Writes};
@@ -33,7 +33,7 @@ fn asker_of(
 
 impl Server {
     ghost use Rattle.std.specs.Prelude.{◌≡◌, [], None, Some, true, IfOk};
-    ghost use Rattle.fs_rpc.specs.declared.message.Message.TheVariants as message;
+    ghost use Rattle.fs_request.specs.declared.message.Message.TheVariants as message;
     ghost use Rattle.fs_time.specs.Moment.{IsMoment};
     ghost use Rattle.fs_txn.specs.Transactions.{is_read_write, txn_of};
     ghost use Rattle.fs_machine.specs.Behind.{behind};

@@ -6,7 +6,7 @@ use crate::read::query_refusal;
 use crate::server::Server;
 use fs_history::{Reads, all_shown, commit_size};
 use fs_query::Query;
-use fs_rpc::{Request, When};
+use fs_request::{Request, When};
 use fs_status::{Id, Refusal};
 use fs_write::Writes;
 use std::alloc::{AllocError, Global};

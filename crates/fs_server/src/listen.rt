@@ -3,18 +3,18 @@ ghost use Rattle.std.specs.Prelude.{◌≡◌, ◌∷◌, [], ℕ, ℤ, pos, Opt
 ghost use Rattle.fs_path.specs.declared.place.Rule.TheVariants.{Q};
 ghost use Rattle.fs_status.specs.Refusal.{refusal_of};
 ghost use Rattle.fs_status.specs.declared.reason.Reason.TheVariants as reasons;
-ghost use Rattle.fs_machine.specs.Listen.{cause_of as cause_by, shown_refusal, target_query_place, target_refusal, token_reason, token_time};
+ghost use Rattle.fs_machine.specs.Listen.{cause_of as cause_by, is_plain, rule_refusal, shown_refusal, target_query_place, target_refusal, token_reason, token_time};
 ghost use Rattle.fs_query.specs.declared.listen.ListenMessage.TheVariants as listen;
 ghost use Rattle.fs_query.specs.declared.target.Target.TheVariants as target;
-ghost use Rattle.fs_rpc.specs.declared.message.Message.TheVariants as message;
+ghost use Rattle.fs_request.specs.declared.message.Message.TheVariants as message;
 ghost use Rattle.fs_machine.specs.declared.answer.Answer.TheVariants.{Reply};
 
 use crate::limits::at_limit;
 use crate::server::Server;
 use fs_machine::Answer;
-use fs_path::{Bytes, Rule, Way};
+use fs_path::{Bytes, Rule, Text, Way};
 use fs_query::{Cause, ListenMessage, Numbers, Query, QueryRule, Target, check_with};
-use fs_rpc::Message;
+use fs_request::Message;
 use fs_status::{Reason, Refusal, message};
 use fs_target::targets_are_lawful;
 use fs_time::Micros;
@@ -79,6 +79,13 @@ fn cause_of(alloc: Global, refusal: &Refusal) -> Result<Cause, AllocError>
     })
 }
 
+// Whether a reason is of the request as a whole, and not told as a target's.
+fn is_plain(reason: &Reason) -> bool
+    ensures { result ≡ is_plain reason.now }
+{
+    matches!(reason, Reason::Rule(_, _) | Reason::Method(_))
+}
+
 fn added_answer(alloc: Global, id: u32) -> Result<Answer, AllocError>
     ensures { IfOk result (λ a. a ≡ Reply (message.Listen (listen.Add (id ∷ [])))) }
 {
@@ -109,8 +116,8 @@ fn broken(alloc: Global, rule: QueryRule) -> Result<Refusal, AllocError>
     Ok(Refusal::of(Reason::Rule(Rule::Q(rule.number, rule.count), place)))
 }
 
-fn query_refusal(alloc: Global, query: &Query) -> Result<Option<Refusal>, AllocError>
-    ensures { IfOk result (λ r. r ≡ target_refusal (target.Query query.now)) }
+fn rule_refusal(alloc: Global, query: &Query) -> Result<Option<Refusal>, AllocError>
+    ensures { IfOk result (λ r. r ≡ rule_refusal query.now) }
 {
     match check_with(alloc, query)? {
         Some(rule) => Ok(Some(broken(alloc, rule)?)),
@@ -118,7 +125,25 @@ fn query_refusal(alloc: Global, query: &Query) -> Result<Option<Refusal>, AllocE
     }
 }
 
-// The query of a target that breaks a rule is refused.
+fn unbuilt(alloc: Global, name: &str) -> Result<Refusal, AllocError>
+    ensures { IfOk result (λ r. r ≡ refusal_of (reasons.Method name.now)) }
+{
+    Ok(Refusal::of(Reason::Method(Text::from_str(alloc, name)?)))
+}
+
+// The query of a target that asks for what isn't built, or breaks a rule, is refused.
+fn query_refusal(alloc: Global, query: &Query) -> Result<Option<Refusal>, AllocError>
+    ensures { IfOk result (λ r. r ≡ target_refusal (target.Query query.now)) }
+{
+    if query.select.is_some() {
+        return Ok(Some(unbuilt(alloc, "select")?));
+    }
+    if 0 < query.offset {
+        return Ok(Some(unbuilt(alloc, "offset")?));
+    }
+    rule_refusal(alloc, query)
+}
+
 fn target_refusal(alloc: Global, target: &Target) -> Result<Option<Refusal>, AllocError>
     ensures { IfOk result (λ r. r ≡ target_refusal target.now) }
 {
@@ -191,10 +216,7 @@ impl Server {
     ) -> Result<Answer, AllocError>
         ensures { IfOk result (λ a. a ≡ unadded_answer self.now session id refusal) }
     {
-        if let Reason::Rule(_, _) = &refusal.reason {
-            return Ok(Answer::Refused(refusal));
-        }
-        if self.has_target(session, id) {
+        if is_plain(&refusal.reason) || self.has_target(session, id) {
             return Ok(Answer::Refused(refusal));
         }
         let cause = cause_of(alloc, &refusal);

@@ -1,7 +1,7 @@
 //! Targets are loaded.
 ghost use Rattle.std.specs.Prelude.{◌≡◌, ◌∷◌, [], IfOk, None, OnErr, OnOk, unwrap_or, if◌then◌else◌};
 ghost use Rattle.fs_query.specs.declared.listen.ListenMessage.TheVariants as listen;
-ghost use Rattle.fs_rpc.specs.declared.message.Message.TheVariants as message;
+ghost use Rattle.fs_request.specs.declared.message.Message.TheVariants as message;
 ghost use Rattle.fs_listen.specs.Runs.{is_lost as is_lost_before};
 ghost use Rattle.fs_machine.specs.Load.{load_floor, with_reset};
 ghost use Rattle.fs_sessions.specs.Place.{taken_back};
@@ -10,7 +10,7 @@ use crate::listen::one;
 use crate::read::refusal_from;
 use crate::server::Server;
 use fs_query::ListenMessage;
-use fs_rpc::Message;
+use fs_request::Message;
 use fs_sessions::Sessions;
 use fs_status::{Reason, Refusal};
 use fs_target::targets_are_lawful;

@@ -10,7 +10,7 @@ impl Server {
     ghost use Rattle.fs_target.specs.Staged.{IsNamed};
     ghost use Rattle.fs_machine.specs.Grows.{Grows};
     ghost use Rattle.fs_machine.specs.Match.{matched};
-    ghost use Rattle.fs_server.specs.Events.{AreEvents};
+    ghost use Rattle.fs_server.specs.Events.{AreEvents, IsOwed};
 
     /// What was changed in a shard, up to what is released, to each target that is loaded, behind what that was told of it: and the released
     /// time. A target is meant by its number. It costs a look at each session, a search among its collections for each change behind the least
@@ -18,6 +18,7 @@ impl Server {
     pub fn events(&self, alloc: Global, shard: u32) -> Result<(TimedEvents, Micros), AllocError>
         requires { shard < self.now.config.shards }
         ensures events { IfOk result (λ e. AreEvents self.now shard self.now.past.released e.0) }
+        ensures owed { IfOk result (λ e. AllByRecursion (IsOwed shard self.now.listeners) e.0) }
         ensures named { IfOk result (λ e. AllByRecursion IsNamed e.0) }
         ensures until { IfOk result (λ e. AllByRecursion (λ x. x.time ≤ℤ self.now.past.released) e.0) }
         ensures to { IfOk result (λ e. e.1 ≡ self.now.past.released) }

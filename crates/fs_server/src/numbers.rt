@@ -1,10 +1,10 @@
 //! The numbers of requests.
 ghost use Rattle.std.specs.Prelude.{◌≡◌, ◌<◌, ◌-◌, ◌^◌, true};
-ghost use Rattle.fs_rpc.specs.When.{transaction_of as transaction_when};
+ghost use Rattle.fs_request.specs.When.{transaction_of as transaction_when};
 ghost use Rattle.fs_machine.specs.Numbered.{draws as draws_one, transaction_in as transaction_of};
 ghost use Rattle.fs_server.specs.Noted.{ids_after as ids_then, own_number};
 
-use fs_rpc::{Request, StreamRequest, When};
+use fs_request::{Request, StreamRequest, When};
 use fs_status::Id;
 
 // Whether a request draws a number.

@@ -14,7 +14,7 @@ use fs_machine::Answer;
 use fs_past::Past;
 use fs_path::{DocName, Names, Paths, Rule, Text, Way};
 use fs_query::{Query, QueryRule, check_with, project};
-use fs_rpc::{Answers, BatchAnswer, Message, copy_id};
+use fs_request::{Answers, BatchAnswer, Message, copy_id};
 use fs_status::{Reason, Refusal};
 use fs_time::Micros;
 use fs_value::{Document, Documents};

@@ -4,7 +4,7 @@ use crate::numbers::{ids_after, number_of};
 use crate::server::Server;
 use fs_history::Reads;
 use fs_machine::{Answer, ParkedRequest};
-use fs_rpc::{Envelope, Request};
+use fs_request::{Envelope, Request};
 use fs_status::{Id, Reason, Refusal};
 use std::alloc::{AllocError, Global};
 

@@ -4,7 +4,7 @@ use crate::changes::make;
 use crate::server::Server;
 use fs_history::Reads;
 use fs_machine::{Answer, Parked};
-use fs_rpc::{Request, copy_id};
+use fs_request::{Request, copy_id};
 use fs_status::{Reason, Refusal};
 use std::alloc::{AllocError, Global};
 

@@ -11,7 +11,7 @@ use crate::answering::{answers, finish_all, refuse_batch};
 use crate::server::Server;
 use fs_machine::{Asker, Outcome, Settled, Unreleased};
 use fs_past::Past;
-use fs_rpc::{Message, copy_id};
+use fs_request::{Message, copy_id};
 use fs_sessions::Sessions;
 use fs_status::{Id, Refusal};
 use fs_stream::Streams;

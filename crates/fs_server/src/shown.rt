@@ -14,7 +14,7 @@ use fs_machine::Mode;
 use fs_past::Past;
 use fs_path::{DocName, Names};
 use fs_query::Query;
-use fs_rpc::{Request, When};
+use fs_request::{Request, When};
 use fs_time::Micros;
 use fs_txn::Kind;
 use std::alloc::{AllocError, Global};

@@ -7,7 +7,7 @@ use fs_history::Reads;
 use fs_locks::lesser;
 use fs_machine::Mode;
 use fs_past::names_of;
-use fs_rpc::{Request, When};
+use fs_request::{Request, When};
 use fs_status::Id;
 use fs_txn::Txn;
 use fs_write::Writes;

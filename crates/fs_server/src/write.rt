@@ -9,7 +9,7 @@ use crate::limits::at_limit;
 use crate::server::Server;
 use fs_machine::Answer;
 use fs_path::{Root, Text};
-use fs_rpc::{Message, StreamAnswer, StreamRequest};
+use fs_request::{Message, StreamAnswer, StreamRequest};
 use fs_status::{Reason, Refusal};
 use fs_stream::{Resumed, StreamError};
 use fs_write::Writes;
@@ -82,7 +82,7 @@ pub(crate) fn not_taken(
 
 impl Server {
     ghost use Rattle.std.specs.Prelude.{◌≡◌, ℕ, None, IfOk, OnErr, OnOk};
-    ghost use Rattle.fs_rpc.specs.declared.stream_request.StreamRequest.TheVariants as ask;
+    ghost use Rattle.fs_request.specs.declared.stream_request.StreamRequest.TheVariants as ask;
     ghost use Rattle.fs_machine.specs.Request.{answered, asked};
     ghost use Rattle.fs_machine.specs.Stream.{streamed, streamed_answer};
     ghost use Rattle.fs_server.specs.Streaming.{after_streaming, refusal_of_stream, streaming_answer, writing};

@@ -4,7 +4,7 @@ use Rattle.std.specs.Prelude.{IfSome, ◌==◌}
 use Rattle.std.proofs.lemmas.Bool.{eqb-true}
 use Rattle.fs_history.specs.declared.batch.Batch.{Batch}
 use Rattle.fs_listen.specs.Raised.{stands_at}
-use Rattle.fs_rpc.specs.declared.message.Message.TheVariants as message
+use Rattle.fs_request.specs.declared.message.Message.TheVariants as message
 use Rattle.fs_target.specs.Laws.{with_deleted}
 use Rattle.fs_target.specs.Raise.{kept_told}
 use Rattle.fs_machine.specs.Sessions.{with_outbox}

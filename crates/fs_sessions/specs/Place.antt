@@ -1,6 +1,6 @@
 -- Where a session stands, for private clauses, and what it listens to; and what is told several sessions, one after another, or taken back.
 use Rattle.std.specs.Prelude.{ℕ, ◌+◌, ◌-◌, List, [], ◌∷◌, Option, Some, None, option_map, length, take, ◌==◌, if◌then◌else◌}
-use Rattle.fs_rpc.specs.declared.message.Message.{Message}
+use Rattle.fs_request.specs.declared.message.Message.{Message}
 use Rattle.fs_machine.specs.Sessions.{delivered, with_outbox}
 use Rattle.fs_machine.specs.declared.reply.Reply.{Reply}
 use Rattle.fs_machine.specs.declared.session.Session.{Session}

@@ -2,7 +2,7 @@
 ghost use Rattle.std.specs.Prelude.{◌≡◌, ◌++◌, ◌≤ℤ◌, IfOk, OnErr, OnOk, map};
 ghost use Rattle.fs_listen.specs.Raised.{stands_at};
 ghost use Rattle.fs_machine.specs.Sessions.{with_outbox};
-ghost use Rattle.fs_rpc.specs.declared.message.Message.TheVariants as message;
+ghost use Rattle.fs_request.specs.declared.message.Message.TheVariants as message;
 ghost use Rattle.fs_target.specs.Laws.{with_deleted};
 ghost use Rattle.fs_target.specs.Raise.{kept_told};
 ghost use Rattle.fs_sessions.specs.Heard.{heard_of, heard_raised};
@@ -11,7 +11,7 @@ use crate::listeners::{Ear, Listeners, place_in};
 use crate::sessions::Sessions;
 use fs_past::Past;
 use fs_query::ListenMessage;
-use fs_rpc::Message;
+use fs_request::Message;
 use fs_time::Micros;
 use std::alloc::{AllocError, Global};
 
@@ -87,10 +87,10 @@ fn raise_one(
 }
 
 impl Listeners {
-    ghost use Rattle.std.specs.Prelude.{◌≡◌, ◌++◌, ◌≤ℤ◌, IfSome, OnErr, OnOk, map};
+    ghost use Rattle.std.specs.Prelude.{◌≡◌, ◌++◌, ◌≤ℤ◌, IfNone, IfSome, OnErr, OnOk, map};
     ghost use Rattle.fs_listen.specs.Raised.{stands_at};
     ghost use Rattle.fs_machine.specs.Sessions.{with_outbox};
-    ghost use Rattle.fs_rpc.specs.declared.message.Message.TheVariants as message;
+    ghost use Rattle.fs_request.specs.declared.message.Message.TheVariants as message;
     ghost use Rattle.fs_target.specs.Laws.{with_deleted};
     ghost use Rattle.fs_target.specs.Raise.{kept_told};
     ghost use Rattle.fs_sessions.specs.Heard.{heard_in, heard_raised, with_heard};
@@ -109,6 +109,7 @@ impl Listeners {
         ensures ok { OnOk result (self.new ≡ with_heard session (heard_raised time) self.old) }
         ensures told { OnOk result (IfSome (heard_in session self.old) (λ h. sessions.new ≡ with_outbox session
             (λ ms. ms ++ map message.Listen (map (with_deleted (stands_at past.now.history time)) (kept_told time h.held))) sessions.old)) }
+        ensures nobody { OnOk result (IfNone (heard_in session self.old) (sessions.new ≡ sessions.old)) }
         ensures err { OnErr result (self.new ≡ self.old) }
         ensures err_told { OnErr result (sessions.new ≡ sessions.old) }
     {

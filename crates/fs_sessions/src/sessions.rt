@@ -3,7 +3,7 @@ ghost use Rattle.std.specs.Prelude.{◌≡◌, ◌<◌, IfSome, length};
 ghost use Rattle.fs_sessions.specs.Place.{place_in};
 
 use fs_machine::{Messages, Reply, Session};
-use fs_rpc::Message;
+use fs_request::Message;
 use std::alloc::{AllocError, Global};
 use std::marker::Model;
 use std::mem;

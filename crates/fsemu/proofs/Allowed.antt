@@ -29,6 +29,7 @@ greatest_allowed = record {
   transactions = omega arith;
   streams = omega arith;
   queue = omega arith;
+  clients = omega arith;
   parked = omega arith;
   batches = omega arith;
   journal = omega arith;

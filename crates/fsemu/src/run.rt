@@ -3,7 +3,7 @@ ghost use Rattle.std.specs.Prelude.{◌≡◌, ◌≢◌, ◌↔◌, ◌⊎◌, 
 ghost use Rattle.fs_machine.specs.Limits.{greatest};
 ghost use Rattle.fs_replay.specs.Limits.{longest_input};
 ghost use Rattle.fs_replay.specs.Moved.{TakenUpTo, IfTaken, Gained};
-ghost use Rattle.fs_replay.specs.Run.{CutsThroughout, Ends, GrowsThroughout, IsSerialThroughout, ReadFaults, WriteFaults, Wrote};
+ghost use Rattle.fs_replay.specs.Run.{CutsThroughout, Ends, GrowsThroughout, IsSerialThroughout, KeptThroughout, LinesAreEvents, ReadFaults, WriteFaults, Wrote};
 ghost use Rattle.fs_replay.specs.Transcript.{lines_of, transcript};
 ghost use Rattle.fsemu.specs.Words.{IfAsked, IsCommand};
 
@@ -44,14 +44,18 @@ pub fn run<Rt, S: Source, K: Sink, D: Doors, C: Clock>(
     ensures written { IfAsked (map string_bytes words.now) (λ config. IfTaken (S.left source.old) (S.left source.new) (λ taken.
         Wrote config greatest result taken (K.given sink.old) (K.given sink.new))) }
 
-    // Wherever their lines are cut, what was committed explains every read in it, and what stood then at a time that was released stands
-    // there for good.
+    // Wherever their events are cut, what always holds of a server does, what was committed by then explains every read in it, and what
+    // stood then at a time that was released stands there for good. Each cut between lines is one between events.
+    ensures lines { IfAsked (map string_bytes words.now) (λ config. IfTaken (S.left source.old) (S.left source.new) (λ taken.
+        LinesAreEvents config greatest (lines_of taken))) }
+    ensures kept { IfAsked (map string_bytes words.now) (λ config. IfTaken (S.left source.old) (S.left source.new) (λ taken.
+        KeptThroughout config greatest (lines_of taken))) }
     ensures serial { IfAsked (map string_bytes words.now) (λ config. IfTaken (S.left source.old) (S.left source.new) (λ taken.
         IsSerialThroughout config greatest (lines_of taken))) }
     ensures grows { IfAsked (map string_bytes words.now) (λ config. IfTaken (S.left source.old) (S.left source.new) (λ taken.
         GrowsThroughout config greatest (lines_of taken))) }
 
-    // Wherever their events are cut, and what a session was told by then ends with NO_CHANGE, whoever gathered all of it has just the views of
+    // Wherever they are cut, and what a session was told by then ends with NO_CHANGE, whoever gathered all of it has just the views of
     // all its targets at that one time, which never falls.
     ensures cuts { IfAsked (map string_bytes words.now) (λ config. IfTaken (S.left source.old) (S.left source.new) (λ taken.
         CutsThroughout config greatest (lines_of taken))) }

@@ -2,7 +2,7 @@
 use crate::short::{cut, moment, name_of, query, root, writes};
 use crate::targets::session::target_of;
 use fs_path::{Bytes, Names};
-use fs_rpc::{Request, StreamRequest, TransactionOptions, When};
+use fs_request::{Request, StreamRequest, TransactionOptions, When};
 use fs_status::Id;
 use fs_time::Micros;
 use std::alloc::Global;

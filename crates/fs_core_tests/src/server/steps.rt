@@ -10,7 +10,7 @@ use crate::server::told::{
     push_settled,
 };
 use crate::short::{cut, micros, moment, name_of, push_moment, root};
-use fs_rpc::Envelope;
+use fs_request::Envelope;
 use fs_server::{Config, Server};
 use fs_status::Id;
 use std::alloc::{AllocError, Global};

@@ -1,7 +1,7 @@
 //! What calls of a server answer, as steps write it. Each adds to a text, what stands in a row with a space before it.
 use crate::listened::push_message as push_listened;
 use crate::short::{InRow, push_in_row, push_n, push_row};
-use fs_rpc::{BatchAnswer, Message, StreamAnswer};
+use fs_request::{BatchAnswer, Message, StreamAnswer};
 use fs_server::{Answer, Messages, Outcome, Parked, Settled, Version};
 use fs_status::{Id, Reason, Refusal, message};
 use fs_time::Micros;

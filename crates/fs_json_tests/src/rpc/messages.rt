@@ -1,8 +1,9 @@
 //! What is made of messages.
-use crate::made::{a_text, both, demo, moment, printed};
+use crate::made::{a_text, demo, moment, printed};
 use fs_json::Bad;
 use fs_path::parse_document;
-use fs_rpc::{Answers, BatchAnswer, Message, error_json, read_message, write_message};
+use fs_request::{Answers, BatchAnswer, Message};
+use fs_rpc::{error_json, read_message, write_message};
 use fs_status::{Code, Reason, Refusal};
 use fs_time::Micros;
 use std::alloc::Global;
@@ -13,20 +14,13 @@ fn read(rt: &impl Abort, alloc: Global, json: &str) -> Result<Message, Bad> {
     read_message(alloc, &root, json)
 }
 
-// What is written of a message and of its copy.
+// What is written of a message.
 fn written(rt: &impl Abort, alloc: Global, message: Message) -> String {
-    let copy = message.copy(alloc).expect(rt, "memory");
-    let text = text_of(rt, alloc, &message);
-    let again = text_of(rt, alloc, &copy);
-    drop(message);
-    drop(copy);
-    both(rt, alloc, text.as_str(), again.as_str())
-}
-
-fn text_of(rt: &impl Abort, alloc: Global, message: &Message) -> String {
-    write_message(alloc, message)
+    let text = write_message(alloc, &message)
         .expect(rt, "memory")
-        .into_string()
+        .into_string();
+    drop(message);
+    text
 }
 
 pub(crate) fn message_again(rt: &impl Abort, alloc: Global, json: &str) -> Result<String, Bad> {

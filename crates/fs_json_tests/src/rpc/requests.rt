@@ -1,9 +1,10 @@
 //! What is made of requests.
 use crate::made::{both, demo, json, shown};
 use fs_json::Bad;
+use fs_request::Envelope;
 use fs_rpc::{
-    Envelope, SessionRequest, print_stream_token, print_transaction, read_request,
-    read_session_request, write_request,
+    SessionRequest, print_stream_token, print_transaction, read_request, read_session_request,
+    write_request,
 };
 use fs_status::Id;
 use serde_json::Value;

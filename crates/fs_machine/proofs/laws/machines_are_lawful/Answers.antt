@@ -3,7 +3,9 @@ use Rattle.fs_machine.proofs.Holders.{aborted_by_the_least, held_by_the_least, r
 use Rattle.fs_machine.proofs.Grows.{documents_stay}
 use Rattle.fs_machine.proofs.OutcomesStay.{outcomes_stay}
 use Rattle.fs_machine.proofs.Refused.{refused_is_never_seen}
+use Rattle.fs_machine.proofs.RefusalsStand.{refusals_stand}
 use Rattle.fs_machine.proofs.Replies.{replies_come_once}
+use Rattle.fs_machine.proofs.ResultsStand.{results_stand}
 use Rattle.fs_machine.proofs.Retried.{retried_as_if_it_came}
 use Rattle.fs_machine.proofs.Runs.{begins, all_grow, all_kept, serial_always}
 use Rattle.fs_machine.proofs.SettledInAnyOrder.{same_replies_in_any_order, settled_in_any_order}
@@ -21,6 +23,12 @@ returns-clause-unchanged c = λ old new t grows within. documents_stay old new t
 
 pub returns-clause-outcomes : goal.returns-clause-outcomes
 returns-clause-outcomes c = λ m e id o facts comes some. outcomes_stay m e id o facts comes some
+
+pub returns-clause-results : goal.returns-clause-results
+returns-clause-results c = results_stand
+
+pub returns-clause-refusals : goal.returns-clause-refusals
+returns-clause-refusals c = refusals_stand
 
 pub returns-clause-any_order : goal.returns-clause-any_order
 returns-clause-any_order c = λ m ids other facts moved. settled_in_any_order m ids other facts moved

@@ -1,5 +1,5 @@
-use Rattle.fs_replay.proofs.Lawful.{last_newline, lines_grow, lines_keep, lines_serial, no_line, nobody_keeps, one_line, one_line_where_none_waits, past_unmoved, runs_grow, runs_serial, shows_what_stands, starts_between, stays_between, times_rise}
-use Rattle.fs_replay.proofs.Leading.{runs_cut}
+use Rattle.fs_replay.proofs.Lawful.{last_newline, lines_grow, lines_keep, lines_serial, no_line, nobody_keeps, one_line, one_line_where_none_waits, past_unmoved, shows_what_stands, starts_between, stays_between, times_rise}
+use Rattle.fs_replay.proofs.Leading.{lines_are_events, runs_cut, runs_grow, runs_kept, runs_serial}
 use Rattle.fs_replay.proofs.laws.scripts_are_lawful.Goals as goal
 
 pub returns : goal.returns
@@ -13,8 +13,10 @@ returns c =
       nobody_waits = nobody_keeps;
       grows = lines_grow grow;
       serial = lines_serial;
+      lines_are_events = lines_are_events;
+      runs_kept = runs_kept kept;
       runs_grow = runs_grow kept grow;
-      runs_are_serial = runs_serial kept;
+      runs_are_serial = runs_serial c.machines_are_lawful.ensures.serial;
       runs_cut = runs_cut c.machines_are_lawful.ensures.cuts c.machines_are_lawful.ensures.times;
       unmoved = past_unmoved;
       rise = times_rise;

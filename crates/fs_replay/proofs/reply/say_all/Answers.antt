@@ -1,6 +1,6 @@
 use Rattle.std.proofs.Common.{◌≡◌, ℕ, ◌+◌, List, [], ◌∷◌, ◌++◌, take, sym, ap, ◌∙◌, append_assoc, arith}
 use Rattle.std.proofs.lemmas.List.{append-nil, take_more}
-use Rattle.fs_rpc.specs.declared.message.Message.{Message}
+use Rattle.fs_request.specs.declared.message.Message.{Message}
 use Rattle.fs_replay.specs.Outboxes.{message_line, message_lines}
 use Rattle.fs_replay.proofs.reply.say_all.Goals as goal
 

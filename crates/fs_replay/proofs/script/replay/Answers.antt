@@ -1,17 +1,29 @@
 use Rattle.fs_replay.specs.Transcript.{lines_of}
 use Rattle.fs_replay.proofs.script.replay.Goals as goal
 
+pub returns-in-Ok-clause-lines : goal.returns-in-Ok-clause-lines
+returns-in-Ok-clause-lines g c = λ taken rest before after. c.scripts_are_lawful.ensures.lines_are_events c.args.config c.args.limits (lines_of taken)
+
+pub returns-in-Err-clause-lines : goal.returns-in-Err-clause-lines
+returns-in-Err-clause-lines g c = λ taken rest before after. c.scripts_are_lawful.ensures.lines_are_events c.args.config c.args.limits (lines_of taken)
+
+pub returns-in-Ok-clause-kept : goal.returns-in-Ok-clause-kept
+returns-in-Ok-clause-kept g c = λ taken rest before after. c.scripts_are_lawful.ensures.runs_kept c.args.config c.args.limits (lines_of taken)
+
+pub returns-in-Err-clause-kept : goal.returns-in-Err-clause-kept
+returns-in-Err-clause-kept g c = λ taken rest before after. c.scripts_are_lawful.ensures.runs_kept c.args.config c.args.limits (lines_of taken)
+
 pub returns-in-Ok-clause-serial : goal.returns-in-Ok-clause-serial
-returns-in-Ok-clause-serial g c = λ taken rest before after. c.scripts_are_lawful.ensures.runs_are_serial c.args.config c.args.limits (lines_of taken) c.requires.limits
+returns-in-Ok-clause-serial g c = λ taken rest before after. c.scripts_are_lawful.ensures.runs_are_serial c.args.config c.args.limits (lines_of taken)
 
 pub returns-in-Err-clause-serial : goal.returns-in-Err-clause-serial
-returns-in-Err-clause-serial g c = λ taken rest before after. c.scripts_are_lawful.ensures.runs_are_serial c.args.config c.args.limits (lines_of taken) c.requires.limits
+returns-in-Err-clause-serial g c = λ taken rest before after. c.scripts_are_lawful.ensures.runs_are_serial c.args.config c.args.limits (lines_of taken)
 
 pub returns-in-Ok-clause-grows : goal.returns-in-Ok-clause-grows
-returns-in-Ok-clause-grows g c = λ taken rest before after. c.scripts_are_lawful.ensures.runs_grow c.args.config c.args.limits (lines_of taken) c.requires.limits
+returns-in-Ok-clause-grows g c = λ taken rest before after. c.scripts_are_lawful.ensures.runs_grow c.args.config c.args.limits (lines_of taken)
 
 pub returns-in-Err-clause-grows : goal.returns-in-Err-clause-grows
-returns-in-Err-clause-grows g c = λ taken rest before after. c.scripts_are_lawful.ensures.runs_grow c.args.config c.args.limits (lines_of taken) c.requires.limits
+returns-in-Err-clause-grows g c = λ taken rest before after. c.scripts_are_lawful.ensures.runs_grow c.args.config c.args.limits (lines_of taken)
 
 pub returns-in-Ok-clause-cuts : goal.returns-in-Ok-clause-cuts
 returns-in-Ok-clause-cuts g c = λ taken rest before after. c.scripts_are_lawful.ensures.runs_cut c.args.config c.args.limits (lines_of taken) c.requires.limits

@@ -7,7 +7,7 @@ use Rattle.fs_query.specs.Asked.{Asked}
 use Rattle.fs_queryjson.specs.Query.{permitted_at, walked_at}
 use Rattle.fs_rpc.specs.Requests.{structured_at}
 use Rattle.fs_rpc.specs.When.{when_at}
-use Rattle.fs_rpc.specs.declared.when.When.{When}
+use Rattle.fs_request.specs.declared.when.When.{When}
 use Rattle.fs_rpc.proofs.Structured.{structured_fails, structured_gives, walk_fails, passed_on, asked_when}
 use Rattle.fs_rpc.proofs.read.read_structured.Goals as goal
 

@@ -4,8 +4,8 @@ use Rattle.fs_path.specs.Way.{place_of}
 use Rattle.fs_json.specs.Answer.{Gives}
 use Rattle.fs_query.specs.declared.target.Target.{Target}
 use Rattle.fs_rpc.specs.ReadTargets.{permitted_request, permitted_target, target_query_place}
-use Rattle.fs_rpc.specs.declared.request.Request.{Request}
-use Rattle.fs_rpc.specs.declared.request.Request.TheVariants.{AddTarget}
+use Rattle.fs_request.specs.declared.request.Request.{Request}
+use Rattle.fs_request.specs.declared.request.Request.TheVariants.{AddTarget}
 use Rattle.fs_rpc.proofs.TargetSteps.{made_gives}
 use Rattle.fs_rpc.proofs.targets_read.refuse_broken_request.Goals as goal
 

@@ -1,6 +1,6 @@
 use Rattle.std.proofs.Common.{◌≡◌, map}
 use Rattle.fs_listen.specs.Raised.{stands_at}
-use Rattle.fs_rpc.specs.declared.message.Message.TheVariants as message
+use Rattle.fs_request.specs.declared.message.Message.TheVariants as message
 use Rattle.fs_target.specs.Laws.{with_deleted}
 use Rattle.fs_sessions.proofs.raise.all_told.Given as goal
 

@@ -34,29 +34,53 @@ returns-in-Ok-clause-unasked g c = λ options is.
     transcript config limits taken ≡ [] → c.replay.new.sink ≡ c.args.sink.now)) _ _ _
     (ap config_of (only options is) ∙ sym c.in-Ok.ensures) c.greatest.ensures c.replay.ensures.unasked
 
+pub returns-in-Err-clause-lines : goal.returns-in-Err-clause-lines
+returns-in-Err-clause-lines g c = λ options is taken rest before after. c.scripts_are_lawful.ensures.lines_are_events (config_of options) greatest (lines_of taken)
+
+pub returns-then-not-is_agreed-clause-lines : goal.returns-then-not-is_agreed-clause-lines
+returns-then-not-is_agreed-clause-lines g c = λ options is taken rest before after. c.scripts_are_lawful.ensures.lines_are_events (config_of options) greatest (lines_of taken)
+
+pub returns-in-Ok-clause-lines : goal.returns-in-Ok-clause-lines
+returns-in-Ok-clause-lines g c = λ options is taken rest before after. c.scripts_are_lawful.ensures.lines_are_events (config_of options) greatest (lines_of taken)
+
+pub returns-in-Err-config-clause-lines : goal.returns-in-Err-config-clause-lines
+returns-in-Err-config-clause-lines g c = λ options is taken rest before after. c.scripts_are_lawful.ensures.lines_are_events (config_of options) greatest (lines_of taken)
+
+pub returns-in-Err-clause-kept : goal.returns-in-Err-clause-kept
+returns-in-Err-clause-kept g c = λ options is taken rest before after. c.scripts_are_lawful.ensures.runs_kept (config_of options) greatest (lines_of taken)
+
+pub returns-then-not-is_agreed-clause-kept : goal.returns-then-not-is_agreed-clause-kept
+returns-then-not-is_agreed-clause-kept g c = λ options is taken rest before after. c.scripts_are_lawful.ensures.runs_kept (config_of options) greatest (lines_of taken)
+
+pub returns-in-Ok-clause-kept : goal.returns-in-Ok-clause-kept
+returns-in-Ok-clause-kept g c = λ options is taken rest before after. c.scripts_are_lawful.ensures.runs_kept (config_of options) greatest (lines_of taken)
+
+pub returns-in-Err-config-clause-kept : goal.returns-in-Err-config-clause-kept
+returns-in-Err-config-clause-kept g c = λ options is taken rest before after. c.scripts_are_lawful.ensures.runs_kept (config_of options) greatest (lines_of taken)
+
 pub returns-in-Err-clause-serial : goal.returns-in-Err-clause-serial
-returns-in-Err-clause-serial g c = λ options is taken rest before after. c.scripts_are_lawful.ensures.runs_are_serial (config_of options) greatest (lines_of taken) greatest_allowed
+returns-in-Err-clause-serial g c = λ options is taken rest before after. c.scripts_are_lawful.ensures.runs_are_serial (config_of options) greatest (lines_of taken)
 
 pub returns-then-not-is_agreed-clause-serial : goal.returns-then-not-is_agreed-clause-serial
-returns-then-not-is_agreed-clause-serial g c = λ options is taken rest before after. c.scripts_are_lawful.ensures.runs_are_serial (config_of options) greatest (lines_of taken) greatest_allowed
+returns-then-not-is_agreed-clause-serial g c = λ options is taken rest before after. c.scripts_are_lawful.ensures.runs_are_serial (config_of options) greatest (lines_of taken)
 
 pub returns-in-Ok-clause-serial : goal.returns-in-Ok-clause-serial
-returns-in-Ok-clause-serial g c = λ options is taken rest before after. c.scripts_are_lawful.ensures.runs_are_serial (config_of options) greatest (lines_of taken) greatest_allowed
+returns-in-Ok-clause-serial g c = λ options is taken rest before after. c.scripts_are_lawful.ensures.runs_are_serial (config_of options) greatest (lines_of taken)
 
 pub returns-in-Err-config-clause-serial : goal.returns-in-Err-config-clause-serial
-returns-in-Err-config-clause-serial g c = λ options is taken rest before after. c.scripts_are_lawful.ensures.runs_are_serial (config_of options) greatest (lines_of taken) greatest_allowed
+returns-in-Err-config-clause-serial g c = λ options is taken rest before after. c.scripts_are_lawful.ensures.runs_are_serial (config_of options) greatest (lines_of taken)
 
 pub returns-in-Err-clause-grows : goal.returns-in-Err-clause-grows
-returns-in-Err-clause-grows g c = λ options is taken rest before after. c.scripts_are_lawful.ensures.runs_grow (config_of options) greatest (lines_of taken) greatest_allowed
+returns-in-Err-clause-grows g c = λ options is taken rest before after. c.scripts_are_lawful.ensures.runs_grow (config_of options) greatest (lines_of taken)
 
 pub returns-then-not-is_agreed-clause-grows : goal.returns-then-not-is_agreed-clause-grows
-returns-then-not-is_agreed-clause-grows g c = λ options is taken rest before after. c.scripts_are_lawful.ensures.runs_grow (config_of options) greatest (lines_of taken) greatest_allowed
+returns-then-not-is_agreed-clause-grows g c = λ options is taken rest before after. c.scripts_are_lawful.ensures.runs_grow (config_of options) greatest (lines_of taken)
 
 pub returns-in-Ok-clause-grows : goal.returns-in-Ok-clause-grows
-returns-in-Ok-clause-grows g c = λ options is taken rest before after. c.scripts_are_lawful.ensures.runs_grow (config_of options) greatest (lines_of taken) greatest_allowed
+returns-in-Ok-clause-grows g c = λ options is taken rest before after. c.scripts_are_lawful.ensures.runs_grow (config_of options) greatest (lines_of taken)
 
 pub returns-in-Err-config-clause-grows : goal.returns-in-Err-config-clause-grows
-returns-in-Err-config-clause-grows g c = λ options is taken rest before after. c.scripts_are_lawful.ensures.runs_grow (config_of options) greatest (lines_of taken) greatest_allowed
+returns-in-Err-config-clause-grows g c = λ options is taken rest before after. c.scripts_are_lawful.ensures.runs_grow (config_of options) greatest (lines_of taken)
 
 pub returns-in-Err-clause-cuts : goal.returns-in-Err-clause-cuts
 returns-in-Err-clause-cuts g c = λ options is taken rest before after. c.scripts_are_lawful.ensures.runs_cut (config_of options) greatest (lines_of taken) greatest_allowed

@@ -1,6 +1,6 @@
 use Rattle.std.proofs.Common.{sym, ap, ◌∙◌}
 use Rattle.std.proofs.lemmas.Result.{IfOk-weaker}
-use Rattle.fs_rpc.specs.declared.request.Request.TheVariants as request
+use Rattle.fs_request.specs.declared.request.Request.TheVariants as request
 use Rattle.fs_machine.specs.Commit.{unless_closed}
 use Rattle.fs_machine.specs.Refusing.{outbox_refusal}
 use Rattle.fs_machine.specs.Request.{arrival_refusal, query_refusal}

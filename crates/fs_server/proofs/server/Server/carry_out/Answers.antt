@@ -1,6 +1,6 @@
 use Rattle.std.proofs.Common.{sym, ap, ◌∙◌, subst}
 use Rattle.std.proofs.lemmas.Result.{IfOk-weaker}
-use Rattle.fs_rpc.specs.declared.request.Request.TheVariants as request
+use Rattle.fs_request.specs.declared.request.Request.TheVariants as request
 use Rattle.fs_machine.specs.Request.{answer_by, carried_by, check_refusal}
 use Rattle.fs_server.specs.Changes.{Does, asking}
 use Rattle.fs_server.specs.Noted.{noted_reads}

@@ -7,9 +7,11 @@ use Rattle.std.proofs.lemmas.Int.{ints}
 use Rattle.fs_history.specs.Brings.{AreChangesIn}
 use Rattle.fs_path.specs.Scope.{in_shard}
 use Rattle.fs_machine.specs.State.{Machine}
-use Rattle.fs_server.specs.Events.{AreEvents}
+use Rattle.fs_server.specs.Events.{AreEvents, IsOwed}
+use Rattle.fs_sessions.specs.Heard.{listeners_of}
 use Rattle.fs_sessions.specs.Matched.{ear_events, least_in}
 use Rattle.fs_server.proofs.EventsNamed.{IsEvent, all_named, all_until, are_events, changes_told}
+use Rattle.fs_server.proofs.EventsOwed.{all_owed}
 use Rattle.fs_server.proofs.EventsTold.{are_none, are_told}
 use Rattle.fs_server.proofs.Positions.{least_readable}
 use Rattle.fs_server.proofs.server.Server.events.Goals as goal
@@ -35,6 +37,16 @@ returns-in_ok-events-in-Some-clause-events c =
     let listened = c.self.invariant.listened in
     subst (λ (k : Machine). AreEvents k shard k.past.released es) c.self.view_is
     (are_told s.past.history s.config.shards shard from s.past.released commits changed es s.numbers.targets s.listeners is (sym c.in-Some.ensures) listened.differ listened.numbers)
+
+pub returns-in_ok-events-in-Some-clause-owed : goal.returns-in_ok-events-in-Some-clause-owed
+returns-in_ok-events-in-Some-clause-owed c =
+    let s = c.self.inside in
+    let shard = c.args.shard in
+    let commits = c.in_ok-commits-in-Some.commits in
+    let es = c.in_ok-events-in-Some.field-0 in
+    let is : es ≡ flat_map (ear_events shard commits) s.listeners = c.in_ok-events-in-Some.ensures ∙ ap (λ cs. flat_map (ear_events shard cs) s.listeners) c.as_slice.ensures in
+    subst (λ (k : Machine). AllByRecursion (IsOwed shard k.listeners) es) c.self.view_is
+    (subst (AllByRecursion (IsOwed shard (listeners_of s.listeners))) (sym is) (all_owed shard commits s.listeners))
 
 pub returns-in_ok-events-in-Some-clause-named : goal.returns-in_ok-events-in-Some-clause-named
 returns-in_ok-events-in-Some-clause-named c =

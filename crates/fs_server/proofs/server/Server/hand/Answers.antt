@@ -1,5 +1,5 @@
 use Rattle.std.proofs.Common.{refl, ◌∙◌}
-use Rattle.fs_rpc.specs.declared.stream_request.StreamRequest.TheVariants.{Resume}
+use Rattle.fs_request.specs.declared.stream_request.StreamRequest.TheVariants.{Resume}
 use Rattle.fs_machine.specs.State.{Machine}
 use Rattle.fs_sessions.specs.Heard.{listeners_of}
 use Rattle.fs_server.proofs.Writing.{streamed_kept, streamed_so}

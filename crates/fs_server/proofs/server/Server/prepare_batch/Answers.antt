@@ -1,5 +1,5 @@
 use Rattle.std.proofs.Common.{◌≡◌, ◌+◌, ◌≤◌, [], None, length, refl, sym, ap, ◌∙◌, subst}
-use Rattle.fs_rpc.specs.declared.request.Request.TheVariants.{Commit}
+use Rattle.fs_request.specs.declared.request.Request.TheVariants.{Commit}
 use Rattle.fs_stream.specs.Streams.{taken}
 use Rattle.fs_stream.specs.declared.take.Take.TheVariants.{New}
 use Rattle.fs_machine.specs.Commit.{prepared}

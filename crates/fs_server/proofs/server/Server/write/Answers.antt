@@ -1,8 +1,8 @@
 use Rattle.std.proofs.Common.{Result, Ok, Err, refl, sym, ap, ◌∙◌}
 use Rattle.std.specs.Prelude.{OnOk}
 use Rattle.std.proofs.lemmas.Result.{IfOk-weaker}
-use Rattle.fs_rpc.specs.declared.stream_request.StreamRequest.{StreamRequest}
-use Rattle.fs_rpc.specs.declared.stream_request.StreamRequest.TheVariants.{Open, Resume, Ask, Mixed}
+use Rattle.fs_request.specs.declared.stream_request.StreamRequest.{StreamRequest}
+use Rattle.fs_request.specs.declared.stream_request.StreamRequest.TheVariants.{Open, Resume, Ask, Mixed}
 use Rattle.fs_machine.specs.Request.{answered, asked}
 use Rattle.fs_server.specs.Streaming.{writing}
 use Rattle.fs_server.proofs.Writing.{state_asking, state_call, state_mixed, told_call, told_streaming}

@@ -91,77 +91,149 @@ fn copy_token(alloc: Global, token: &Option<Bytes>) -> Result<Option<Bytes>, All
     }
 }
 
+// A copy of each is made in a function of its own: what is owned where memory runs out is then little.
+
+fn copy_commit(
+    alloc: Global,
+    database: &Root,
+    writes: &Writes,
+    transaction: Option<Id>,
+) -> Result<Request, AllocError>
+    ensures { IfOk result (λ r. r ≡ Request.Commit database.now writes.now transaction) }
+{
+    let database = database.copy(alloc)?;
+    Ok(Request::Commit {
+        database,
+        writes: writes.copy(alloc)?,
+        transaction,
+    })
+}
+
+fn copy_get(
+    alloc: Global,
+    name: &DocName,
+    mask: &Option<Paths>,
+    when: When,
+) -> Result<Request, AllocError>
+    ensures { IfOk result (λ r. r ≡ Request.GetDocument name.now mask.now when) }
+{
+    let mask = copy_mask(alloc, mask)?;
+    Ok(Request::GetDocument {
+        name: name.copy(alloc)?,
+        mask,
+        when,
+    })
+}
+
+fn copy_batch_get(
+    alloc: Global,
+    database: &Root,
+    documents: &Names,
+    mask: &Option<Paths>,
+    when: When,
+) -> Result<Request, AllocError>
+    ensures { IfOk result (λ r. r ≡ Request.BatchGetDocuments database.now documents.now mask.now when) }
+{
+    let database = database.copy(alloc)?;
+    let mask = copy_mask(alloc, mask)?;
+    Ok(Request::BatchGetDocuments {
+        database,
+        documents: documents.copy(alloc)?,
+        mask,
+        when,
+    })
+}
+
+fn copy_run_query(
+    alloc: Global,
+    database: &Root,
+    query: &Query,
+    when: When,
+) -> Result<Request, AllocError>
+    ensures { IfOk result (λ r. r ≡ Request.RunQuery database.now query.now when) }
+{
+    let database = database.copy(alloc)?;
+    Ok(Request::RunQuery {
+        database,
+        query: query.copy(alloc)?,
+        when,
+    })
+}
+
+fn copy_add_target(
+    alloc: Global,
+    database: &Root,
+    id: u32,
+    target: &Target,
+    token: &Option<Bytes>,
+) -> Result<Request, AllocError>
+    ensures { IfOk result (λ r. r ≡ Request.AddTarget database.now id target.now token.now) }
+{
+    let database = database.copy(alloc)?;
+    let token = copy_token(alloc, token)?;
+    Ok(Request::AddTarget {
+        database,
+        id,
+        target: target.copy(alloc)?,
+        token,
+    })
+}
+
+fn copy_write(alloc: Global, database: &Root, asked: &StreamRequest) -> Result<Request, AllocError>
+    ensures { IfOk result (λ r. r ≡ Request.Write database.now asked.now) }
+{
+    let database = database.copy(alloc)?;
+    Ok(Request::Write {
+        database,
+        asked: asked.copy(alloc)?,
+    })
+}
+
 impl Request {
     pub fn copy(&self, alloc: Global) -> Result<Request, AllocError>
         ensures { IfOk result (λ r. r ≡ self.now) }
     {
-        // In each, what holds most comes last, so that little is given back where memory runs out.
-        Ok(match self {
+        match self {
             Request::Commit {
                 database,
                 writes,
                 transaction,
-            } => Request::Commit {
-                database: database.copy(alloc)?,
-                writes: writes.copy(alloc)?,
-                transaction: *transaction,
-            },
-            Request::GetDocument { name, mask, when } => Request::GetDocument {
-                name: name.copy(alloc)?,
-                mask: copy_mask(alloc, mask)?,
-                when: *when,
-            },
+            } => copy_commit(alloc, database, writes, *transaction),
+            Request::GetDocument { name, mask, when } => copy_get(alloc, name, mask, *when),
             Request::BatchGetDocuments {
                 database,
                 documents,
                 mask,
                 when,
-            } => Request::BatchGetDocuments {
-                database: database.copy(alloc)?,
-                mask: copy_mask(alloc, mask)?,
-                documents: documents.copy(alloc)?,
-                when: *when,
-            },
+            } => copy_batch_get(alloc, database, documents, mask, *when),
             Request::RunQuery {
                 database,
                 query,
                 when,
-            } => Request::RunQuery {
-                database: database.copy(alloc)?,
-                query: query.copy(alloc)?,
-                when: *when,
-            },
-            Request::BeginTransaction { database, options } => Request::BeginTransaction {
+            } => copy_run_query(alloc, database, query, *when),
+            Request::BeginTransaction { database, options } => Ok(Request::BeginTransaction {
                 database: database.copy(alloc)?,
                 options: *options,
-            },
+            }),
             Request::Rollback {
                 database,
                 transaction,
-            } => Request::Rollback {
+            } => Ok(Request::Rollback {
                 database: database.copy(alloc)?,
                 transaction: *transaction,
-            },
+            }),
             Request::AddTarget {
                 database,
                 id,
                 target,
                 token,
-            } => Request::AddTarget {
-                database: database.copy(alloc)?,
-                token: copy_token(alloc, token)?,
-                target: target.copy(alloc)?,
-                id: *id,
-            },
-            Request::RemoveTarget { database, id } => Request::RemoveTarget {
+            } => copy_add_target(alloc, database, *id, target, token),
+            Request::RemoveTarget { database, id } => Ok(Request::RemoveTarget {
                 database: database.copy(alloc)?,
                 id: *id,
-            },
-            Request::Write { database, asked } => Request::Write {
-                database: database.copy(alloc)?,
-                asked: asked.copy(alloc)?,
-            },
-        })
+            }),
+            Request::Write { database, asked } => copy_write(alloc, database, asked),
+        }
     }
 }
 
