@@ -14,7 +14,6 @@ use Rattle.fs_path.proofs.Bools.{to_true}
 use Rattle.fs_path.specs.NameOrder.{name_cmp}
 use Rattle.fs_path.specs.declared.name.DocName.{DocName}
 use Rattle.fs_query.specs.declared.listen.Cause.{Cause}
-use Rattle.fs_query.specs.declared.listen.ListenMessage.{ListenMessage}
 use Rattle.fs_query.specs.declared.listen.ListenMessage.TheVariants as message
 use Rattle.fs_value.specs.declared.document.Document.{Document}
 use Rattle.fs_write.specs.After.{after_batch}
@@ -25,7 +24,7 @@ use Rattle.fs_match.specs.Event.{fitting, is_among}
 use Rattle.fs_match.proofs.Changes.{fitting_by_name}
 use Rattle.fs_listen.specs.Cuts.{base, cut, first_loading, is_current, is_from, is_loaded, is_ready, is_ready_at, least_position, positions_of, times_of}
 use Rattle.fs_listen.specs.Gathered.{NeverFalls, ended_at, gathered, is_in, raise_in}
-use Rattle.fs_listen.specs.Laws.{IsOneTime, gathered_of}
+use Rattle.fs_listen.specs.Laws.{AreTold, IsOneTime, gathered_of}
 use Rattle.fs_listen.specs.Listening.{Loaded, Listened, Listening, added, loaded_at, loaded_one, made_current, matched, moved, raised_to, removed, with_loaded}
 use Rattle.fs_listen.specs.Raised.{raised, sent_time, sent_view, stands_at, views_of}
 use Rattle.fs_listen.specs.Runs.{Event, World, adds, refuses, removes, loads, matches, raises, releases, compacts, May, MayAll, after, after_all, begun, is_lost, raising_at, reset_of, token_of_target}
@@ -50,10 +49,6 @@ IsWithin to l = IfSome l.token (λ k. k ≤ℤ to) × AreBy to (positions_of l.l
 abbrev AreUpTo : Option ℤ → List ℤ → Type 0
 AreUpTo None ts = ts ≡ []
 AreUpTo (Some r) ts = AllByRecursion (λ u. u ≤ℤ r) ts
-
-abbrev pub AreTold : List Batch → Listening → List ListenMessage → Type 0
-AreTold h s said = (id : ℕ) (l : Listened) → get s.targets id ≡ Some l
-    → (name : DocName) → gathered_of h id l said name ≡ get (view_at l.target h (sent_time s.raised l.token l.loaded)) name
 
 pub record IsTold (w : World) : Type 0 where
   pub told : AreTold w.history w.listening w.said
@@ -273,7 +268,7 @@ match_keeps shard to w is by = record {
 
 -- ---- releasing
 
-at_more : (bs h : List Batch) (released t : ℤ) → AllByRecursion (λ (b : Batch). released <ℤ b.time) bs → t ≤ℤ released → at (bs ++ h) t ≡ at h t
+pub at_more : (bs h : List Batch) (released t : ℤ) → AllByRecursion (λ (b : Batch). released <ℤ b.time) bs → t ≤ℤ released → at (bs ++ h) t ≡ at h t
 at_more [] h released t later by = refl
 at_more (b ∷ bs) h released t later by =
     let above : released <ℤ b.time = later.0 in
@@ -325,7 +320,7 @@ view_there t docs name = subst (λ o. IfSome o (λ x. get docs name ≡ Some x))
     by_test true = is
     by_test false = tt
 
-all_there : (h : List Batch) (time : ℤ) (s : Listening) (name : DocName) (es : List (ℕ × Listened))
+pub all_there : (h : List Batch) (time : ℤ) (s : Listening) (name : DocName) (es : List (ℕ × Listened))
     → AllByRecursion (λ (v : Views). IfSome (get v.new name) (λ x. get (at h time) name ≡ Some x))
     (map (λ (e : ℕ × Listened). record { id = e.0; sent = sent_view h s.raised e.1; new = view e.1.target (at h time) }) es)
 all_there h time s name [] = tt

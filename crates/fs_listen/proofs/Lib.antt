@@ -4,6 +4,14 @@ pub mod Filters
 pub mod Listed
 pub mod Names
 mod Sending
+mod Served
 pub mod Shown
 pub mod Targets
 mod Telling
+mod ViewAnswers
+mod Currents
+pub mod OfDocuments
+mod LoadTimes
+mod UpdateTimes
+mod Versions
+mod Ready

@@ -154,7 +154,7 @@ module _ (docs : Docs) (named : AreNamed docs) where
       ∙ ap (fitting keep) (ap (find name_cmp q) (listed_entries docs named) ∙ sym (get-entries docs q))
       ∙ sym (fitting_by_name keep docs q))
 
-  values_fitting : (keep : Document → Bool) → values (docs_fitting keep docs) ≡ filter keep (values docs)
+  pub values_fitting : (keep : Document → Bool) → values (docs_fitting keep docs) ≡ filter keep (values docs)
   values_fitting keep = ap values (sym (docs_where keep)) ∙ values_again (filter keep (values docs)) (rise_fitting keep (values docs) listed_rise)
 
   -- and those of some names

@@ -8,3 +8,6 @@ pub mod Runs
 pub mod Sent
 pub mod Told
 pub mod View
+pub mod Currents
+pub mod Versions
+pub mod ReadyLaws

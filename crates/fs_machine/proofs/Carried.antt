@@ -230,7 +230,7 @@ asked_times m r id (Some refusal) = omega arith
 asked_times m r id None = drawn_times m r id (draws r.envelope.request)
 
 -- one that is tried again keeps the number that it drew
-own_or_drawn : (id : ℕ) (r : ParkedRequest) (q : Request) → drawn_count id r q ≤ own_count id r (transaction_in q)
+pub own_or_drawn : (id : ℕ) (r : ParkedRequest) (q : Request) → drawn_count id r q ≤ own_count id r (transaction_in q)
 own_or_drawn id r (Commit database writes None) = omega arith
 own_or_drawn id r (Commit database writes (Some of)) = omega arith
 own_or_drawn id r (GetDocument name mask when) = omega arith
@@ -389,7 +389,7 @@ pub record AreTheSame (ss other : List Session) : Type 0 where
 abbrev pub AreKept : ℕ → List Session → List Session → Type 0
 AreKept number ss other = (other ≡ ss) ⊎ (other ≡ owning number ss)
 
-the_same : (number : ℕ) (ss other : List Session) → AreKept number ss other → AreTheSame ss other
+pub the_same : (number : ℕ) (ss other : List Session) → AreKept number ss other → AreTheSame ss other
 the_same number ss other (inl is) = record { numbers = ap numbers_of is; outboxes = λ k. ap (outbox_in k) is }
 the_same number ss other (inr is) = record { numbers = ap numbers_of is ∙ numbers_owning ss number; outboxes = λ k. ap (outbox_in k) is ∙ outbox_owning ss number k }
 

@@ -13,9 +13,9 @@ use Rattle.fs_request.specs.declared.request.Envelope.{Envelope}
 use Rattle.fs_status.specs.declared.refusal.Refusal.{Refusal}
 use Rattle.fs_write.specs.Batch.{Docs}
 use Rattle.fs_write.specs.declared.write_result.WriteResult.{WriteResult}
-use Rattle.fs_listen.specs.Cuts.{is_loaded, is_ready}
+use Rattle.fs_listen.specs.Cuts.{cut, is_loaded, is_ready}
 use Rattle.fs_listen.specs.Gathered.{NeverFalls, ended_at, raise_in}
-use Rattle.fs_listen.specs.Laws.{ConsistentCuts, IsOneTime, TimesNeverFall}
+use Rattle.fs_listen.specs.Laws.{ConsistentCuts, IsOneTime, IsServed, ServedAreRaised as SessionsServed, TimesNeverFall}
 use Rattle.fs_listen.specs.Listening.{Listened, Listening, Loaded, loaded as loaded_in, raised_to}
 use Rattle.fs_listen.specs.Raised.{raised as sent_by}
 use Rattle.fs_listen.specs.Runs.{World, is_lost, raising_at, reset_of, token_of_target}
@@ -28,7 +28,7 @@ use Rattle.fs_machine.specs.Facts.{Facts}
 use Rattle.fs_machine.specs.FloorIsReleased.{FloorIsReleased}
 use Rattle.fs_machine.specs.Leave.{departed}
 use Rattle.fs_machine.specs.Listen.{listening_of}
-use Rattle.fs_machine.specs.ListenLaws.{CutsAreConsistent, RaisesNeverFall}
+use Rattle.fs_machine.specs.ListenLaws.{CutsAreConsistent, RaisesNeverFall, ServedAreRaised}
 use Rattle.fs_machine.specs.Listeners.{Listener}
 use Rattle.fs_machine.specs.Load.{load_refusal, loaded, loaded_unless, loaded_with, refusal_at}
 use Rattle.fs_machine.specs.Open.{is_full, with_session}
@@ -431,7 +431,7 @@ all_followed shards k m (e ∷ es) said facts followed =
 begins_followed : (config : Config) (limits : Limits) (start : ℤ) (k : ℕ) → IsFollowed config.shards k (started config limits start) []
 begins_followed config limits start k = record { config = refl; led = λ now. absurd (cc); fresh = λ above. refl }
 
-led_in : (config : Config) (limits : Limits) (start : ℤ) (events : List Event) (k : ℕ) → is_open k (after (started config limits start) events).sessions ≡ true
+pub led_in : (config : Config) (limits : Limits) (start : ℤ) (events : List Event) (k : ℕ) → is_open k (after (started config limits start) events).sessions ≡ true
     → IsLed config.shards (world_of (after (started config limits start) events) k (told_in (started config limits start) events k))
 led_in config limits start events k is =
     (all_followed config.shards k (started config limits start) events [] (begins config limits start) (begins_followed config limits start k)).led is
@@ -446,3 +446,10 @@ pub raises_never_fall : TimesNeverFall → RaisesNeverFall
 raises_never_fall law config limits start events session is =
     let led = led_in config limits start events session is in
     subst (λ (w : World). NeverFalls (filter_map raise_in w.said)) led.leads (law config.shards led.history led.released led.floor led.events led.may)
+
+pub served_are_raised : SessionsServed → ServedAreRaised
+served_are_raised law config limits start events session is served some =
+    let led = led_in config limits start events session is in
+    let raised = law config.shards led.history led.released led.floor led.events led.may (subst (IsServed config.shards) (sym led.leads) served)
+    (λ none. some (ap (λ (w : World). cut w.listening) (sym led.leads) ∙ none)) in
+    ap (λ (w : World). w.listening.raised) (sym led.leads) ∙ raised ∙ ap (λ (w : World). Some w.released) led.leads

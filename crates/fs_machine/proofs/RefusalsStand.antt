@@ -9,7 +9,6 @@ use Rattle.std.proofs.lemmas.Option.{same_Some}
 use Rattle.fs_history.specs.History.{EndsBefore, EndsBy, IsRising, before, whole}
 use Rattle.fs_history.specs.declared.batch.Batch.{Batch}
 use Rattle.fs_history.proofs.HistoryLaws.{before_skips, before_whole}
-use Rattle.fs_request.specs.declared.request.Envelope.{Envelope}
 use Rattle.fs_status.specs.declared.refusal.Refusal.{Refusal}
 use Rattle.fs_write.proofs.AfterLaws.{law_unwritten}
 use Rattle.fs_write.proofs.BatchLaws.{Agree, law_named_refused}
@@ -22,13 +21,10 @@ use Rattle.fs_machine.specs.AnswersStand.{RefusalsStand}
 use Rattle.fs_machine.specs.Commit.{past_prepared}
 use Rattle.fs_machine.specs.Compact.{first_asked, past_compacted}
 use Rattle.fs_machine.specs.Event.{Event, after, step}
-use Rattle.fs_machine.specs.Facts.{Facts}
-use Rattle.fs_machine.specs.Load.{loaded}
 use Rattle.fs_machine.specs.NamesApart.{AreApart}
 use Rattle.fs_machine.specs.Open.{is_full, with_session}
 use Rattle.fs_machine.specs.Past.{Past, batches}
-use Rattle.fs_machine.specs.Raise.{raised}
-use Rattle.fs_machine.specs.Release.{free_to, freed, is_freed, joined, kept_back, past_released}
+use Rattle.fs_machine.specs.Release.{free_to, freed, is_freed, joined, past_released}
 use Rattle.fs_machine.specs.Request.{arrival_refusal, arrived, asked}
 use Rattle.fs_machine.specs.Retry.{retried}
 use Rattle.fs_machine.specs.Settle.{accepted_in, decided, decided_if, decided_with, docs_for, dropped_from, is_it, outcome_of, past_decided, pending_in, pending_of}

@@ -1,9 +1,8 @@
 -- The results of a commit that is let out are those of its writes on the documents just before its time, then and in every later state.
-use Rattle.std.proofs.Common.{◌≡◌, ◌⊎◌, inl, inr, ℤ, ◌<ℤ◌, ◌≤ℤ◌, Bool, true, false, cond, List, [], ◌∷◌, ◌++◌, Option, Some, None, Ok, refl, sym, ap, ◌∙◌, subst, arith}
-use Rattle.std.specs.Prelude.{int_le, not, ◌&&◌}
+use Rattle.std.proofs.Common.{◌≡◌, ◌⊎◌, inl, inr, ℤ, ◌<ℤ◌, ◌≤ℤ◌, Bool, true, false, cond, List, [], ◌∷◌, ◌++◌, Option, Some, None, refl, sym, ap, ◌∙◌, subst, arith}
 use Rattle.std.specs.List.{AllByRecursion, Contains}
 use Rattle.std.proofs.lemmas.Int.{ints}
-use Rattle.std.proofs.lemmas.List.Elements.{All-contains, All-from_recursion, Contains-append_cases}
+use Rattle.std.proofs.lemmas.List.Elements.{All-contains, All-from_recursion, Contains-append_cases, Contains-append_right}
 use Rattle.fs_history.specs.History.{EndsBefore, EndsBy, IsRising, before, whole}
 use Rattle.fs_history.specs.declared.batch.Batch.{Batch}
 use Rattle.fs_history.proofs.HistoryLaws.{before_skips, before_whole}
@@ -15,8 +14,7 @@ use Rattle.fs_machine.specs.Event.{Event, after, step}
 use Rattle.fs_machine.specs.Facts.{Facts, PastFacts}
 use Rattle.fs_machine.specs.Grows.{AreLater, Grows}
 use Rattle.fs_machine.specs.Laws.{let_out_by, let_out_in}
-use Rattle.fs_machine.specs.NamesApart.{AreApart}
-use Rattle.fs_machine.specs.Past.{Past, batches, is_pending}
+use Rattle.fs_machine.specs.Past.{Past, is_pending}
 use Rattle.fs_machine.specs.Release.{free_to, freed, is_freed, joined, past_released}
 use Rattle.fs_machine.specs.ResultsHold.{AreResultsOf, HasResults}
 use Rattle.fs_machine.specs.State.{Machine}
@@ -37,9 +35,13 @@ pub before_stays : (old new : Past) (t : ℤ) → Grows old new → t ≤ℤ old
 before_stays old new t grows within =
     ap (λ (h : List Batch). before h t) grows.history ∙ later_skipped grows.more old.history t old.released within grows.later
 
-right_stays : (h k : List Batch) (u : Unreleased) → before k u.batch.time ≡ before h u.batch.time → IsRightIn h u → IsRightIn k u
-right_stays h k u same right =
+there_stays : (old new : Past) (b : Batch) → Grows old new → Contains old.history b → Contains new.history b
+there_stays old new b grows there = subst (λ (h : List Batch). Contains h b) (sym grows.history) (Contains-append_right grows.more old.history b there)
+
+right_stays : (h k : List Batch) (u : Unreleased) → Contains k u.batch → before k u.batch.time ≡ before h u.batch.time → IsRightIn h u → IsRightIn k u
+right_stays h k u there same right =
     record {
+      there = there;
       results = right.results;
       given = right.given;
       after = right.after;
@@ -68,12 +70,20 @@ has_some docs u (Some given) is some has = (given, is, has)
 freed_isnt_pending : (to : ℤ) (u : Unreleased) → is_freed to u ≡ true → is_pending u ≡ false
 freed_isnt_pending to u is = grind (arith)
 
+joined_keeps : (us : List Unreleased) (h : List Batch) (b : Batch) → Contains h b → Contains (joined h us) b
+joined_keeps [] h b there = there
+joined_keeps (u ∷ us) h b there = joined_keeps us (u.batch ∷ h) b (Contains-append_right (u.batch ∷ []) h b there)
+
+first_there : (b : Batch) (h : List Batch) → Contains (b ∷ h) b
+first_there b h = (0, omega arith, refl)
+
 one_right : (h : List Batch) (u : Unreleased) (us : List Unreleased) (last to : ℤ) → IsRising (u.batch ∷ h) → RiseFrom u.batch.time last us → HasResults (whole h) u → is_pending u ≡ false
     → IsRightIn (joined (u.batch ∷ h) (freed to us)) u
 one_right h u us last to rising rises has some =
     let found = has_some (whole h) u u.results refl some has in
     let docs = joined_skipped us u.batch.time last to u.batch.time rises (omega (arith, ints)) (u.batch ∷ h) ∙ before_whole u.batch h rising in
     record {
+      there = joined_keeps (freed to us) (u.batch ∷ h) u.batch (first_there u.batch h);
       results = found.0;
       given = found.1;
       after = found.2.0;
@@ -129,7 +139,9 @@ right_at_release p u facts out =
 
 right_for_good : (m : Machine) (more : List Event) (u : Unreleased) → Facts m → IsRightIn m.past.history u → u.batch.time ≤ℤ m.past.released → IsRightIn (after m more).past.history u
 right_for_good m more u facts right within =
-    right_stays m.past.history (after m more).past.history u (before_stays m.past (after m more).past u.batch.time (all_grow m more facts) within) right
+    let grows = all_grow m more facts in
+    right_stays m.past.history (after m more).past.history u (there_stays m.past (after m more).past u.batch grows right.there)
+    (before_stays m.past (after m more).past u.batch.time grows within) right
 
 after_more : (m : Machine) (es more : List Event) → after m (es ++ more) ≡ after (after m es) more
 after_more m [] more = refl

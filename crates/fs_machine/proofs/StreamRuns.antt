@@ -1,11 +1,12 @@
 -- What holds of the streams of every run: each finishes what it took, once and in order.
-use Rattle.std.proofs.Common.{◌≡◌, ℕ, ℤ, zero, suc, ◌+◌, Bool, true, false, cond, List, [], ◌∷◌, ◌++◌, map, Option, Some, None, Result, Ok, Err, length, refl, sym, ap, ◌∙◌, subst, arith}
-use Rattle.std.specs.Prelude.{is_some, slice_get}
-use Rattle.std.specs.List.{filter}
+use Rattle.std.proofs.Common.{◌≡◌, ℕ, ℤ, zero, suc, ◌+◌, ◌≤◌, Bool, true, false, cond, List, [], ◌∷◌, ◌++◌, map, Option, Some, None, Result, Ok, Err, length, refl, sym, ap, ◌∙◌, subst, arith}
+use Rattle.std.specs.Prelude.{IfSome, ◌==◌, slice_get, unwrap_or}
+use Rattle.std.specs.List.{filter, filter_map}
 use Rattle.std.proofs.lemmas.List.{append-nil, length-append, length-map, map-append}
-use Rattle.std.proofs.lemmas.List.Elements.{filter-append}
+use Rattle.std.proofs.lemmas.List.Elements.{filter-append, filter_map-append}
 use Rattle.fs_status.specs.declared.refusal.Refusal.{Refusal}
 use Rattle.fs_stream.specs.Streams.{Streams, fresh, none_opened, stream_of}
+use Rattle.fs_stream.specs.declared.kept.Kept.{Kept}
 use Rattle.fs_stream.specs.declared.stream.Stream.{Stream as WriteStream}
 use Rattle.fs_write.specs.Batch.{Docs}
 use Rattle.fs_write.specs.declared.write.Write.{Write}
@@ -19,15 +20,16 @@ use Rattle.fs_machine.specs.Retry.{retry_decision}
 use Rattle.fs_machine.specs.Settle.{outcome_of, pending_of}
 use Rattle.fs_machine.specs.State.{Machine, started}
 use Rattle.fs_machine.specs.Stream.{kept_of}
-use Rattle.fs_machine.specs.StreamLaws.{AreOnceInOrder, CountOn, decided_of, finishes, finishes_in, given_up_of, in_progress, last_of, retried_of, settled_of, takes, takes_in}
+use Rattle.fs_machine.specs.StreamLaws.{AreOnceInOrder, CountOn, committed_at, decided_of, finishes, finishes_in, given_up_of, in_progress, last_of, retried_of, settled_of, takes, takes_in}
 use Rattle.fs_machine.specs.StreamsHold.{answers, is_for, of_stream}
 use Rattle.fs_machine.specs.declared.config.Config.{Config}
 use Rattle.fs_machine.specs.declared.limits.Limits.{Limits}
 use Rattle.fs_machine.specs.declared.parked_request.ParkedRequest.{ParkedRequest}
 use Rattle.fs_machine.specs.declared.unreleased.Unreleased.{Unreleased}
 use Rattle.fs_machine.proofs.Runs.{begins, keeps}
-use Rattle.fs_machine.proofs.StreamsInOrder.{Goes, Taken, goes, goes_on, tokens}
-use Rattle.fs_machine.proofs.StreamsMove.{Done, Moves, counted_on, moves, moves_on, moves_same, response}
+use Rattle.fs_machine.proofs.StreamsInOrder.{Goes, goes, goes_on, tokens}
+use Rattle.fs_machine.proofs.StreamsMove.{Done, Moves, counted_on, moves, moves_on, moves_same, response, token}
+use Rattle.fs_machine.proofs.Tokens.{Taken, once_each}
 
 -- ---- several events
 
@@ -87,47 +89,80 @@ batches_once config limits start es n =
       answers = subst (λ from. CountOn from (map (λ (d : Done). d.1.token) (finishes_in m es n))) (ap (λ k. k + 1) none) (all_move m es n facts).tokens;
     }
 
+pub once_per_token : (config : Config) (limits : Limits) (start : ℤ) (es : List Event) (n token : ℕ)
+    → length (filter (λ t. t.0 == token) (takes_in (started config limits start) es n)) ≤ 1
+once_per_token config limits start es n token = once_each 0 token (takes_in (started config limits start) es n) (batches_once config limits start es n).tokens
+
 pub repeats_alike : (config : Config) (limits : Limits) (start : ℤ) (es : List Event) (n : ℕ)
     → (stream_of n (after (started config limits start) es).streams).kept ≡ last_of None (map response (finishes_in (started config limits start) es n))
 repeats_alike config limits start es n =
     let m = started config limits start in
     (all_move m es n (begins config limits start)).kept ∙ ap (λ (x : WriteStream). last_of x.kept (map response (finishes_in m es n))) (none_yet n limits.streams)
 
+-- ---- the token of what is kept
+
+-- where what was kept before had the number before
+last_counts : (from : ℕ) (before : Option Kept) (done : List Done) → CountOn (from + 1) (map token done) → IfSome before (λ kept. kept.token ≡ from)
+    → IfSome (last_of before (map response done)) (λ kept. kept.token ≡ from + length done)
+last_counts from None [] counts is = tt
+last_counts from (Some kept) [] counts is = omega (arith, is)
+last_counts from before (d ∷ done) counts is =
+    subst (λ to. IfSome (last_of (Some d.1) (map response done)) (λ kept. kept.token ≡ to)) (let same : from + 1 + length done ≡ from + length (d ∷ done) = omega arith in same)
+    (last_counts (from + 1) (Some d.1) done counts.1 counts.0)
+
+pub kept_token : (config : Config) (limits : Limits) (start : ℤ) (es : List Event) (n : ℕ)
+    → (let s = stream_of n (after (started config limits start) es).streams in IfSome s.kept (λ kept. kept.token ≡ s.finished))
+kept_token config limits start es n =
+    let m = started config limits start in
+    let s = stream_of n m.streams in
+    let t = stream_of n (after m es).streams in
+    let moved = all_move m es n (begins config limits start) in
+    let none : s.kept ≡ None = ap (λ (x : WriteStream). x.kept) (none_yet n limits.streams) in
+    let first : IfSome s.kept (λ kept. kept.token ≡ s.finished) = subst (λ kept. IfSome kept (λ (k : Kept). k.token ≡ s.finished)) (sym none) tt in
+    let last = last_counts s.finished s.kept (finishes_in m es n) moved.tokens first in
+    subst (λ to. IfSome t.kept (λ kept. kept.token ≡ to)) (sym moved.finished)
+    (subst (λ kept. IfSome kept (λ (k : Kept). k.token ≡ s.finished + length (finishes_in m es n))) (sym moved.kept) last)
+
 -- ---- those that were committed
 
-abbrev is_committed : Done → Bool
-is_committed d = is_some d.1.commit
+-- the writes of a batch, when it was committed, and with which results
+abbrev pub Answered : Type 0
+Answered = List Write × ℤ × List WriteResult
 
--- the writes of those that are
-abbrev committed_writes : List Done → List (List Write)
-committed_writes ds = map (λ (d : Done). d.0) (filter is_committed ds)
+-- what was committed of these
+abbrev committed_of : List Done → List Answered
+committed_of ds = filter_map committed_at ds
 
-none_committed : (b : Bool) (ds : List Done) → committed_writes ds ≡ [] → committed_writes (cond b ds []) ≡ []
+none_committed : (b : Bool) (ds : List Done) → committed_of ds ≡ [] → committed_of (cond b ds []) ≡ []
 none_committed true ds none = none
 none_committed false ds none = refl
 
-given_up_none : (m : Machine) (n : ℕ) (r : ParkedRequest) (d : Decision) → committed_writes (given_up_of m n r d) ≡ []
+given_up_none : (m : Machine) (n : ℕ) (r : ParkedRequest) (d : Decision) → committed_of (given_up_of m n r d) ≡ []
 given_up_none m n r (Decision.refused refusal) = refl
 given_up_none m n r (Decision.held id) = refl
 given_up_none m n r Decision.goes_on = refl
 
-retried_none : (m : Machine) (n : ℕ) (found : Option ParkedRequest) → committed_writes (retried_of m n found) ≡ []
+retried_none : (m : Machine) (n : ℕ) (found : Option ParkedRequest) → committed_of (retried_of m n found) ≡ []
 retried_none m n None = refl
 retried_none m n (Some r) = none_committed (is_for n r.stream) (given_up_of m n r (retry_decision m r.session r.envelope.request)) (given_up_none m n r (retry_decision m r.session r.envelope.request))
 
-settled_none : (m : Machine) (n : ℕ) (u : Unreleased) (r : Result (Docs × List WriteResult) Refusal) → committed_writes (settled_of m n u r) ≡ []
+settled_none : (m : Machine) (n : ℕ) (u : Unreleased) (r : Result (Docs × List WriteResult) Refusal) → committed_of (settled_of m n u r) ≡ []
 settled_none m n u (Ok done) = refl
 settled_none m n u (Err refusal) = refl
 
-decided_none : (m : Machine) (n : ℕ) (found : Option Unreleased) → committed_writes (decided_of m n found) ≡ []
+decided_none : (m : Machine) (n : ℕ) (found : Option Unreleased) → committed_of (decided_of m n found) ≡ []
 decided_none m n None = refl
 decided_none m n (Some u) = none_committed (answers n u.asker) (settled_of m n u (outcome_of m.past u)) (settled_none m n u (outcome_of m.past u))
 
-all_committed : (s : Streams) (n : ℕ) (us : List Unreleased) → committed_writes (map (λ u. (u.batch.writes, kept_of s n (as_committed u))) us) ≡ map (λ u. u.batch.writes) us
-all_committed s n [] = refl
-all_committed s n (u ∷ us) = ap (λ xs. u.batch.writes ∷ xs) (all_committed s n us)
+-- a commit as it is answered
+abbrev pub answered_as : Unreleased → Answered
+answered_as u = (u.batch.writes, u.batch.time, unwrap_or u.results [])
 
-committed_by : (m : Machine) (e : Event) (n : ℕ) → committed_writes (finishes m e n) ≡ map (λ u. u.batch.writes) (of_stream n (let_out_by m e))
+all_committed : (s : Streams) (n : ℕ) (us : List Unreleased) → committed_of (map (λ u. (u.batch.writes, kept_of s n (as_committed u))) us) ≡ map answered_as us
+all_committed s n [] = refl
+all_committed s n (u ∷ us) = ap (λ xs. answered_as u ∷ xs) (all_committed s n us)
+
+committed_by : (m : Machine) (e : Event) (n : ℕ) → committed_of (finishes m e n) ≡ map answered_as (of_stream n (let_out_by m e))
 committed_by m Event.opening n = refl
 committed_by m (Event.leaving session) n = refl
 committed_by m (Event.asking session e) n = refl
@@ -141,7 +176,7 @@ committed_by m (Event.matching shard to) n = refl
 committed_by m (Event.raising session) n = refl
 committed_by m (Event.taking session) n = refl
 
-pub committed_once : (m : Machine) (es : List Event) (n : ℕ) → committed_writes (finishes_in m es n) ≡ map (λ u. u.batch.writes) (of_stream n (let_out_in m es))
+pub committed_once : (m : Machine) (es : List Event) (n : ℕ) → filter_map committed_at (finishes_in m es n) ≡ map (λ u. (u.batch.writes, u.batch.time, unwrap_or u.results [])) (of_stream n (let_out_in m es))
 committed_once m [] n = refl
 committed_once m (e ∷ es) n =
     let k = step m e in
@@ -149,6 +184,5 @@ committed_once m (e ∷ es) n =
     let rest = finishes_in k es n in
     let out = let_out_by m e in
     let later = let_out_in k es in
-    ap (map (λ (d : Done). d.0)) (filter-append is_committed one rest) ∙ map-append (λ (d : Done). d.0) (filter is_committed one) (filter is_committed rest)
-    ∙ ap (λ xs. xs ++ committed_writes rest) (committed_by m e n) ∙ ap (λ xs. map (λ (u : Unreleased). u.batch.writes) (of_stream n out) ++ xs) (committed_once k es n)
-    ∙ sym (ap (map (λ (u : Unreleased). u.batch.writes)) (filter-append (λ (u : Unreleased). answers n u.asker) out later) ∙ map-append (λ (u : Unreleased). u.batch.writes) (of_stream n out) (of_stream n later))
+    filter_map-append committed_at one rest ∙ ap (λ xs. xs ++ committed_of rest) (committed_by m e n) ∙ ap (λ xs. map answered_as (of_stream n out) ++ xs) (committed_once k es n)
+    ∙ sym (ap (map answered_as) (filter-append (λ (u : Unreleased). answers n u.asker) out later) ∙ map-append answered_as (of_stream n out) (of_stream n later))

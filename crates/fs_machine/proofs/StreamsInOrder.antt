@@ -31,7 +31,7 @@ use Rattle.fs_machine.specs.Retry.{retried_if, retry_decision, tried, unparked}
 use Rattle.fs_machine.specs.Settle.{decided_if, decided_with, dropped_from, outcome_of, pending_in, pending_of}
 use Rattle.fs_machine.specs.State.{Machine}
 use Rattle.fs_machine.specs.Stream.{kept_of, kept_refused, new_of, take_of, taken_as, taken_by, taker_of}
-use Rattle.fs_machine.specs.StreamLaws.{CountOn, decided_of, finishes, given_up_of, in_progress, isnt_refused, retried_of, settled_of, taken_of, takes, writes_of}
+use Rattle.fs_machine.specs.StreamLaws.{CountOn, decided_of, finishes, given_up_of, in_progress, isnt_refused, retried_of, settled_of, takes, writes_of}
 use Rattle.fs_machine.specs.StreamsHold.{answers, is_for, of_stream, one_if, tally, under_way}
 use Rattle.fs_machine.specs.WaitersAsk.{is_plain}
 use Rattle.fs_machine.specs.declared.numbers.Numbers.{Numbers}
@@ -45,13 +45,10 @@ use Rattle.fs_machine.proofs.Pending.{number_found}
 use Rattle.fs_machine.proofs.Streaming.{arrived_batch}
 use Rattle.fs_machine.proofs.StreamsAsked.{PreparesFor, carried_for}
 use Rattle.fs_machine.proofs.StreamsMove.{Done, few}
+use Rattle.fs_machine.proofs.Tokens.{Taken, counted_of, sent_counted}
 use Rattle.fs_machine.proofs.Tallies.{both_nil, count_without, in_parts, none_pass, only_gone, other_gone, without_dropped, without_place}
 
 -- ---- what is taken and finished
-
--- a batch, by its token
-abbrev pub Taken : Type 0
-Taken = ℕ × List Write
 
 -- what is in progress before, and what is taken, are what is finished, and what is in progress after
 abbrev pub Goes : Batches → List Taken → List Done → Batches → Type 0
@@ -146,7 +143,7 @@ module _ (m : Machine) (r : ParkedRequest) (n : ℕ) (batch : is_some r.stream �
     comes_goes (Decision.held id) = held_goes r.stream
     comes_goes Decision.goes_on = carried_goes r.stream refl batch free
 
-  asked_goes : (refusal : Option Refusal) → Goes (in_progress m n) (taken_of m n r refusal) [] (in_progress (asked_unless refusal m r) n)
+  asked_goes : (refusal : Option Refusal) → Goes (in_progress m n) (counted_of m n r refusal) [] (in_progress (asked_unless refusal m r) n)
   asked_goes (Some refusal) = append-nil (in_progress m n)
   asked_goes None = by_test (draws r.envelope.request) where
     d : Decision
@@ -157,7 +154,7 @@ module _ (m : Machine) (r : ParkedRequest) (n : ℕ) (batch : is_some r.stream �
     by_test false = comes_goes m.numbers d
 
   -- the token of what is taken is the number of those before it
-  asked_tokens : (refusal : Option Refusal) → CountOn ((stream_of n m.streams).finished + length (in_progress m n)) (map (λ t. t.0) (taken_of m n r refusal))
+  asked_tokens : (refusal : Option Refusal) → CountOn ((stream_of n m.streams).finished + length (in_progress m n)) (map (λ t. t.0) (counted_of m n r refusal))
   asked_tokens (Some refusal) = tt
   asked_tokens None = by_test (is_for n r.stream) refl (isnt_refused (unless_full m (decision m r.session r.envelope.request))) where
     by_test : (b : Bool) → is_for n r.stream ≡ b → (c : Bool) → CountOn ((stream_of n m.streams).finished + length (in_progress m n)) (map (λ t. t.0) (takes_if (b && c) r.envelope.request))
@@ -319,7 +316,10 @@ goes m Event.opening n facts = by_test (is_full m) where
   by_test true = goes_same (in_progress m n) (in_progress m n) refl
   by_test false = goes_same (in_progress m n) (in_progress m n) refl
 goes m (Event.leaving session) n facts = goes_same (in_progress m n) _ (ap (λ xs. pending_writes n m.past.unreleased ++ xs) (writes_others n session m.parked))
-goes m (Event.asking session e) n facts = asked_goes m (arrived m session e) n (arrived_batch m session e) (none_going m session n e facts) (arrival_refusal m session e.request)
+goes m (Event.asking session e) n facts =
+    let refusal = arrival_refusal m session e.request in
+    subst (λ ts. Goes (in_progress m n) ts [] (in_progress (step m (Event.asking session e)) n)) (sym (sent_counted m session n facts.streams.stands e refusal))
+    (asked_goes m (arrived m session e) n (arrived_batch m session e) (none_going m session n e facts) refusal)
 goes m (Event.retrying place) n facts = retried_goes m facts n place (slice_get m.parked place) refl
 goes m (Event.deciding id) n facts = decided_goes m facts n id (pending_of m.past id) refl
 goes m (Event.advancing now) n facts = goes_same (in_progress m n) (in_progress m n) refl
@@ -334,7 +334,10 @@ goes m (Event.taking session) n facts = goes_same (in_progress m n) (in_progress
 pub tokens : (m : Machine) (e : Event) (n : ℕ) → Facts m → CountOn ((stream_of n m.streams).finished + length (in_progress m n)) (map (λ t. t.0) (takes m e n))
 tokens m Event.opening n facts = tt
 tokens m (Event.leaving session) n facts = tt
-tokens m (Event.asking session e) n facts = asked_tokens m (arrived m session e) n (arrived_batch m session e) (none_going m session n e facts) (arrival_refusal m session e.request)
+tokens m (Event.asking session e) n facts =
+    let refusal = arrival_refusal m session e.request in
+    subst (λ ts. CountOn ((stream_of n m.streams).finished + length (in_progress m n)) (map (λ (t : Taken). t.0) ts)) (sym (sent_counted m session n facts.streams.stands e refusal))
+    (asked_tokens m (arrived m session e) n (arrived_batch m session e) (none_going m session n e facts) refusal)
 tokens m (Event.retrying place) n facts = tt
 tokens m (Event.deciding id) n facts = tt
 tokens m (Event.advancing now) n facts = tt

@@ -2,6 +2,7 @@
 use Rattle.std.proofs.Common.{◌≡◌, ℕ, ◌+◌, ℤ, ◌≤ℤ◌, Bool, true, false, cond, List, [], ◌∷◌, ◌++◌, Option, Some, None, Result, Ok, Err, refl, sym, ap, ◌∙◌, subst}
 use Rattle.std.specs.Prelude.{IfSome, pos, negsuc, is_some, ◌==◌}
 use Rattle.std.specs.FinMap.{get, insert, remove}
+use Rattle.std.specs.List.{AllByRecursion}
 use Rattle.std.proofs.lemmas.List.{append-nil}
 use Rattle.fs_history.specs.declared.batch.Batch.{Batch}
 use Rattle.fs_path.specs.declared.name.Root.{Root}
@@ -334,3 +335,63 @@ module _ (shards : ℕ) (m : Machine) (session : ℕ) where
     by_request (request.Write database asked) is =
         let r = numbered m session (of (request.Write database asked)) in
         other_tells (taken_as (taker_of m session asked) r) refusal (taken_quiet (taker_of m session asked) database asked r.session r.id e.id)
+
+-- ---- requests tell only that targets are added or removed
+
+abbrev pub adds_or_removes : ListenMessage → Bool
+adds_or_removes (listen.Add ids) = true
+adds_or_removes (listen.Remove ids cause) = true
+adds_or_removes (listen.Reset ids) = false
+adds_or_removes (listen.Current ids time token) = false
+adds_or_removes (listen.NoChange time token) = false
+adds_or_removes (listen.Changed d ids left) = false
+adds_or_removes (listen.Deleted name time left) = false
+adds_or_removes (listen.Removed name time left) = false
+
+abbrev pub AddOrRemove : List ListenMessage → Type 0
+AddOrRemove said = AllByRecursion (λ x. adds_or_removes x ≡ true) said
+
+nothing_added : (said : List ListenMessage) → said ≡ [] → AddOrRemove said
+nothing_added said none = subst AddOrRemove (sym none) tt
+
+module _ (m : Machine) (session : ℕ) where
+  unadded_answers : (id : ℕ) (refusal : Refusal) → AddOrRemove (said_by (unadded_answer m session id refusal))
+  unadded_answers id refusal = by_rule (is_plain refusal.reason) where
+    by_rule : (rule : Bool) → AddOrRemove (said_by (cond rule (Refused refusal) (cond (has_target m session id) (Refused refusal) (Reply (message.Listen (listen.Remove (id ∷ []) (Some (cause_of refusal))))))))
+    by_rule true = tt
+    by_rule false = by_use (has_target m session id) where
+      by_use : (used : Bool) → AddOrRemove (said_by (cond used (Refused refusal) (Reply (message.Listen (listen.Remove (id ∷ []) (Some (cause_of refusal)))))))
+      by_use true = tt
+      by_use false = (refl, tt)
+
+  added_answers : (number : ℕ) (of : Option (List ℕ)) (root : Root) (id : ℕ) (t : Target) (token : Option (List ℕ)) (refusal : Option Refusal)
+      → AddOrRemove (said_by (answered_unless refusal m (record { session = session; id = number; stream = None; envelope = record { id = of; request = AddTarget root id t token } })))
+  added_answers number of root id t token (Some refusal) = unadded_answers id refusal
+  added_answers number of root id t token None = (refl, tt)
+
+  removed_answers : (number : ℕ) (of : Option (List ℕ)) (root : Root) (id : ℤ) (refusal : Option Refusal)
+      → AddOrRemove (said_by (answered_unless refusal m (record { session = session; id = number; stream = None; envelope = record { id = of; request = RemoveTarget root id } })))
+  removed_answers number of root id (Some refusal) = tt
+  removed_answers number of root (pos id) None = (refl, tt)
+  removed_answers number of root (negsuc k) None = tt
+
+  other_answers : (r : ParkedRequest) (refusal : Option Refusal) → is_listen r.envelope.request ≡ false → AddOrRemove (said_by (answered_unless refusal m r))
+  other_answers r refusal is = nothing_added (said_by (answered_unless refusal m r)) (answered_quiet m r refusal is)
+
+  pub asked_answers : (e : Envelope) (refusal : Option Refusal) → AddOrRemove (said_by (answered_unless refusal m (arrived m session e)))
+  asked_answers e refusal = by_request e.request where
+    of : Request → Envelope
+    of q = record { id = e.id; request = q }
+
+    by_request : (q : Request) → AddOrRemove (said_by (answered_unless refusal m (arrived m session (of q))))
+    by_request (Commit database writes transaction) = other_answers (arrived m session (of (Commit database writes transaction))) refusal refl
+    by_request (GetDocument name mask when) = other_answers (arrived m session (of (GetDocument name mask when))) refusal refl
+    by_request (BatchGetDocuments database names mask when) = other_answers (arrived m session (of (BatchGetDocuments database names mask when))) refusal refl
+    by_request (RunQuery database query when) = other_answers (arrived m session (of (RunQuery database query when))) refusal refl
+    by_request (BeginTransaction database options) = other_answers (arrived m session (of (BeginTransaction database options))) refusal refl
+    by_request (Rollback database transaction) = other_answers (arrived m session (of (Rollback database transaction))) refusal refl
+    by_request (AddTarget database id t token) = added_answers (number_of m.numbers.ids (AddTarget database id t token)) e.id database id t token refusal
+    by_request (RemoveTarget database id) = removed_answers (number_of m.numbers.ids (RemoveTarget database id)) e.id database id refusal
+    by_request (request.Write database asked) =
+        let r = numbered m session (of (request.Write database asked)) in
+        other_answers (taken_as (taker_of m session asked) r) refusal (taken_quiet (taker_of m session asked) database asked r.session r.id e.id)

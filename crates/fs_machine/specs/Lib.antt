@@ -1,11 +1,14 @@
 pub mod Behind
+pub mod Causes
 pub mod Commit
+pub mod CommitsOnce
 pub mod Compact
 pub mod Config
 pub mod Conflict
 pub mod Event
 pub mod Facts
 pub mod FloorIsReleased
+pub mod Given
 pub mod Grows
 pub mod HistoryRises
 pub mod IdsAreDrawn
@@ -20,6 +23,7 @@ pub mod ListenersHold
 pub mod Load
 pub mod Match
 pub mod NamesApart
+pub mod NotBothCommit
 pub mod Numbered
 pub mod Open
 pub mod Outbox
@@ -27,6 +31,7 @@ pub mod Past
 pub mod Pending
 pub mod Raise
 pub mod Read
+pub mod ReadLaws
 pub mod ReadsHold
 pub mod Refusing
 pub mod Release
@@ -46,3 +51,6 @@ pub mod Transact
 pub mod TransactionsHold
 pub mod UnreleasedRise
 pub mod WaitersAsk
+pub mod ResetLaws
+pub mod RaiseLaws
+pub mod FrontLaws

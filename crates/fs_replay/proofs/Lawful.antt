@@ -74,7 +74,7 @@ lines_grow grow s n (bytes ∷ lines) between =
     let next = after_line s n bytes in
     grows_on s.server.past next.server.past (after_lines next (n + 1) lines).server.past (grows_once grow s n bytes between) (lines_grow grow next (n + 1) lines (stays_between s n bytes between))
 
-all_between : (s : State) (n : ℕ) (lines : List (List ℕ)) → IsBetweenLines s → IsBetweenLines (after_lines s n lines)
+pub all_between : (s : State) (n : ℕ) (lines : List (List ℕ)) → IsBetweenLines s → IsBetweenLines (after_lines s n lines)
 all_between s n [] between = between
 all_between s n (bytes ∷ lines) between = all_between (after_line s n bytes) (n + 1) lines (stays_between s n bytes between)
 

@@ -223,7 +223,7 @@ leads_once : (s : State) (n : ℕ) (bytes : List ℕ) → (after_line s n bytes)
 unfolding after_line line_events
 leads_once s n bytes = line_leads s n (line_in_state s bytes)
 
-lines_lead : (s : State) (n : ℕ) (lines : List (List ℕ)) → (after_lines s n lines).server ≡ after s.server (events_of s n lines)
+pub lines_lead : (s : State) (n : ℕ) (lines : List (List ℕ)) → (after_lines s n lines).server ≡ after s.server (events_of s n lines)
 lines_lead s n [] = refl
 lines_lead s n (bytes ∷ lines) =
     let t = after_line s n bytes in

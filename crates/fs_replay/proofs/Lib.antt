@@ -1,4 +1,5 @@
 mod Flow
+mod Current
 mod Cutting
 mod Written
 mod Ending
@@ -19,6 +20,7 @@ mod Arriving
 mod Becoming
 mod Readers
 mod Falling
+mod Throughout
 mod Turns
 mod Released
 mod Kept

@@ -8,6 +8,7 @@ pub mod Played
 pub mod Settling
 pub mod Held
 pub mod Step
+pub mod Throughout
 pub mod Transcript
 pub mod Run
 pub mod Moved

@@ -1,6 +1,6 @@
 -- What a run has done when it ends: what it has written, how often its source and its sink have failed, what it has committed, and what
 -- sessions were told.
-use Rattle.std.specs.Prelude.{◌≡◌, ℕ, ℤ, true, List, ◌++◌, Option, Some}
+use Rattle.std.specs.Prelude.{◌≡◌, ◌≢◌, ℕ, ◌<◌, ℤ, true, false, List, ◌++◌, Option, Some}
 use Rattle.std.specs.List.{filter_map}
 use Rattle.fs_edge.specs.Count.{one_more, AtMostOneMore}
 use Rattle.fs_edge.specs.declared.status.Status.{Status}
@@ -8,9 +8,12 @@ use Rattle.fs_edge.specs.declared.status.Status.TheVariants as status
 use Rattle.fs_history.specs.Serial.{IsSerial}
 use Rattle.fs_listen.specs.Gathered.{NeverFalls, ended_at, raise_in}
 use Rattle.fs_listen.specs.Laws.{IsOneTime}
+use Rattle.fs_listen.specs.declared.cut.Cut.TheVariants.{NoTarget}
 use Rattle.fs_machine.specs.Event.{Event, after}
 use Rattle.fs_machine.specs.Facts.{Facts}
 use Rattle.fs_machine.specs.Grows.{Grows}
+use Rattle.fs_machine.specs.Listen.{listening_of}
+use Rattle.fs_machine.specs.Raise.{cut_of}
 use Rattle.fs_machine.specs.State.{Machine}
 use Rattle.fs_machine.specs.Told.{is_open, told_in, world_of}
 use Rattle.fs_machine.specs.declared.config.Config.{Config}
@@ -105,3 +108,10 @@ pub record CutsThroughout (config : Config) (limits : Limits) (lines : List (Lis
   pub times : (front back : List Event) (session : ℕ) → events_of (start config limits) 1 lines ≡ front ++ back
       → is_open session (server_after config limits front).sessions ≡ true
       → NeverFalls (filter_map raise_in (told_by_then config limits front session))
+
+-- Between lines, unless the script settles by hand, each session that listens to anything was raised at the released time.
+abbrev pub RaisedThroughout : Config → Limits → List (List ℕ) → Type 0
+RaisedThroughout config limits lines = (front back : List (List ℕ)) (session : ℕ) → lines ≡ front ++ back
+    → (after_lines (start config limits) 1 front).manual ≡ false → 0 < limits.outbox → is_open session (after_lines (start config limits) 1 front).server.sessions ≡ true
+    → cut_of (after_lines (start config limits) 1 front).server session ≢ NoTarget
+    → (listening_of (after_lines (start config limits) 1 front).server session).raised ≡ Some (after_lines (start config limits) 1 front).server.past.released

@@ -17,8 +17,9 @@ ghost use Rattle.fs_value.specs.declared.document.Document.{Document};
 ghost use Rattle.fs_replay.specs.BetweenLines.{IsBetweenLines};
 ghost use Rattle.fs_replay.specs.Commits.{is_commit, is_written_in, may_move, will_be_written};
 ghost use Rattle.fs_replay.specs.Lines.{IsOneLine, is_answered, is_silent, keeps_waiting, line_in_state, may_let_on, nobody_listens};
-ghost use Rattle.fs_replay.specs.Run.{CutsThroughout, GrowsThroughout, IsSerialThroughout, KeptThroughout, LinesAreEvents};
+ghost use Rattle.fs_replay.specs.Run.{CutsThroughout, GrowsThroughout, IsSerialThroughout, KeptThroughout, LinesAreEvents, RaisedThroughout};
 ghost use Rattle.fs_replay.specs.Step.{after_line, line_output, start};
+ghost use Rattle.fs_replay.specs.Throughout.{AnswersThroughout, ListenersThroughout, StreamsThroughout};
 ghost use Rattle.fs_replay.specs.Transcript.{after_lines, transcript};
 ghost use Rattle.fs_replay.specs.declared.state.State.{State};
 
@@ -47,6 +48,13 @@ pub fn scripts_are_lawful()
     ensures runs_are_serial { (config : Config) (limits : Limits) (lines : List (List ℕ)) → IsSerialThroughout config limits lines }
     // What a session was told is, wherever it ends with NO_CHANGE, just the views of all its targets at one time.
     ensures runs_cut { (config : Config) (limits : Limits) (lines : List (List ℕ)) → AreAllowed limits → CutsThroughout config limits lines }
+    // Between lines, unless the script settles by hand, each session that listens to anything was raised at the released time.
+    ensures runs_raised { (config : Config) (limits : Limits) (lines : List (List ℕ)) → AreAllowed limits → RaisedThroughout config limits lines }
+    // Wherever its events are cut, each answer has its cause, each batch of a stream is committed once at most, and sessions are sent what they
+    // have to be of their targets.
+    ensures runs_answer { (config : Config) (limits : Limits) (lines : List (List ℕ)) → AnswersThroughout config limits lines }
+    ensures runs_stream { (config : Config) (limits : Limits) (lines : List (List ℕ)) → StreamsThroughout config limits lines }
+    ensures runs_listen { (config : Config) (limits : Limits) (lines : List (List ℕ)) → ListenersThroughout config limits lines }
     // A line leaves what was committed and its times as they are that asks for no commit, or for one that is refused, aborted or waits,
     // lets no other request go on by ending a transaction, and is none of the clock, of compactions and of settling.
     ensures unmoved { (s : State) (n : ℕ) (line : List ℕ) → IsBetweenLines s → may_move s (line_in_state s line) ≡ false

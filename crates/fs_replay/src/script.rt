@@ -5,7 +5,8 @@ ghost use Rattle.fs_machine.specs.Config.{IsAllowed};
 ghost use Rattle.fs_machine.specs.Limits.{AreAllowed};
 ghost use Rattle.fs_replay.specs.Limits.{longest_input};
 ghost use Rattle.fs_replay.specs.Moved.{TakenUpTo, IfTaken, Gained, GainedFront};
-ghost use Rattle.fs_replay.specs.Run.{CutsThroughout, Ends, GrowsThroughout, IsSerialThroughout, KeptThroughout, LinesAreEvents, ReadFaults, WriteFaults, Wrote};
+ghost use Rattle.fs_replay.specs.Run.{CutsThroughout, Ends, GrowsThroughout, IsSerialThroughout, KeptThroughout, LinesAreEvents, RaisedThroughout, ReadFaults, WriteFaults, Wrote};
+ghost use Rattle.fs_replay.specs.Throughout.{AnswersThroughout, ListenersThroughout, StreamsThroughout};
 ghost use Rattle.fs_replay.specs.Transcript.{lines_of, transcript};
 
 use crate::gather::gather;
@@ -52,6 +53,15 @@ pub fn replay<S: Source, K: Sink>(
     // Wherever they are cut, and what a session was told by then ends with NO_CHANGE, whoever gathered all of it has just the views of
     // all its targets at that one time, which never falls.
     ensures cuts { IfTaken (S.left source.old) (S.left source.new) (λ taken. CutsThroughout config limits (lines_of taken)) }
+
+    // Between lines, unless the script settles by hand, each session that listens to anything was raised at the released time.
+    ensures raised { IfTaken (S.left source.old) (S.left source.new) (λ taken. RaisedThroughout config limits (lines_of taken)) }
+
+    // Wherever their events are cut, each answer has its cause, each read is of its time, and what was answered stays right; each batch of a
+    // write stream is committed once at most, and messages come once, in order; and RESET, CURRENT and NO_CHANGE are sent where they have to be.
+    ensures answers { IfTaken (S.left source.old) (S.left source.new) (λ taken. AnswersThroughout config limits (lines_of taken)) }
+    ensures streams { IfTaken (S.left source.old) (S.left source.new) (λ taken. StreamsThroughout config limits (lines_of taken)) }
+    ensures listeners { IfTaken (S.left source.old) (S.left source.new) (λ taken. ListenersThroughout config limits (lines_of taken)) }
 
     // Where that is nothing, the sink isn't asked.
     ensures unasked { IfTaken (S.left source.old) (S.left source.new) (λ taken. transcript config limits taken ≡ [] → sink.new ≡ sink.old) }

@@ -3,7 +3,8 @@ ghost use Rattle.std.specs.Prelude.{◌≡◌, ◌≢◌, ◌↔◌, ◌⊎◌, 
 ghost use Rattle.fs_machine.specs.Limits.{greatest};
 ghost use Rattle.fs_replay.specs.Limits.{longest_input};
 ghost use Rattle.fs_replay.specs.Moved.{TakenUpTo, IfTaken, Gained};
-ghost use Rattle.fs_replay.specs.Run.{CutsThroughout, Ends, GrowsThroughout, IsSerialThroughout, KeptThroughout, LinesAreEvents, ReadFaults, WriteFaults, Wrote};
+ghost use Rattle.fs_replay.specs.Run.{CutsThroughout, Ends, GrowsThroughout, IsSerialThroughout, KeptThroughout, LinesAreEvents, RaisedThroughout, ReadFaults, WriteFaults, Wrote};
+ghost use Rattle.fs_replay.specs.Throughout.{AnswersThroughout, ListenersThroughout, StreamsThroughout};
 ghost use Rattle.fs_replay.specs.Transcript.{lines_of, transcript};
 ghost use Rattle.fsemu.specs.Words.{IfAsked, IsCommand};
 
@@ -59,6 +60,19 @@ pub fn run<Rt, S: Source, K: Sink, D: Doors, C: Clock>(
     // all its targets at that one time, which never falls.
     ensures cuts { IfAsked (map string_bytes words.now) (λ config. IfTaken (S.left source.old) (S.left source.new) (λ taken.
         CutsThroughout config greatest (lines_of taken))) }
+
+    // Between lines, unless the script settles by hand, each session that listens to anything was raised at the released time.
+    ensures raised { IfAsked (map string_bytes words.now) (λ config. IfTaken (S.left source.old) (S.left source.new) (λ taken.
+        RaisedThroughout config greatest (lines_of taken))) }
+
+    // Wherever their events are cut, each answer has its cause, each read is of its time, and what was answered stays right; each batch of a
+    // write stream is committed once at most, and messages come once, in order; and RESET, CURRENT and NO_CHANGE are sent where they have to be.
+    ensures answers { IfAsked (map string_bytes words.now) (λ config. IfTaken (S.left source.old) (S.left source.new) (λ taken.
+        AnswersThroughout config greatest (lines_of taken))) }
+    ensures streams { IfAsked (map string_bytes words.now) (λ config. IfTaken (S.left source.old) (S.left source.new) (λ taken.
+        StreamsThroughout config greatest (lines_of taken))) }
+    ensures listeners { IfAsked (map string_bytes words.now) (λ config. IfTaken (S.left source.old) (S.left source.new) (λ taken.
+        ListenersThroughout config greatest (lines_of taken))) }
 
     // Where that is nothing, the sink isn't asked.
     ensures unasked { IfAsked (map string_bytes words.now) (λ config. IfTaken (S.left source.old) (S.left source.new) (λ taken.

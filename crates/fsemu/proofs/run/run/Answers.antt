@@ -93,3 +93,51 @@ returns-in-Ok-clause-cuts g c = λ options is taken rest before after. c.scripts
 
 pub returns-in-Err-config-clause-cuts : goal.returns-in-Err-config-clause-cuts
 returns-in-Err-config-clause-cuts g c = λ options is taken rest before after. c.scripts_are_lawful.ensures.runs_cut (config_of options) greatest (lines_of taken) greatest_allowed
+
+pub returns-in-Err-clause-raised : goal.returns-in-Err-clause-raised
+returns-in-Err-clause-raised g c = λ options is taken rest before after. c.scripts_are_lawful.ensures.runs_raised (config_of options) greatest (lines_of taken) greatest_allowed
+
+pub returns-then-not-is_agreed-clause-raised : goal.returns-then-not-is_agreed-clause-raised
+returns-then-not-is_agreed-clause-raised g c = λ options is taken rest before after. c.scripts_are_lawful.ensures.runs_raised (config_of options) greatest (lines_of taken) greatest_allowed
+
+pub returns-in-Ok-clause-raised : goal.returns-in-Ok-clause-raised
+returns-in-Ok-clause-raised g c = λ options is taken rest before after. c.scripts_are_lawful.ensures.runs_raised (config_of options) greatest (lines_of taken) greatest_allowed
+
+pub returns-in-Err-config-clause-raised : goal.returns-in-Err-config-clause-raised
+returns-in-Err-config-clause-raised g c = λ options is taken rest before after. c.scripts_are_lawful.ensures.runs_raised (config_of options) greatest (lines_of taken) greatest_allowed
+
+pub returns-in-Err-clause-answers : goal.returns-in-Err-clause-answers
+returns-in-Err-clause-answers g c = λ options is taken rest before after. c.scripts_are_lawful.ensures.runs_answer (config_of options) greatest (lines_of taken)
+
+pub returns-then-not-is_agreed-clause-answers : goal.returns-then-not-is_agreed-clause-answers
+returns-then-not-is_agreed-clause-answers g c = λ options is taken rest before after. c.scripts_are_lawful.ensures.runs_answer (config_of options) greatest (lines_of taken)
+
+pub returns-in-Ok-clause-answers : goal.returns-in-Ok-clause-answers
+returns-in-Ok-clause-answers g c = λ options is taken rest before after. c.scripts_are_lawful.ensures.runs_answer (config_of options) greatest (lines_of taken)
+
+pub returns-in-Err-config-clause-answers : goal.returns-in-Err-config-clause-answers
+returns-in-Err-config-clause-answers g c = λ options is taken rest before after. c.scripts_are_lawful.ensures.runs_answer (config_of options) greatest (lines_of taken)
+
+pub returns-in-Err-clause-streams : goal.returns-in-Err-clause-streams
+returns-in-Err-clause-streams g c = λ options is taken rest before after. c.scripts_are_lawful.ensures.runs_stream (config_of options) greatest (lines_of taken)
+
+pub returns-then-not-is_agreed-clause-streams : goal.returns-then-not-is_agreed-clause-streams
+returns-then-not-is_agreed-clause-streams g c = λ options is taken rest before after. c.scripts_are_lawful.ensures.runs_stream (config_of options) greatest (lines_of taken)
+
+pub returns-in-Ok-clause-streams : goal.returns-in-Ok-clause-streams
+returns-in-Ok-clause-streams g c = λ options is taken rest before after. c.scripts_are_lawful.ensures.runs_stream (config_of options) greatest (lines_of taken)
+
+pub returns-in-Err-config-clause-streams : goal.returns-in-Err-config-clause-streams
+returns-in-Err-config-clause-streams g c = λ options is taken rest before after. c.scripts_are_lawful.ensures.runs_stream (config_of options) greatest (lines_of taken)
+
+pub returns-in-Err-clause-listeners : goal.returns-in-Err-clause-listeners
+returns-in-Err-clause-listeners g c = λ options is taken rest before after. c.scripts_are_lawful.ensures.runs_listen (config_of options) greatest (lines_of taken)
+
+pub returns-then-not-is_agreed-clause-listeners : goal.returns-then-not-is_agreed-clause-listeners
+returns-then-not-is_agreed-clause-listeners g c = λ options is taken rest before after. c.scripts_are_lawful.ensures.runs_listen (config_of options) greatest (lines_of taken)
+
+pub returns-in-Ok-clause-listeners : goal.returns-in-Ok-clause-listeners
+returns-in-Ok-clause-listeners g c = λ options is taken rest before after. c.scripts_are_lawful.ensures.runs_listen (config_of options) greatest (lines_of taken)
+
+pub returns-in-Err-config-clause-listeners : goal.returns-in-Err-config-clause-listeners
+returns-in-Err-config-clause-listeners g c = λ options is taken rest before after. c.scripts_are_lawful.ensures.runs_listen (config_of options) greatest (lines_of taken)
