@@ -16,6 +16,7 @@ pub mod StreamAnswerAgain
 pub mod GetAgain
 pub mod BatchGetAgain
 pub mod RunQueryAgain
+pub mod StreamSteps
 pub mod TargetSteps
 pub mod TargetsAgain
 pub mod TransactionAgain

@@ -1,14 +1,16 @@
 -- What only private clauses cite: a mask, a transaction, when documents are read, a target and its token, as the members of a
 -- request are put in one after another, and that the parts of a request, as they are written, have no float and are read back.
-use Rattle.std.specs.Prelude.{◌≡◌, ℕ, ℤ, pos, false, List, Option, Some, None, Result, Ok, IfSome, codes}
+use Rattle.std.specs.Prelude.{◌≡◌, ℕ, ℤ, pos, false, List, [], ◌∷◌, Option, Some, None, Result, Ok, IfSome, codes}
 use Rattle.std.specs.List.{AllByRecursion}
+use Rattle.fs_path.specs.Place.{member_place}
 use Rattle.fs_path.specs.declared.field.FieldPath.{FieldPath}
 use Rattle.fs_path.specs.declared.name.Root.{Root}
 use Rattle.serde_json.specs.Data.{Data, Members, put}
-use Rattle.fs_json.specs.Answer.{◌>>=◌}
+use Rattle.fs_json.specs.Answer.{made, ◌>>=◌}
 use Rattle.serde_json.specs.Written.{has_float}
 use Rattle.fs_json.specs.Base64.{bytes_json}
 use Rattle.fs_json.specs.Integer.{small_json, small_of}
+use Rattle.fs_json.specs.Members.{unbuilt_at}
 use Rattle.fs_json.specs.Time.{IsTimeHeld, time_json}
 use Rattle.fs_json.specs.declared.bad.Bad.{Bad}
 use Rattle.fs_query.specs.Asked.{Asked}
@@ -20,14 +22,16 @@ use Rattle.fs_queryjson.specs.Valid.{IsValid}
 use Rattle.fs_queryjson.specs.Written.{query_json}
 use Rattle.fs_write.specs.declared.write.Write.{Write}
 use Rattle.fs_writejson.specs.Mask.{mask_at, mask_json}
-use Rattle.fs_writejson.specs.Rules.{write_at}
+use Rattle.fs_writejson.specs.Rules.{judged_at, write_at}
 use Rattle.fs_writejson.specs.Valid.{IsWriteOf}
 use Rattle.fs_writejson.specs.Written.{write_json}
+use Rattle.fs_writejson.specs.declared.draft.Draft.{Draft}
 use Rattle.fs_rpc.specs.MessageSteps.{IsTokenHeld}
-use Rattle.fs_rpc.specs.ReadTargets.{labels_in, permitted_request}
+use Rattle.fs_rpc.specs.ReadTargets.{expected_in, labels_in, permitted_request, token_in}
 use Rattle.fs_rpc.specs.RequestJson.{documents_target_json, query_target_json, stream_of, token_of, writes_of}
 use Rattle.fs_rpc.specs.Decimal.{IsDecimalHeld, decimal_json}
-use Rattle.fs_rpc.specs.Eight.{IsEightHeld, eight_json}
+use Rattle.fs_rpc.specs.Eight.{IsEightHeld, eight_json, optional_eight_at}
+use Rattle.fs_rpc.specs.ReadStreams.{asked_with, token_for}
 use Rattle.fs_request.specs.declared.options.TransactionOptions.{TransactionOptions}
 use Rattle.fs_request.specs.declared.options.TransactionOptions.TheVariants.{ReadWrite, ReadOnly}
 use Rattle.fs_request.specs.declared.request.Request.{Request}
@@ -42,6 +46,39 @@ use Rattle.fs_request.specs.declared.when.When.TheVariants.{Released, At, In}
 -- what comes behind a change of targets: the labels, and then the rules
 abbrev pub behind_at : Request → Data → List ℕ → Result Request Bad
 behind_at request d place = labels_in d place >>= λ _. permitted_request request place
+
+-- the members beside a target that are ignored, and those that aren't built; then the database
+abbrev pub ignored_at : Root → Data → List ℕ → Result Root Bad
+ignored_at root d place = expected_in d place >>= λ _. unbuilt_at (codes "once" ∷ codes "readTime" ∷ []) d place >>= λ _. Ok root
+
+-- what stands beside a target: its token, and then those members
+abbrev pub beside_target_at : Root → Data → List ℕ → Result (Root × Option (List ℕ)) Bad
+beside_target_at root d place = token_in d place >>= λ token. made (λ database. (database, token)) (ignored_at root d place)
+
+-- a target that is added, with what stands beside it
+abbrev pub added_at : Root → ℕ → Target → Data → List ℕ → Result Request Bad
+added_at root id t d place = do
+  token ← token_in d place
+  _ ← expected_in d place
+  _ ← unbuilt_at (codes "once" ∷ codes "readTime" ∷ []) d place
+  Ok (AddTarget root id t token)
+
+-- a commit of these writes, once its transaction is read
+abbrev pub judged_commit_at : Root → List Draft → Option ℕ → List ℕ → Result Request Bad
+judged_commit_at root drafts transaction place = judged_at drafts (member_place place (codes "writes")) >>= λ writes. Ok (Commit root writes transaction)
+
+abbrev pub commit_of_at : Root → List Draft → Data → List ℕ → Result Request Bad
+commit_of_at root drafts d place = optional_eight_at (codes "transaction") d place >>= λ transaction. judged_commit_at root drafts transaction place
+
+-- what is asked of a stream with these writes, once its token and the labels are read
+abbrev pub judged_stream_at : Root → Option ℕ → Option ℕ → List Draft → List ℕ → Result Request Bad
+judged_stream_at root stream token drafts place = judged_at drafts (member_place place (codes "writes")) >>= λ writes. Ok (requests.Write root (asked_with stream token writes))
+
+abbrev pub labelled_token_at : Option ℕ → List Draft → Data → List ℕ → Result (Option ℕ) Bad
+labelled_token_at stream drafts d place = token_for stream drafts d place >>= λ token. labels_in d place >>= λ _. Ok token
+
+abbrev pub stream_of_at : Root → Option ℕ → List Draft → Data → List ℕ → Result Request Bad
+stream_of_at root stream drafts d place = token_for stream drafts d place >>= λ token. labels_in d place >>= λ _. judged_stream_at root stream token drafts place
 
 -- ---- what is written
 

@@ -6,6 +6,7 @@ ghost use Rattle.fs_json.specs.Answer.{Gives};
 ghost use Rattle.fs_rpc.specs.ByMethod.{request_at};
 ghost use Rattle.fs_rpc.specs.Options.{options_in};
 ghost use Rattle.fs_rpc.specs.Requests.{batch_get_at, begin_at, commit_at, database_at, drafts_in, get_at, mask_in, parent_at, rollback_at, run_query_at, structured_at};
+ghost use Rattle.fs_rpc.specs.RequestSteps.{commit_of_at, judged_commit_at};
 ghost use Rattle.fs_request.specs.declared.when.When.{When};
 
 use crate::distinct::read_names;
@@ -25,6 +26,7 @@ use fs_path::{Ids, Paths, Root, Rule, Text, Way, check_database, parse_parent};
 use fs_query::Query;
 use fs_queryjson::{judge_query, walk_query};
 use fs_request::{Request, When};
+use fs_status::Id;
 use fs_writejson::{Drafts, judge, read_drafts, read_mask};
 use serde_json::Value;
 use std::alloc::Global;
@@ -55,7 +57,38 @@ fn read_commit(alloc: Global, root: &Root, v: &Value, way: &Way<'_>) -> Result<R
     only(alloc, v, &COMMIT_MEMBERS, way)?;
     read_database(alloc, root, v, way)?;
     let drafts = read_drafts_of(alloc, root, v, way)?;
-    let transaction = read_optional_transaction(alloc, v, TRANSACTION, way)?;
+    read_commit_of(alloc, root, drafts, v, way)
+}
+
+// A commit of these writes, whose rules are tested last.
+fn read_commit_of(
+    alloc: Global,
+    root: &Root,
+    drafts: Drafts,
+    v: &Value,
+    way: &Way<'_>,
+) -> Result<Request, Bad>
+    ensures { Gives (λ r. r) result
+        (commit_of_at root.now drafts (json v.now) (place_of way.now)) }
+{
+    match read_optional_transaction(alloc, v, TRANSACTION, way) {
+        Ok(transaction) => judged_commit(alloc, root, drafts, transaction, way),
+        Err(bad) => {
+            drop(drafts);
+            Err(bad)
+        }
+    }
+}
+
+fn judged_commit(
+    alloc: Global,
+    root: &Root,
+    drafts: Drafts,
+    transaction: Option<Id>,
+    way: &Way<'_>,
+) -> Result<Request, Bad>
+    ensures { Gives (λ r. r) result (judged_commit_at root.now drafts transaction (place_of way.now)) }
+{
     let writes = judge(alloc, drafts, &way.member(WRITES))?;
     Ok(Request::Commit {
         database: root.copy(alloc)?,

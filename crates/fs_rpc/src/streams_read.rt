@@ -4,6 +4,7 @@ ghost use Rattle.fs_path.specs.Way.{place_of};
 ghost use Rattle.serde_json.specs.View.{view as json};
 ghost use Rattle.fs_json.specs.Answer.{Gives};
 ghost use Rattle.fs_rpc.specs.ReadStreams.{asked_with, is_lacking, stream_in, stream_request_at, token_for};
+ghost use Rattle.fs_rpc.specs.RequestSteps.{judged_stream_at, labelled_token_at, stream_of_at};
 
 use crate::decimal::read_decimal;
 use crate::eight::read_optional_eight;
@@ -14,7 +15,7 @@ use fs_json::{Bad, member, only};
 use fs_path::{Root, Rule, Way};
 use fs_request::{Request, StreamRequest};
 use fs_write::Writes;
-use fs_writejson::{Draft, judge};
+use fs_writejson::{Draft, Drafts, judge};
 use serde_json::Value;
 use std::alloc::Global;
 
@@ -32,8 +33,57 @@ pub(crate) fn read_stream_request(
     read_database(alloc, root, v, way)?;
     let stream = read_stream(alloc, v, way)?;
     let drafts = read_drafts_of(alloc, root, v, way)?;
-    let token = read_token_for(alloc, stream, drafts.as_slice(), v, way)?;
+    read_stream_of(alloc, root, stream, drafts, v, way)
+}
+
+// What is asked with these writes, whose rules are tested last.
+fn read_stream_of(
+    alloc: Global,
+    root: &Root,
+    stream: Option<u64>,
+    drafts: Drafts,
+    v: &Value,
+    way: &Way<'_>,
+) -> Result<Request, Bad>
+    ensures { Gives (λ r. r) result
+        (stream_of_at root.now stream drafts (json v.now) (place_of way.now)) }
+{
+    match read_labelled_token(alloc, stream, drafts.as_slice(), v, way) {
+        Ok(token) => judged_stream(alloc, root, stream, token, drafts, way),
+        Err(bad) => {
+            drop(drafts);
+            Err(bad)
+        }
+    }
+}
+
+// The token, and the labels behind it.
+fn read_labelled_token(
+    alloc: Global,
+    stream: Option<u64>,
+    drafts: &[Draft],
+    v: &Value,
+    way: &Way<'_>,
+) -> Result<Option<u64>, Bad>
+    ensures { Gives {Y = Option ℕ} (λ n. n) result
+        (labelled_token_at stream drafts.now (json v.now) (place_of way.now)) }
+{
+    let token = read_token_for(alloc, stream, drafts, v, way)?;
     read_labels(alloc, v, way)?;
+    Ok(token)
+}
+
+fn judged_stream(
+    alloc: Global,
+    root: &Root,
+    stream: Option<u64>,
+    token: Option<u64>,
+    drafts: Drafts,
+    way: &Way<'_>,
+) -> Result<Request, Bad>
+    ensures { Gives (λ r. r) result
+        (judged_stream_at root.now stream token drafts (place_of way.now)) }
+{
     let writes = judge(alloc, drafts, &way.member(WRITES))?;
     Ok(Request::Write {
         database: root.copy(alloc)?,

@@ -2,6 +2,7 @@
 ghost use Rattle.std.specs.Prelude.{ℤ, List, ℕ, Option, None, Some, codes};
 ghost use Rattle.fs_path.specs.Place.{member_place};
 ghost use Rattle.fs_path.specs.Way.{place_of};
+ghost use Rattle.fs_path.specs.declared.name.Root.{Root as Rooted};
 ghost use Rattle.serde_json.specs.View.{members_view, view as json};
 ghost use Rattle.fs_json.specs.Answer.{Gives, made};
 ghost use Rattle.fs_json.specs.Members.{member_or, required_as};
@@ -9,7 +10,7 @@ ghost use Rattle.fs_json.specs.Scalars.{small_at};
 ghost use Rattle.fs_query.specs.declared.target.Target.{Target as Listened};
 ghost use Rattle.fs_rpc.specs.ReadListen.{token_at};
 ghost use Rattle.fs_rpc.specs.ReadTargets.{add_target_at, documents_target_at, labels_at, labels_in, listen_request_at, permitted_request, permitted_target, query_target_at, remove_target_at, some_names, target_at, target_change_by, target_id_at, texts_at};
-ghost use Rattle.fs_rpc.specs.RequestSteps.{behind_at};
+ghost use Rattle.fs_rpc.specs.RequestSteps.{added_at, behind_at, beside_target_at, ignored_at};
 ghost use Rattle.fs_request.specs.declared.request.Request.{Request as Requested};
 
 use crate::distinct::read_names;
@@ -123,16 +124,62 @@ fn read_add_target(alloc: Global, root: &Root, v: &Value, way: &Way<'_>) -> Resu
     let id = read_target_id(alloc, v, way)?;
     let (name, content) = one_of(alloc, v, &TARGET_MEMBERS, way)?;
     let target = read_target(alloc, root, name, content, way)?;
+    add_target(alloc, root, id, target, v, way)
+}
+
+// Puts a target together with the token beside it.
+fn add_target(
+    alloc: Global,
+    root: &Root,
+    id: u32,
+    target: Target,
+    v: &Value,
+    way: &Way<'_>,
+) -> Result<Request, Bad>
+    ensures { Gives (λ r. r) result (added_at root.now id target (json v.now) (place_of way.now)) }
+{
+    match read_beside(alloc, root, v, way) {
+        Ok((database, token)) => Ok(Request::AddTarget {
+            database,
+            id,
+            target,
+            token,
+        }),
+        Err(bad) => {
+            drop(target);
+            Err(bad)
+        }
+    }
+}
+
+// The database, and the token that a target is resumed with.
+fn read_beside(
+    alloc: Global,
+    root: &Root,
+    v: &Value,
+    way: &Way<'_>,
+) -> Result<(Root, Option<Bytes>), Bad>
+    ensures { Gives {Y = Rooted × Option (List ℕ)} (λ b. b) result
+        (beside_target_at root.now (json v.now) (place_of way.now)) }
+{
     let token = read_bytes_of(alloc, v, RESUME_TOKEN, way)?;
-    // How many documents are expected is ignored.
+    match pass_ignored(alloc, root, v, way) {
+        Ok(database) => Ok((database, token)),
+        Err(bad) => {
+            drop(token);
+            Err(bad)
+        }
+    }
+}
+
+// How many documents are expected is ignored, and two members aren't built.
+fn pass_ignored(alloc: Global, root: &Root, v: &Value, way: &Way<'_>) -> Result<Root, Bad>
+    ensures { Gives {Y = Rooted} (λ r. r) result
+        (ignored_at root.now (json v.now) (place_of way.now)) }
+{
     read_small_of(alloc, v, EXPECTED_COUNT, way)?;
     refuse_unbuilt(alloc, v, &UNBUILT_OF_TARGET, way)?;
-    Ok(Request::AddTarget {
-        database: root.copy(alloc)?,
-        id,
-        target,
-        token,
-    })
+    Ok(root.copy(alloc)?)
 }
 
 /// Reads the id of a target, which is at least 1.
