@@ -85,7 +85,7 @@ impl Client {
     ghost use Rattle.std.specs.Prelude.{◌≡◌, ◌⊎◌, ◌↔◌, ◌<◌, ◌^◌, suc, Err, IfErr, IfOk, IfSome, None, OnErr, OnOk, Some, alloc_error, drop, option_map, option_to_list, take};
     ghost use Rattle.std.specs.FinMap.{get};
     ghost use Rattle.std.specs.Option.{option_copied};
-    ghost use Rattle.fs_queue.specs.Refusal.{push_refusal};
+    ghost use Rattle.fs_queue.specs.Refusal.{count_refusal, push_refusal};
     ghost use Rattle.fs_queue.specs.declared.error.QueueError.TheVariants as queue_error;
     ghost use Rattle.fs_local.specs.Connect.{connected, lost};
     ghost use Rattle.fs_local.specs.Listen.{listen_refusal, listened, place_refusal};
@@ -166,6 +166,7 @@ impl Client {
         ensures err { OnErr result (self.new ≡ self.old) }
 
         // `Full`, `Count` and `Rule` just where they hold, but for want of memory, which only the rules want.
+        ensures count { IfSome (count_refusal writes self.old.queue) (λ e. result ≡ Err e) }
         ensures refused { IfSome (push_refusal writes self.old.queue) (λ e. (result ≡ Err e) ⊎ (result ≡ Err (queue_error.Memory alloc_error))) }
         ensures memory { push_refusal writes self.old.queue ≡ None → IfErr result (λ e. e ≡ queue_error.Memory alloc_error) }
     {

@@ -83,7 +83,7 @@ pub(crate) fn batch_request(
 }
 
 impl Hand {
-    ghost use Rattle.std.specs.Prelude.{◌≡◌, ◌∷◌, ◌++◌, suc, ◌==◌, ◌<◌, ◌^◌, [], false, IfOk, None, OnErr, OnOk, Some, is_some};
+    ghost use Rattle.std.specs.Prelude.{◌≡◌, ◌∷◌, ◌++◌, suc, ◌==◌, ◌<◌, ◌^◌, [], false, IfOk, None, OnErr, OnOk, Some};
     ghost use Rattle.fs_local.specs.Answered.{greeted_link, opened_in};
     ghost use Rattle.fs_local.specs.Ask.{asking, stream_request as greeting_request};
     ghost use Rattle.fs_local.specs.Connect.{cut_off};
@@ -110,12 +110,6 @@ impl Hand {
         ensures { result ≡ self.now.token }
     {
         self.token
-    }
-
-    pub(crate) fn is_linked(&self) -> bool
-        ensures { result ≡ is_some self.now.link }
-    {
-        self.link.is_some()
     }
 
     /// Whether batches may be sent.

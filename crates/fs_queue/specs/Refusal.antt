@@ -24,8 +24,16 @@ abbrev pub broken_from : ℕ → List Write → Option QueueError
 broken_from number [] = None
 broken_from number (w ∷ ws) = broken_by (rule_of_write w) number (broken_from (suc number) ws)
 
-abbrev pub push_refusal : List Write → Queue → Option QueueError
-push_refusal ws q =
+-- whatever its writes are
+abbrev pub count_refusal : List Write → Queue → Option QueueError
+count_refusal ws q =
     if is_full q then Some (error.Full q.limit)
     else if length ws == 0 || nat_lt most_writes (length ws) then Some (error.Count (length ws))
-    else broken_from 0 ws
+    else None
+
+abbrev pub or_broken : List Write → Option QueueError → Option QueueError
+or_broken ws (Some e) = Some e
+or_broken ws None = broken_from 0 ws
+
+abbrev pub push_refusal : List Write → Queue → Option QueueError
+push_refusal ws q = or_broken ws (count_refusal ws q)

@@ -88,7 +88,7 @@ impl Queue {
     ghost use Rattle.fs_write.specs.Batch.{docs_of};
     ghost use Rattle.fs_queue.specs.Overlay.{IsOverlay, overlay};
     ghost use Rattle.fs_queue.specs.Queue.{acknowledged_at, batches, covered_to, is_named, is_unanswered, next_of, none_queued, oldest_of, phase_of, place_of, pushed, refused_oldest, sent_on, with_link_lost, writes_in};
-    ghost use Rattle.fs_queue.specs.Refusal.{is_full, push_refusal};
+    ghost use Rattle.fs_queue.specs.Refusal.{count_refusal, is_full, push_refusal};
     ghost use Rattle.fs_queue.specs.declared.error.QueueError.TheVariants.{Memory};
 
     /// No batches, of which there may be as many as the limit. The allocator serves those that come.
@@ -118,8 +118,8 @@ impl Queue {
         ensures err { OnErr result (self.new ≡ self.old) }
 
         // `Full`, `Count` and `Rule` just where they hold, but for want of memory, which only the rules want.
+        ensures count { IfSome (count_refusal writes self.old) (λ e. result ≡ Err e) }
         ensures refused { IfSome (push_refusal writes self.old) (λ e. (result ≡ Err e) ⊎ (result ≡ Err (Memory alloc_error))) }
-        ensures full { is_full self.old ≡ true → IfSome (push_refusal writes self.old) (λ e. result ≡ Err e) }
         ensures memory { push_refusal writes self.old ≡ None → IfErr result (λ e. e ≡ Memory alloc_error) }
     {
         if self.is_full() {
