@@ -1,5 +1,5 @@
 //! What the forms in memory do by their paces, and the real ones over readers and writers that fail or stop short.
-use crate::short::{moment, push, text};
+use crate::short::{moment, text};
 use fs_edge::{
     Clock, Door, Doors, Gave, Heard, Hearings, Link, MemoryClock, MemoryDoors, MemoryLink,
     MemorySink, MemorySource, Moments, Pace, Paces, RealSink, RealSource, Sent, Sink, Source,
@@ -178,48 +178,32 @@ fn hearings(rt: &impl Abort, alloc: Global, message: &str) -> Hearings {
     Hearings::of(heard)
 }
 
-/// A link that hears a message and then nothing, and whose second call of `send` fails.
+// A link that hears a message and then nothing, and whose second call of `send` fails.
 fn link_of(rt: &impl Abort, alloc: Global, message: &str) -> MemoryLink {
     let paces = paces(rt, alloc, &[Pace::Free, Pace::Fail]);
     MemoryLink::new(alloc, hearings(rt, alloc, message), paces)
 }
 
-/// Tells what a link hears next, in a word where it is no message.
-fn push_heard(rt: &impl Abort, link: &mut MemoryLink, told: &mut String) {
+fn hears(rt: &impl Abort, link: &mut MemoryLink, message: &str) -> bool {
     match link.receive().expect(rt, "memory") {
-        Heard::Message(text) => push(rt, told, text.as_str()),
-        Heard::Quiet => push(rt, told, "quiet"),
-        Heard::Closed => push(rt, told, "closed"),
-        Heard::Failed => push(rt, told, "failed"),
+        Heard::Message(text) => text.as_str() == message,
+        Heard::Quiet => message == "quiet",
+        Heard::Closed => message == "closed",
+        Heard::Failed => false,
     }
-    push(rt, told, " ");
-}
-
-fn push_sent(rt: &impl Abort, link: &mut MemoryLink, message: &str, told: &mut String) {
-    match link.send(message).expect(rt, "memory") {
-        Sent::Done => push(rt, told, "Done "),
-        Sent::Failed => push(rt, told, "Failed "),
-    }
-}
-
-/// Checks what a link hears and sends, in their order, and then what it has sent.
-fn check_link(rt: &impl Abort, alloc: Global, link: &mut MemoryLink, want: &str) {
-    let mut told = String::new(alloc);
-    push_heard(rt, link, &mut told);
-    push_sent(rt, link, "lost", &mut told);
-    push_sent(rt, link, "two", &mut told);
-    push_heard(rt, link, &mut told);
-    push_heard(rt, link, &mut told);
-    assert!(rt; link.sent().len() == 1);
-    push(rt, &mut told, link.sent().at(0).as_str());
-    assert!(rt; told.as_str() == want, "{told}");
 }
 
 #[test]
 fn a_link_in_memory_hears_and_sends_in_order(rt: HostRuntime) {
     let alloc = rt.alloc();
-    let want = "one Failed Done quiet closed two";
-    check_link(&rt, alloc, &mut link_of(&rt, alloc, "one"), want);
+    let mut link = link_of(&rt, alloc, "one");
+    assert!(rt; hears(&rt, &mut link, "one"));
+    let lost = link.send("lost").expect(&rt, "memory");
+    let sent = link.send("two").expect(&rt, "memory");
+    assert!(rt; lost == Sent::Failed && sent == Sent::Done);
+    assert!(rt; hears(&rt, &mut link, "quiet") && hears(&rt, &mut link, "closed"));
+    assert!(rt; link.sent().len() == 1);
+    assert!(rt; link.sent().at(0).as_str() == "two");
 }
 
 fn has_failed(rt: &impl Abort, door: Result<Door<MemoryLink>, AllocError>) -> bool {

@@ -1,5 +1,5 @@
-//! Tests of names, times, resume tokens, refusals, the edge, values, changes of fields, commit times, holds and write streams, by the public calls of
-//! their libraries.
+//! Tests of names, times, resume tokens, refusals, the edge, values, changes of fields, commit times, holds and write streams: what no script
+//! shows, and vectors from outside.
 #![tactic(auto)]
 
 #[cfg(test)]
@@ -18,8 +18,6 @@ mod short;
 mod status;
 #[cfg(test)]
 mod streams;
-#[cfg(test)]
-mod table;
 #[cfg(test)]
 mod time;
 #[cfg(test)]

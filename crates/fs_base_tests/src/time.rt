@@ -1,10 +1,7 @@
 //! Texts and the moments that they are, counted from outside.
-
-use crate::short::push;
-use crate::table::{Line, holds};
 use fs_time::{Micros, TimeError, print, read_rfc3339};
-use std::alloc::Global;
-use std::fmt::Write;
+use std::alloc::{AllocError, Global};
+use std::fmt::Write as _;
 use std::process::Abort;
 
 // A text, the microseconds that it reads as, and how those are printed.
@@ -101,24 +98,31 @@ const READINGS: &str = r#"2024-01-01T00:00:00Z => 1704067200000000 2024-01-01T00
 T => bad text
 Z => bad text"#;
 
-fn push_moment(rt: &impl Abort, alloc: Global, told: &mut String, t: Micros) {
-    write!(told, "{} ", t.get()).expect(rt, "memory");
-    push(rt, told, print(alloc, t).expect(rt, "memory").as_str());
+// Adds what a text reads as.
+fn push_reading(alloc: Global, told: &mut String, text: &str) -> Result<(), AllocError> {
+    match read_rfc3339(alloc, text) {
+        Ok(t) => {
+            let printed = print(alloc, t)?;
+            write!(told, "{} {}", t.get(), printed.as_str())
+        }
+        Err(TimeError::OutOfRange) => told.push_str("out of range"),
+        Err(TimeError::BadText) => told.push_str("bad text"),
+        Err(TimeError::Memory(e)) => Err(e),
+    }
 }
 
-/// Tells what a text reads as.
-pub(crate) fn tell_moment(rt: &impl Abort, alloc: Global, text: &str, told: &mut String) {
-    match read_rfc3339(alloc, text) {
-        Ok(t) => push_moment(rt, alloc, told, t),
-        Err(TimeError::OutOfRange) => push(rt, told, "out of range"),
-        Err(TimeError::BadText) => push(rt, told, "bad text"),
-        Err(TimeError::Memory(_)) => push(rt, told, "out of memory"),
-    }
+fn is_so(rt: &impl Abort, alloc: Global, line: &str) -> bool {
+    let (text, wanted) = line.split_once(" => ").expect(rt, "an arrow");
+    let mut told = String::new(alloc);
+    push_reading(alloc, &mut told, text).expect(rt, "memory");
+    told.as_str() == wanted
 }
 
 #[test]
 fn texts_are_read_and_printed(rt: HostRuntime) {
-    holds(&rt, rt.alloc(), Line::Moment, READINGS);
+    for line in READINGS.lines() {
+        assert!(rt; is_so(&rt, rt.alloc(), line), "{line}");
+    }
 }
 
 #[test]

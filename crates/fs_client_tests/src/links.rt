@@ -2,7 +2,7 @@
 use crate::steps::goes;
 
 /// Nothing is sent without a link. On a new one the stream is opened or resumed, then each target is listened to, and batches wait for the
-/// first answer of the stream.
+/// first answer of the stream. A response counts where nothing waits for it, too.
 const LINKS: &str = "listen 1 all | write set c/a 1 => 1 | sent =>
 connect | sent => open; query 1: all | sent =>
 lose | sent => | connect | connect | sent => open; query 1: all
@@ -12,7 +12,8 @@ told committed 5 1 2 | sent => batch 1: delete c/b | sent =>
 unlisten 3 | sent => remove 3 | listen 4 all | lose | sent =>
 connect | sent => resume 5 1; query 1: all; names 2: name c/b; query 4: all | sent =>
 told stands 5 1 | sent => batch 1: delete c/b | told committed 5 2 3 | sent =>
-lose | unlisten 4 | connect | told stands 5 2 | sent => resume 5 2; query 1: all; names 2: name c/b";
+lose | unlisten 4 | connect | told stands 5 2 | sent => resume 5 2; query 1: all; names 2: name c/b
+told committed 5 3 4 | write set c/a 2 => 3 | sent => batch 3: set c/a 2";
 
 /// A target goes on from the token of the last snapshot, if that has it: not of one that was passed over, nor of CURRENT.
 const TOKENS: &str =

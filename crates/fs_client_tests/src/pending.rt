@@ -16,14 +16,17 @@ told still 2 Ag== | see 1 => 2 live c/a {n:2}
 told committed 5 1 2 | see 1 => 2 live c/a {n:2}
 write add c/a 1 => 2 | see 1 => 2 live c/a {n:3} *c/a | sent => batch 1: add c/a 1";
 
-/// Where a snapshot has the time of a commit already, the batch goes as it is acknowledged.
+/// Where a snapshot has the time of a commit already, the batch goes as it is acknowledged. A response whose token isn't the next answers no
+/// batch, but ends the greeting of a link.
 const COVERED: &str =
     "listen 1 all | connect | told stands 5 0 | told current 1 1 AQ== | told still 1 AQ==
 write set c/a 4 => 1 | write set c/b 5 => 2 | sent => open; query 1: all; batch 0: set c/a 4
+told committed 5 2 2 | told refused 5 2 404 NOT_FOUND missing | refusal => none | sent =>
 told doc c/a 7 1 | told still 3 Ag== | see 1 => 3 live c/a {n:4} c/b {n:5} *c/a *c/b
 told committed 5 1 2 | see 1 => 3 live c/a {n:7} c/b {n:5} *c/b | sent => batch 1: set c/b 5
 told committed 5 2 4 | see 1 => 3 live c/a {n:7} c/b {n:5} *c/b
-told doc c/b 5 1 | told still 4 Aw== | see 1 => 4 live c/a {n:7} c/b {n:5}";
+told doc c/b 5 1 | told still 4 Aw== | see 1 => 4 live c/a {n:7} c/b {n:5}
+lose | connect | told committed 5 2 4 | write set c/a 1 => 3 | sent => resume 5 2; query_from 1 Aw==: all; batch 2: set c/a 1";
 
 /// With no target that is listened to, the time of a commit is that of the snapshot.
 const UNHEARD: &str =

@@ -13,7 +13,7 @@ refusal => 1 NOT_FOUND missing | refusal => 2 ABORTED conflict | refusal => none
 told refused 5 3 429 RESOURCE_EXHAUSTED limit | see 1 => 1 live c/a {n:1}
 write add c/a 3 => 4 | see 1 => 1 live c/a {n:4} *c/a | sent => batch 3: add c/a 3
 refusal => 3 RESOURCE_EXHAUSTED limit | refusal => none
-told error 404 NOT_FOUND other | told refused 5 3 404 NOT_FOUND missing | refusal => none | see 1 => 1 live c/a {n:4} *c/a";
+told error 404 NOT_FOUND other | sent => | told refused 5 3 404 NOT_FOUND missing | refusal => none | see 1 => 1 live c/a {n:4} *c/a";
 
 /// Of several refusals of a target its id comes first, then the number of targets, then the rule of its query.
 const TARGETS: &str =
