@@ -1,5 +1,5 @@
 -- How often a target was told to be current, after each event of a run.
-use Rattle.std.proofs.Common.{◌≡◌, ℕ, ◌+◌, ℤ, Bool, true, false, cond, not, ◌&&◌, ◌||◌, List, [], ◌∷◌, ◌++◌, map, Option, Some, None, refl, sym, ap, ◌∙◌, subst}
+use Rattle.std.proofs.Common.{◌≡◌, ℕ, ◌+◌, ℤ, Bool, true, false, cond, not, List, [], ◌∷◌, ◌++◌, map, Option, Some, None, refl, sym, ap, ◌∙◌, subst, arith}
 use Rattle.std.specs.Prelude.{IfSome, IsTrue, ◌==◌}
 use Rattle.std.specs.Cmp.{first_so, second_so}
 use Rattle.std.specs.FinMap.{entries, entries_sorted, find, get, get-empty, get-entries, get-insert, get-remove, is_sorted}
@@ -17,9 +17,8 @@ use Rattle.fs_query.specs.declared.listen.ListenMessage.TheVariants as message
 use Rattle.fs_query.specs.declared.target.Target.{Target}
 use Rattle.fs_history.specs.declared.batch.Batch.{Batch}
 use Rattle.fs_token.specs.Token.{token_of}
-use Rattle.fs_listen.specs.Currents.{currents_from, currents_since, currents_with}
+use Rattle.fs_listen.specs.Currents.{count_in, currents_from, currents_since, currents_with}
 use Rattle.fs_listen.specs.Cuts.{cut, first_loading, is_current, is_loaded, is_ready, least_position}
-use Rattle.fs_listen.specs.Gathered.{is_in}
 use Rattle.fs_listen.specs.Laws.{IsCurrentOnce}
 use Rattle.fs_listen.specs.Listening.{Listened, Listening, Loaded, added, loaded_at, loaded_one, made_current, matched, moved, raised_to, removed, with_loaded}
 use Rattle.fs_listen.specs.Raised.{raised, stands_at, views_of}
@@ -29,7 +28,7 @@ use Rattle.fs_listen.specs.Told.{Views, told}
 use Rattle.fs_listen.specs.declared.cut.Cut.{Cut}
 use Rattle.fs_listen.specs.declared.cut.Cut.TheVariants.{At, Loading, NoTarget}
 use Rattle.fs_listen.proofs.Bounds.{cut_is, none_loading}
-use Rattle.fs_listen.proofs.Events.{IsTold}
+use Rattle.fs_listen.proofs.Events.{IsTold, in_one, made_is, moved_current}
 use Rattle.fs_listen.proofs.Listed.{at_found, number_is, other_number, same_itself}
 use Rattle.fs_listen.proofs.OfDocuments.{AreOfDocuments, is_of_document, told_of_documents}
 use Rattle.fs_listen.proofs.Targets.{from_each, get_each}
@@ -60,69 +59,76 @@ documents_count : (id : ℕ) (ms : List ListenMessage) (n : ℕ) → AreOfDocume
 documents_count id [] n are = refl
 documents_count id (m ∷ ms) n are = ap (currents_from id ms) (document_counts id m n are.0) ∙ documents_count id ms n are.1
 
--- ---- a raise counts one for each target that is new
+-- ---- a raise counts each target that it names
 
-one_current : (id : ℕ) (time : ℤ) (ids : List ℕ) (n : ℕ) → currents_from id (current_from time ids) n ≡ cond (is_in id ids) (n + 1) n
-one_current id time [] n = refl
+one_current : (id : ℕ) (time : ℤ) (ids : List ℕ) (n : ℕ) → currents_from id (current_from time ids) n ≡ n + count_in id ids
+one_current id time [] n = omega arith
 one_current id time (k ∷ ids) n = refl
 
 sent_currents : (id : ℕ) (stands : DocName → Bool) (time : ℤ) (s : Listening) (vs : List Views) (n : ℕ)
-    → currents_from id (sent stands time s vs) n ≡ cond (is_in id (new_targets s)) (n + 1) n
+    → currents_from id (sent stands time s vs) n ≡ n + count_in id (new_targets s)
 sent_currents id stands time s vs n =
     currents-append id (told stands time vs) (current_from time (new_targets s) ++ message.NoChange time (token_of time) ∷ []) n
     ∙ ap (currents_from id (current_from time (new_targets s) ++ message.NoChange time (token_of time) ∷ [])) (documents_count id (told stands time vs) n (told_of_documents stands time vs))
     ∙ currents-append id (current_from time (new_targets s)) (message.NoChange time (token_of time) ∷ []) n
     ∙ one_current id time (new_targets s) n
 
--- ---- which are new
-
-no_front : (a : Bool) → ((a && true) || false) ≡ a
-no_front true = refl
-no_front false = refl
-
-no_behind : (a b : Bool) → ((a && false) || b) ≡ b
-no_behind true b = refl
-no_behind false b = refl
+-- ---- and each that is new is named once
 
 module _ {X : Type 0} (p : ℕ × X → Bool) (id : ℕ) where
   abbrev keys_kept : List (ℕ × X) → List ℕ
   keys_kept es = map (λ (e : ℕ × X). e.0) (filter p es)
 
-  step : (e : ℕ × X) (es : List (ℕ × X)) (passes : Bool)
-      → is_in id (map (λ (d : ℕ × X). d.0) (cond passes (e ∷ filter p es) (filter p es))) ≡ ((passes && (id == e.0)) || is_in id (keys_kept es))
-  step e es true = refl
-  step e es false = refl
+  abbrev one_if : Bool → ℕ
+  one_if b = cond b 1 0
 
-  next : (e : ℕ × X) (es : List (ℕ × X)) → eq_by_cmp nat_cmp id e.0 ≡ false → is_in id (keys_kept (e ∷ es)) ≡ is_in id (keys_kept es)
+  more : (n : ℕ) → n ≡ 0 + n
+  more n = omega arith
+
+  step : (e : ℕ × X) (es : List (ℕ × X)) (passes : Bool)
+      → count_in id (map (λ (d : ℕ × X). d.0) (cond passes (e ∷ filter p es) (filter p es))) ≡ cond passes (one_if (id == e.0)) 0 + count_in id (keys_kept es)
+  step e es true = refl
+  step e es false = more (count_in id (keys_kept es))
+
+  none_more : (passes : Bool) (n : ℕ) → cond passes 0 0 + n ≡ n
+  none_more true n = omega arith
+  none_more false n = omega arith
+
+  next : (e : ℕ × X) (es : List (ℕ × X)) → eq_by_cmp nat_cmp id e.0 ≡ false → count_in id (keys_kept (e ∷ es)) ≡ count_in id (keys_kept es)
   next e es other =
       step e es (p e)
-      ∙ ap (λ b. (p e && b) || is_in id (keys_kept es)) (other_number id e.0 other)
-      ∙ no_behind (p e) (is_in id (keys_kept es))
+      ∙ ap (λ b. cond (p e) (one_if b) 0 + count_in id (keys_kept es)) (other_number id e.0 other)
+      ∙ none_more (p e) (count_in id (keys_kept es))
 
-  absent : (es : List (ℕ × X)) → IsTrue (below_all nat_cmp id es) → is_in id (keys_kept es) ≡ false
+  absent : (es : List (ℕ × X)) → IsTrue (below_all nat_cmp id es) → count_in id (keys_kept es) ≡ 0
   absent [] below = refl
   absent (e ∷ es) below =
       let both = below_less (nat_cmp id e.0) (below_all nat_cmp id es) below in
       next e es both.0 ∙ absent es both.1
 
-  in_kept : (es : List (ℕ × X)) (x : X) → IsTrue (is_sorted nat_cmp es) → find nat_cmp id es ≡ Some x → is_in id (keys_kept es) ≡ p (id, x)
-  in_kept [] x rise found = absurd (cc)
-  in_kept (e ∷ es) x rise found = by_test (in_kept es x (second_so _ _ rise)) (eq_by_cmp nat_cmp id e.0) refl where
-    by_test : (find nat_cmp id es ≡ Some x → is_in id (keys_kept es) ≡ p (id, x)) → (same : Bool) → eq_by_cmp nat_cmp id e.0 ≡ same → is_in id (keys_kept (e ∷ es)) ≡ p (id, x)
+  just_one : (passes : Bool) → cond passes 1 0 + 0 ≡ one_if passes
+  just_one true = refl
+  just_one false = refl
+
+  named_once : (es : List (ℕ × X)) (x : X) → IsTrue (is_sorted nat_cmp es) → find nat_cmp id es ≡ Some x → count_in id (keys_kept es) ≡ one_if (p (id, x))
+  named_once [] x rise found = absurd (cc)
+  named_once (e ∷ es) x rise found = by_test (named_once es x (second_so _ _ rise)) (eq_by_cmp nat_cmp id e.0) refl where
+    by_test : (find nat_cmp id es ≡ Some x → count_in id (keys_kept es) ≡ one_if (p (id, x))) → (same : Bool) → eq_by_cmp nat_cmp id e.0 ≡ same
+        → count_in id (keys_kept (e ∷ es)) ≡ one_if (p (id, x))
     by_test again true is =
         let one : Some e.1 ≡ Some x = ap (λ b. cond b (Some e.1) (find nat_cmp id es)) (sym is) ∙ found in
         let value : e.1 ≡ x = cc in
         let key = number_is id e.0 is in
         let none = absent es (subst (λ k. IsTrue (below_all nat_cmp k es)) (sym key) (first_so _ _ rise)) in
         step e es (p e)
-        ∙ (λ i. (p e && (ap (λ k. id == k) (sym key) ∙ same_itself id) i) || none i)
-        ∙ no_front (p e)
-        ∙ (λ i. p (sym key i, value i))
+        ∙ (λ i. cond (p e) (one_if ((ap (λ k. id == k) (sym key) ∙ same_itself id) i)) 0 + none i)
+        ∙ just_one (p e)
+        ∙ (λ i. one_if (p (sym key i, value i)))
     by_test again false is = next e es is ∙ again (ap (λ b. cond b (Some e.1) (find nat_cmp id es)) (sym is) ∙ found)
 
-is_new : (s : Listening) (id : ℕ) (l : Listened) → get s.targets id ≡ Some l → is_in id (new_targets s) ≡ not (is_current l.loaded)
+is_new : (s : Listening) (id : ℕ) (l : Listened) → get s.targets id ≡ Some l → count_in id (new_targets s) ≡ cond (not (is_current l.loaded)) 1 0
 is_new s id l found =
-    in_kept (λ (e : ℕ × Listened). not (is_current e.1.loaded)) id (entries s.targets) l (to_true _ (entries_sorted s.targets)) (sym (get-entries s.targets id) ∙ found)
+    named_once (λ (e : ℕ × Listened). not (is_current e.1.loaded)) id (entries s.targets) l (to_true _ (entries_sorted s.targets)) (sym (get-entries s.targets id) ∙ found)
 
 -- ---- the invariant
 
@@ -132,12 +138,6 @@ count_of o = cond (is_current o) 1 0
 -- each target was told so once where it is current, and else not yet
 abbrev pub AreCounted : World → Type 0
 AreCounted w = (id : ℕ) (l : Listened) → get w.listening.targets id ≡ Some l → currents_since id w.said ≡ cond (is_current l.loaded) 1 0
-
-in_one : (id k : ℕ) → is_in id (k ∷ []) ≡ (id == k)
-in_one id k = or_false (id == k) where
-  or_false : (b : Bool) → (b || false) ≡ b
-  or_false true = refl
-  or_false false = refl
 
 pub none_counted : (h : List Batch) (released floor : ℤ) → AreCounted (begun h released floor)
 none_counted h released floor = λ id l is. absurd (let none = sym (get-empty nat_cmp id) ∙ is in cc)
@@ -196,10 +196,6 @@ load_counts shards id time reset w (Some k) there may are =
 
 -- ---- matching
 
-moved_current : (shard : ℕ) (to : ℤ) (o : Option Loaded) → is_current (with_loaded (moved shard to) o) ≡ is_current o
-moved_current shard to None = refl
-moved_current shard to (Some l) = refl
-
 match_counts : (shard : ℕ) (to : ℤ) (w : World) → AreCounted w → AreCounted (record w { listening = matched shard to w.listening })
 match_counts shard to w are = λ id l found. by_change id l (from_each change (get w.listening.targets id) l (sym (get_each change w.listening id) ∙ found)) where
   change : Listened → Listened
@@ -212,11 +208,7 @@ match_counts shard to w are = λ id l found. by_change id l (from_each change (g
 
 -- ---- raising
 
-made_is : (o : Option Loaded) → is_loaded o ≡ true → is_current (with_loaded made_current o) ≡ true
-made_is None there = absurd (cc)
-made_is (Some l) there = refl
-
-then_one : (current : Bool) → ◌≡◌ {A = ℕ} (cond (not current) (cond current 1 0 + 1) (cond current 1 0)) 1
+then_one : (current : Bool) → cond current 1 0 + cond (not current) 1 0 ≡ 1
 then_one true = refl
 then_one false = refl
 
@@ -238,7 +230,7 @@ raise_counts time w at_time are = λ id l found. by_change id l (from_each chang
       (currents-append id w.said (raised w.history time w.listening) 0
       ∙ ap (currents_from id (raised w.history time w.listening)) (are id k found)
       ∙ sent_currents id (stands_at w.history time) time w.listening (views_of w.history time w.listening) (count_of k.loaded)
-      ∙ ap (λ b. cond b (count_of k.loaded + 1) (count_of k.loaded)) (is_new w.listening id k found)
+      ∙ ap (λ n. count_of k.loaded + n) (is_new w.listening id k found)
       ∙ then_one (is_current k.loaded)
       ∙ ap (λ b. cond b 1 0) (sym (made_is k.loaded (there id k found))))
 

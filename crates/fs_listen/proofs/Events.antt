@@ -61,7 +61,7 @@ pub record IsTold (w : World) : Type 0 where
 
 -- ---- a message to one target, or none
 
-in_one : (id k : ℕ) → is_in id (k ∷ []) ≡ (id == k)
+pub in_one : (id k : ℕ) → is_in id (k ∷ []) ≡ (id == k)
 in_one id k = or_false (id == k) where
   or_false : (b : Bool) → (b || false) ≡ b
   or_false true = refl
@@ -231,7 +231,7 @@ moved_alike : (shard : ℕ) (to : ℤ) (raised token : Option ℤ) (o : Option L
 moved_alike shard to last token None = refl
 moved_alike shard to last token (Some l) = refl
 
-moved_current : (shard : ℕ) (to : ℤ) (o : Option Loaded) → is_current (with_loaded (moved shard to) o) ≡ is_current o
+pub moved_current : (shard : ℕ) (to : ℤ) (o : Option Loaded) → is_current (with_loaded (moved shard to) o) ≡ is_current o
 moved_current shard to None = refl
 moved_current shard to (Some l) = refl
 
@@ -334,7 +334,7 @@ made_sent : (time : ℤ) (token : Option ℤ) (o : Option Loaded) → is_loaded 
 made_sent time token None there = absurd (cc)
 made_sent time token (Some l) there = refl
 
-made_is : (o : Option Loaded) → is_loaded o ≡ true → is_current (with_loaded made_current o) ≡ true
+pub made_is : (o : Option Loaded) → is_loaded o ≡ true → is_current (with_loaded made_current o) ≡ true
 made_is None there = absurd (cc)
 made_is (Some l) there = refl
 

@@ -1,9 +1,10 @@
+pub mod All
 pub mod Bounds
 mod Events
 pub mod Filters
 pub mod Listed
 pub mod Names
-mod Sending
+pub mod Sending
 mod Served
 pub mod Shown
 pub mod Targets

@@ -13,6 +13,7 @@ use Rattle.fs_query.proofs.Rising.{has_cases, has_none}
 use Rattle.fs_listen.specs.Cuts.{base, cut_behind, first_loading, greater_of, greatest, is_behind, is_current, is_from, is_loaded, is_ready_at, least, least_position, lesser_of, positions_of, some_new, times_of}
 use Rattle.fs_listen.specs.Listening.{Listened, Listening}
 use Rattle.fs_listen.specs.ReadyLaws.{IsNews, ReadyOnceDue, TogetherAtTheLeast}
+use Rattle.fs_listen.proofs.All.{all_append}
 use Rattle.fs_listen.proofs.Bounds.{AreBy, by_append}
 use Rattle.fs_listen.proofs.Listed.{from_found}
 
@@ -20,10 +21,6 @@ use Rattle.fs_listen.proofs.Listed.{from_found}
 
 abbrev AreFrom : ℤ → List (Option ℤ) → Type 0
 AreFrom time ts = AllByRecursion (λ o. IfSome o (λ t. time ≤ℤ t)) ts
-
-from_append : (time : ℤ) (ts us : List (Option ℤ)) → AreFrom time ts → AreFrom time us → AreFrom time (ts ++ us)
-from_append time [] us first second = second
-from_append time (t ∷ ts) us first second = (first.0, from_append time ts us first.1 second)
 
 lesser_from : (time u : ℤ) (o : Option ℤ) → time ≤ℤ u → IfSome o (λ t. time ≤ℤ t) → time ≤ℤ lesser_of u o
 lesser_from time u None low rest = low
@@ -80,7 +77,7 @@ none_first (e ∷ es) all = ap (λ b. cond b (first_loading es) (Some e.0)) all.
 
 flat_from : (time : ℤ) (ls : List Listened) → AllByRecursion (λ (l : Listened). AreFrom time (positions_of l.loaded)) ls → AreFrom time (flat_map (λ (l : Listened). positions_of l.loaded) ls)
 flat_from time [] all = tt
-flat_from time (l ∷ ls) all = from_append time (positions_of l.loaded) _ all.0 (flat_from time ls all.1)
+flat_from time (l ∷ ls) all = all_append (λ o. IfSome o (λ t. time ≤ℤ t)) (positions_of l.loaded) _ all.0 (flat_from time ls all.1)
 
 has_position : (o : Option ℤ) (id : ℕ) (l : Listened) (es : List (ℕ × Listened)) → find nat_cmp id es ≡ Some l → Contains (positions_of l.loaded) o
     → Contains (flat_map (λ (k : Listened). positions_of k.loaded) (map (λ (e : ℕ × Listened). e.1) es)) o

@@ -26,6 +26,7 @@ use Rattle.fs_listen.specs.Told.{Views, gone_from, having, is_differing, leaving
 use Rattle.fs_listen.specs.Versions.{version_in, versions_told}
 use Rattle.fs_listen.specs.declared.cut.Cut.{Cut}
 use Rattle.fs_listen.specs.declared.cut.Cut.TheVariants.{At, Loading, NoTarget}
+use Rattle.fs_listen.proofs.All.{all_append}
 use Rattle.fs_listen.proofs.Bounds.{from_first}
 use Rattle.fs_listen.proofs.Events.{IsTold, all_keep, all_there, at_more}
 use Rattle.fs_listen.proofs.Names.{shown_there}
@@ -33,10 +34,6 @@ use Rattle.fs_listen.proofs.Sending.{all_later}
 use Rattle.fs_listen.proofs.UpdateTimes.{version_at, versions_rise}
 
 -- ---- lists of times
-
-both_all : (P : ℤ → Type 0) (ts us : List ℤ) → AllByRecursion P ts → AllByRecursion P us → AllByRecursion P (ts ++ us)
-both_all P [] us first second = second
-both_all P (t ∷ ts) us first second = (first.0, both_all P ts us first.1 second)
 
 all_same : (ts : List ℤ) (v : ℤ) → AllByRecursion (λ u. u ≡ v) ts → AllByRecursion (λ u. u ≤ℤ v) ts
 all_same [] v are = tt
@@ -53,7 +50,7 @@ one_time_falls v (t ∷ ts) are = (above_one t v ts (subst (λ x. x ≤ℤ v) (s
 -- times up to one, and then that one
 then_falls : (v : ℤ) (ts us : List ℤ) → NeverFalls ts → AllByRecursion (λ t. t ≤ℤ v) ts → AllByRecursion (λ t. t ≡ v) us → NeverFalls (ts ++ us)
 then_falls v [] us falls by are = one_time_falls v us are
-then_falls v (t ∷ ts) us falls by are = (both_all (λ u. t ≤ℤ u) ts us falls.0 (above_one t v us by.0 are), then_falls v ts us falls.1 by.1 are)
+then_falls v (t ∷ ts) us falls by are = (all_append (λ u. t ≤ℤ u) ts us falls.0 (above_one t v us by.0 are), then_falls v ts us falls.1 by.1 are)
 
 -- ---- what a raise tells of a name is of its version then
 
@@ -103,7 +100,7 @@ module _ (name : DocName) (docs : Docs) (time : ℤ) (named : AreNamed docs) whe
     all_told [] = tt
     all_told (n ∷ ns) =
         subst AreOf (sym (filter_map-append (version_in name) (told_of (is_some (get docs n)) time n (shown_in n vs) vs) (flat_map (λ other. told_of (is_some (get docs other)) time other (shown_in other vs) vs) ns)))
-        (both_all (λ t. t ≡ version_at time (get docs name)) (versions_told name (told_of (is_some (get docs n)) time n (shown_in n vs) vs)) _ (told_one n (shown_in n vs) refl) (all_told ns))
+        (all_append (λ t. t ≡ version_at time (get docs name)) (versions_told name (told_of (is_some (get docs n)) time n (shown_in n vs) vs)) _ (told_one n (shown_in n vs) refl) (all_told ns))
 
     current_none : (ids : List ℕ) → versions_told name (current_from time ids) ≡ []
     current_none [] = refl
@@ -164,7 +161,7 @@ module _ (own_names : (h : List Batch) (t : ℤ) → AreNamed (at h t)) (shards 
       record {
         falls = subst NeverFalls (sym both) (then_falls (version_at time (get (at w.history time) name)) (versions_told name w.said) new is.falls by are);
         before = subst (AllByRecursion (λ t. t ≤ℤ version_at time (get (at w.history time) name))) (sym both)
-            (both_all (λ t. t ≤ℤ version_at time (get (at w.history time) name)) (versions_told name w.said) new by (all_same new (version_at time (get (at w.history time) name)) are));
+            (all_append (λ t. t ≤ℤ version_at time (get (at w.history time) name)) (versions_told name w.said) new by (all_same new (version_at time (get (at w.history time) name)) are));
       }
 
   raising_rises : (w : World) (to : Cut) (ready : Bool) → is_ready_at w.listening to ≡ ready → IsRising w.history → AreRising name w → AreRising name (raising_at ready to w)

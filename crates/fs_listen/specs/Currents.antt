@@ -1,19 +1,24 @@
--- How often a session was told that a target is current, since the target was last added.
+-- How often a session was told that a target is current, since the target was last added: as often as CURRENT named it.
 --
---     told                    of target 1
---     ADD 1                   0
---     CURRENT 1 at 4          1
---     NO_CHANGE at 4          1
---     REMOVE 1, then ADD 1    0
-use Rattle.std.specs.Prelude.{ℕ, ◌+◌, List, [], ◌∷◌, if◌then◌else◌}
+--     told                     of target 1
+--     ADD 1                    0
+--     CURRENT 1 and 2 at 4     1
+--     NO_CHANGE at 4           1
+--     REMOVE 1, then ADD 1     0
+use Rattle.std.specs.Prelude.{ℕ, ◌+◌, ◌==◌, List, [], ◌∷◌, if◌then◌else◌}
 use Rattle.fs_query.specs.declared.listen.ListenMessage.{ListenMessage}
 use Rattle.fs_query.specs.declared.listen.ListenMessage.TheVariants as message
 use Rattle.fs_listen.specs.Gathered.{is_in}
 
+-- how often a number is among some
+abbrev pub count_in : ℕ → List ℕ → ℕ
+count_in id [] = 0
+count_in id (k ∷ ids) = (if id == k then 1 else 0) + count_in id ids
+
 -- with one message more
 abbrev pub currents_with : ℕ → ListenMessage → ℕ → ℕ
 currents_with id (message.Add ids) n = if is_in id ids then 0 else n
-currents_with id (message.Current ids time token) n = if is_in id ids then n + 1 else n
+currents_with id (message.Current ids time token) n = n + count_in id ids
 currents_with id (message.Remove ids cause) n = n
 currents_with id (message.Reset ids) n = n
 currents_with id (message.NoChange time token) n = n

@@ -71,8 +71,8 @@ IsFromLoad l = AllByRecursion (λ o. IfSome o (λ position. l.time ≤ℤ positi
 
 -- ---- runs
 
--- at every point of a run a session was told just the views that were sent of its targets: that of the last raise; of a target that is
--- new, what its token resumes, and nothing once it was reset
+-- At every point of a run a session was told just the views that were sent of its targets. That is the view of the last raise; of a target
+-- that is new it is what its token resumes, and nothing once it was reset.
 abbrev pub AlwaysTold : Type 0
 AlwaysTold = (shards : ℕ) (h : List Batch) (released floor : ℤ) (es : List Event) → MayAll shards es (begun h released floor)
     → AreTold (after_all shards es (begun h released floor)).history (after_all shards es (begun h released floor)).listening

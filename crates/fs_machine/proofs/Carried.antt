@@ -505,7 +505,7 @@ pub retried_ids : (m : Machine) (place : ℕ) (found : Option ParkedRequest) →
 retried_ids m place None = refl
 retried_ids m place (Some r) = ap (λ (x : Machine). x.numbers.ids) (tried_rest m place r (retry_decision m r.session r.envelope.request))
 
-later_number : (id ids n : ℕ) → id ≤ ids → n ≡ ids + 1 → counted id n ≡ 0
+pub later_number : (id ids n : ℕ) → id ≤ ids → n ≡ ids + 1 → counted id n ≡ 0
 later_number id ids n within is = grind (arith, nat_tests)
 
 drawn_by : (m : Machine) (r : ParkedRequest) (id : ℕ) (b : Bool) → draws r.envelope.request ≡ b → r.id ≡ number_of m.numbers.ids r.envelope.request → id ≤ m.numbers.ids → more_by id r.id b ≡ 0

@@ -1,7 +1,6 @@
 -- An event adds no more to what was committed, or may be, than it asks for.
-use Rattle.std.proofs.Common.{◌≡◌, inl, inr, ℕ, ℤ, ◌+◌, ◌≤◌, Bool, true, false, cond, List, [], ◌∷◌, ◌++◌, Option, Some, None, Result, Ok, Err, length, refl, sym, ap, ◌∙◌, arith, eq-eqb}
+use Rattle.std.proofs.Common.{◌≡◌, inl, inr, ℕ, ℤ, ◌+◌, ◌≤◌, Bool, true, false, cond, List, [], ◌∷◌, Option, Some, None, Result, Ok, Err, length, refl, sym, ap, ◌∙◌, arith, eq-eqb}
 use Rattle.std.specs.Prelude.{pos, negsuc, ◌&&◌, ◌==◌, not, remove, slice_get, unwrap_or}
-use Rattle.std.specs.List.{filter}
 use Rattle.std.proofs.lemmas.List.{length-append}
 use Rattle.fs_history.specs.declared.batch.Batch.{Batch}
 use Rattle.fs_path.specs.declared.name.Root.{Root}
@@ -34,7 +33,7 @@ use Rattle.fs_machine.specs.Settle.{accepted_in, decided_if, decided_with, dropp
 use Rattle.fs_machine.specs.State.{Machine}
 use Rattle.fs_machine.specs.Stream.{new_of, own_stream, take_of, taken_as, taker_of}
 use Rattle.fs_machine.specs.StreamLaws.{isnt_refused, sent_in, taken_of}
-use Rattle.fs_machine.specs.StreamsHold.{is_for, one_if, tally}
+use Rattle.fs_machine.specs.StreamsHold.{one_if, tally}
 use Rattle.fs_machine.specs.declared.parked_request.ParkedRequest.{ParkedRequest}
 use Rattle.fs_machine.specs.declared.unreleased.Unreleased.{Unreleased}
 use Rattle.fs_machine.proofs.Carried.{AtMostPrepares, carried_follows, carried_rest}

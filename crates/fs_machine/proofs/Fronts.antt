@@ -19,7 +19,9 @@ use Rattle.fs_listen.specs.Sent.{current_from, new_targets, sent}
 use Rattle.fs_listen.specs.Told.{Views, told}
 use Rattle.fs_listen.specs.declared.cut.Cut.{Cut}
 use Rattle.fs_listen.specs.declared.cut.Cut.TheVariants.{At, Loading, NoTarget}
+use Rattle.fs_listen.proofs.All.{all_append}
 use Rattle.fs_listen.proofs.OfDocuments.{AreOfDocuments, is_of_document, told_of_documents}
+use Rattle.fs_listen.proofs.Sending.{ended_with}
 use Rattle.fs_machine.specs.Event.{Event, after, step}
 use Rattle.fs_machine.specs.Facts.{Facts}
 use Rattle.fs_machine.specs.FrontLaws.{ConsistentAtEachRaise, RaisesEndWhatIsTold, ToldGoesOn}
@@ -48,10 +50,6 @@ told_goes_on m (e ∷ es) more session =
 
 abbrev NoRaise : List ListenMessage → Type 0
 NoRaise ms = AllByRecursion (λ m. raise_in m ≡ None) ms
-
-both_none : (ms ns : List ListenMessage) → NoRaise ms → NoRaise ns → NoRaise (ms ++ ns)
-both_none [] ns first second = second
-both_none (m ∷ ms) ns first second = (first.0, both_none ms ns first.1 second)
 
 answer_none : (m : ListenMessage) → adds_or_removes m ≡ true → raise_in m ≡ None
 answer_none (listen.Add ids) is = refl
@@ -122,7 +120,7 @@ sent_last : (stands : DocName → Bool) (at : ℤ) (s : Listening) (vs : List Vi
     → sent stands at s vs ≡ front ++ listen.NoChange time token ∷ rest → rest ≡ []
 sent_last stands at s vs front rest time token is =
     only_last (told stands at vs ++ current_from at (new_targets s)) front rest (listen.NoChange at (token_of at)) time token
-    (both_none (told stands at vs) (current_from at (new_targets s)) (documents_none (told stands at vs) (told_of_documents stands at vs)) (current_none at (new_targets s)))
+    (all_append (λ m. raise_in m ≡ None) (told stands at vs) (current_from at (new_targets s)) (documents_none (told stands at vs) (told_of_documents stands at vs)) (current_none at (new_targets s)))
     (append_assoc (told stands at vs) (current_from at (new_targets s)) (listen.NoChange at (token_of at) ∷ []) ∙ is)
 
 module _ (m : Machine) (front rest : List ListenMessage) (time : ℤ) (token : List ℕ) where
@@ -260,11 +258,6 @@ led_to m (e ∷ es) k front rest time token facts is =
               ∙ ap (λ ms. ms ++ listen.NoChange time token ∷ []) (sym first);
         }
 
-ends_with : (front : List ListenMessage) (m : ListenMessage) → ended_at (front ++ m ∷ []) ≡ raise_in m
-ends_with [] m = refl
-ends_with (n ∷ []) m = refl
-ends_with (n ∷ k ∷ front) m = ends_with (k ∷ front) m
-
 pub consistent_at_each : ConsistentCuts → ConsistentAtEachRaise
 consistent_at_each law config limits start events session front rest time token is =
     let m = started config limits start in
@@ -276,5 +269,5 @@ consistent_at_each law config limits start events session front rest time token 
       opened = leads.opened;
       told = leads.told;
       views = subst (λ said. IsOneTime (world_of (after m leads.earlier) session said) time) leads.told
-          (cuts_are_consistent law config limits start leads.earlier session time leads.opened (ap ended_at leads.told ∙ ends_with front (listen.NoChange time token)));
+          (cuts_are_consistent law config limits start leads.earlier session time leads.opened (ap ended_at leads.told ∙ ended_with front (listen.NoChange time token)));
     }

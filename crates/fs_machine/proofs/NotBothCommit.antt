@@ -1,9 +1,8 @@
 -- Of two transactions that are open at once, each of which writes what the other has read, not both are committed.
-use Rattle.std.proofs.Common.{◌≡◌, ◌⊎◌, inl, inr, ℕ, ℤ, ◌≤ℤ◌, ◌<ℤ◌, ◌<◌, ◌≤◌, Bool, true, false, cond, List, [], ◌∷◌, ◌++◌, Option, Some, None, Result, Ok, Err, refl, sym, ap, ◌∙◌, subst, arith}
+use Rattle.std.proofs.Common.{◌≡◌, ◌⊎◌, inl, inr, ℕ, ℤ, ◌≤ℤ◌, ◌<ℤ◌, ◌≤◌, Bool, true, false, cond, List, [], ◌∷◌, ◌++◌, Option, Some, None, Result, Ok, Err, refl, sym, ap, ◌∙◌, subst, arith}
 use Rattle.std.specs.Prelude.{◌+◌, ◌&&◌, ◌==◌, pos, negsuc, int_lt, not, slice_get, unwrap_or}
 use Rattle.std.specs.List.{AllByRecursion, Contains, filter}
-use Rattle.std.proofs.lemmas.Bool.{and_from, eqb-true, or_left}
-use Rattle.std.proofs.lemmas.Bool.Decides.{nat_tests}
+use Rattle.std.proofs.lemmas.Bool.{and_from, eqb-false, eqb-true, or_left}
 use Rattle.std.proofs.lemmas.Int.{ints}
 use Rattle.std.proofs.lemmas.List.Elements.{All-contains, All-contains_itself, All-from_recursion, All-weaker, Contains-append_left, Contains-append_right, Contains-push_cases, recursion_from_All}
 use Rattle.std.proofs.lemmas.List.Folds.{list_any-append}
@@ -19,7 +18,7 @@ use Rattle.fs_request.specs.declared.when.When.{When}
 use Rattle.fs_request.specs.declared.when.When.TheVariants.{Released, At, In}
 use Rattle.fs_status.specs.declared.refusal.Refusal.{Refusal}
 use Rattle.fs_txn.specs.Expiry.{is_over}
-use Rattle.fs_txn.specs.Transactions.{Transactions, all_noted, is_read_write, noted, txn_of, with_read}
+use Rattle.fs_txn.specs.Transactions.{Transactions, all_noted, is_read_write, noted, txn_of}
 use Rattle.fs_txn.specs.declared.txn.Txn.{Txn}
 use Rattle.fs_write.specs.Batch.{Docs}
 use Rattle.fs_write.specs.declared.write.Write.{Write}
@@ -55,11 +54,12 @@ use Rattle.fs_machine.proofs.Holding.{Holds}
 use Rattle.fs_machine.proofs.IdsAreDrawn.{open_ended, parked_less}
 use Rattle.fs_machine.proofs.Listening.{loaded_rest, raised_rest}
 use Rattle.fs_machine.proofs.Moved.{moved}
-use Rattle.fs_machine.proofs.OldNumbers.{IsOld, stays_old}
+use Rattle.fs_machine.proofs.OldNumbers.{IsOld, counted_own, not_counted, stays_old}
 use Rattle.fs_machine.proofs.Pending.{same_batches}
+use Rattle.fs_machine.proofs.Refused.{was_drawn}
 use Rattle.fs_machine.proofs.Runs.{keeps}
 use Rattle.fs_machine.proofs.Streaming.{arrived_number, streamed_rest, taken_rest}
-use Rattle.fs_machine.proofs.TransactionsHold.{all_changed, all_left, all_open, all_put, none_passes, noted_keeps}
+use Rattle.fs_machine.proofs.TransactionsHold.{all_changed, all_left, all_open, all_put, each, none_passes, noted_keeps, with_noted}
 use Rattle.fs_machine.proofs.UnreleasedRise.{rise_within}
 
 -- ---- what is committed, after an event
@@ -124,23 +124,19 @@ IsApart Pessimistic b time rs = some_touched b.writes rs ≡ false
 IsApart Optimistic b time rs = time <ℤ b.time
 
 -- one that had made these reads, where another is committed meanwhile, if it is
-record GoesOn (mode : Mode) (p : Past) (rs : List Read) (other : ℕ) (v : Txn) : Type 0 where
+record StaysApart (mode : Mode) (p : Past) (rs : List Read) (other : ℕ) (v : Txn) : Type 0 where
   kind : is_read_write v.kind ≡ true
   grown : (ws : List Write) → some_touched ws rs ≡ true → some_touched ws v.reads ≡ true
   apart : (b : Batch) → IsCommitted p b → b.id ≡ other → IsApart mode b v.read_time rs
 
 abbrev Keeps : Mode → Past → ℕ → List Read → ℕ → Txn → Type 0
-Keeps mode p id rs other v = v.id ≡ id → GoesOn mode p rs other v
+Keeps mode p id rs other v = v.id ≡ id → StaysApart mode p rs other v
 
-goes_later : (mode : Mode) (p q : Past) (rs : List Read) (other : ℕ) (v : Txn) → NoMore p q other → GoesOn mode p rs other v → GoesOn mode q rs other v
-goes_later mode p q rs other v less on = record { kind = on.kind; grown = on.grown; apart = λ b at is. on.apart b (less b at is) is }
-
-each : (P Q : Txn → Type 0) (ts : List Txn) → ((t : Txn) → P t → Q t) → AllByRecursion P ts → AllByRecursion Q ts
-each P Q [] f all = tt
-each P Q (t ∷ ts) f all = (f t all.0, each P Q ts f all.1)
+apart_on_later : (mode : Mode) (p q : Past) (rs : List Read) (other : ℕ) (v : Txn) → NoMore p q other → StaysApart mode p rs other v → StaysApart mode q rs other v
+apart_on_later mode p q rs other v less on = record { kind = on.kind; grown = on.grown; apart = λ b at is. on.apart b (less b at is) is }
 
 keep_later : (mode : Mode) (p q : Past) (id : ℕ) (rs : List Read) (other : ℕ) (ts : List Txn) → NoMore p q other → AllByRecursion (Keeps mode p id rs other) ts → AllByRecursion (Keeps mode q id rs other) ts
-keep_later mode p q id rs other ts less all = each (Keeps mode p id rs other) (Keeps mode q id rs other) ts (λ v keeps is. goes_later mode p q rs other v less (keeps is)) all
+keep_later mode p q id rs other ts less all = each (Keeps mode p id rs other) (Keeps mode q id rs other) ts (λ v keeps is. apart_on_later mode p q rs other v less (keeps is)) all
 
 -- it reads more
 more_touched : (ws : List Write) (rs : List Read) (r : Read) → some_touched ws rs ≡ true → some_touched ws (rs ++ r ∷ []) ≡ true
@@ -151,11 +147,8 @@ with_more : (ws : List Write) (r : Read) (now : ℤ) (v : Txn) (b : Bool) → so
 with_more ws r now v true is = more_touched ws v.reads r is
 with_more ws r now v false is = is
 
-abbrev with_noted : Read → ℤ → Txn → Txn
-with_noted r now v = record (with_read r v) { used = now }
-
-goes_noted : (mode : Mode) (p : Past) (rs : List Read) (other : ℕ) (v : Txn) (r : Read) (now : ℤ) → GoesOn mode p rs other v → GoesOn mode p rs other (with_noted r now v)
-goes_noted mode p rs other v r now on =
+apart_on_noted : (mode : Mode) (p : Past) (rs : List Read) (other : ℕ) (v : Txn) (r : Read) (now : ℤ) → StaysApart mode p rs other v → StaysApart mode p rs other (with_noted r now v)
+apart_on_noted mode p rs other v r now on =
     let same = noted_keeps r now v in
     record {
       kind = ap is_read_write same.0 ∙ on.kind;
@@ -168,15 +161,12 @@ module _ (mode : Mode) (p : Past) (id : ℕ) (rs : List Read) (other : ℕ) wher
   keep_used v now keeps is = let on = keeps is in record { kind = on.kind; grown = on.grown; apart = on.apart }
 
   keep_noted : (v : Txn) (r : Read) (now : ℤ) → Keeps mode p id rs other v → Keeps mode p id rs other (with_noted r now v)
-  keep_noted v r now keeps is = goes_noted mode p rs other v r now (keeps (sym (noted_keeps r now v).2 ∙ is))
+  keep_noted v r now keeps is = apart_on_noted mode p rs other v r now (keeps (sym (noted_keeps r now v).2 ∙ is))
 
   keep_all_noted : (ts : Transactions) (of : ℕ) (reads : List Read) (now : ℤ) → AllByRecursion (Keeps mode p id rs other) ts.open → AllByRecursion (Keeps mode p id rs other) (all_noted ts of reads now).open
   keep_all_noted ts of [] now all = all_changed (Keeps mode p id rs other) (λ v. record v { used = now }) ts.open of (λ v found keeps. keep_used v now keeps) all
   keep_all_noted ts of (r ∷ reads) now all =
       keep_all_noted (noted ts of r now) of reads now (all_changed (Keeps mode p id rs other) (with_noted r now) ts.open of (λ v found keeps. keep_noted v r now keeps) all)
-
-isnt_it : (n k : ℕ) → (n == k) ≡ false → n ≡ k → ⊥
-isnt_it n k is same = grind (arith, nat_tests)
 
 -- ---- both of them
 
@@ -210,22 +200,22 @@ isnt_touched : (ws : List Write) (w : Txn) (rs : List Read) (b : Bool) → some_
 isnt_touched ws w rs true is writes grown none = sym (and_from (is_read_write w.kind) (some_touched ws w.reads) writes (grown is)) ∙ none
 isnt_touched ws w rs false is writes grown none = refl
 
-left_apart : (mode : Mode) (p : Past) (u : Unreleased) (rs : List Read) (other : ℕ) (w : Txn) → u.batch.time ≡ next_time p → IsLeft mode p.last u.batch.writes w → GoesOn mode p rs other w → IsApart mode u.batch w.read_time rs
+left_apart : (mode : Mode) (p : Past) (u : Unreleased) (rs : List Read) (other : ℕ) (w : Txn) → u.batch.time ≡ next_time p → IsLeft mode p.last u.batch.writes w → StaysApart mode p rs other w → IsApart mode u.batch w.read_time rs
 left_apart Pessimistic p u rs other w at left on = isnt_touched u.batch.writes w rs (some_touched u.batch.writes rs) refl on.kind (on.grown u.batch.writes) left
 left_apart Optimistic p u rs other w at left on = omega (arith, ints, at, left)
 
-past_apart : (mode : Mode) (p : Past) (u : Unreleased) (rs : List Read) (other : ℕ) (w : Txn) (b : Batch) → u.batch.time ≡ next_time p → IsLeft mode p.last u.batch.writes w → GoesOn mode p rs other w → b.id ≡ other
+past_apart : (mode : Mode) (p : Past) (u : Unreleased) (rs : List Read) (other : ℕ) (w : Txn) (b : Batch) → u.batch.time ≡ next_time p → IsLeft mode p.last u.batch.writes w → StaysApart mode p rs other w → b.id ≡ other
     → IsCommitted p b ⊎ (u.batch ≡ b) → IsApart mode b w.read_time rs
 past_apart mode p u rs other w b at left on is (inl there) = on.apart b there is
 past_apart mode p u rs other w b at left on is (inr same) = subst (λ (x : Batch). IsApart mode x w.read_time rs) same (left_apart mode p u rs other w at left on)
 
-goes_past : (mode : Mode) (p : Past) (u : Unreleased) (rs : List Read) (other : ℕ) (w : Txn) → u.batch.time ≡ next_time p → IsLeft mode p.last u.batch.writes w → GoesOn mode p rs other w → GoesOn mode (past_prepared p u) rs other w
-goes_past mode p u rs other w at left on = record { kind = on.kind; grown = on.grown; apart = λ b there is. past_apart mode p u rs other w b at left on is (prepared_is p u b there) }
+apart_on_past : (mode : Mode) (p : Past) (u : Unreleased) (rs : List Read) (other : ℕ) (w : Txn) → u.batch.time ≡ next_time p → IsLeft mode p.last u.batch.writes w → StaysApart mode p rs other w → StaysApart mode (past_prepared p u) rs other w
+apart_on_past mode p u rs other w at left on = record { kind = on.kind; grown = on.grown; apart = λ b there is. past_apart mode p u rs other w b at left on is (prepared_is p u b there) }
 
 keep_past : (mode : Mode) (p : Past) (u : Unreleased) (id : ℕ) (rs : List Read) (other : ℕ) (ts : List Txn) → u.batch.time ≡ next_time p → AllByRecursion (IsLeft mode p.last u.batch.writes) ts
     → AllByRecursion (Keeps mode p id rs other) ts → AllByRecursion (Keeps mode (past_prepared p u) id rs other) ts
 keep_past mode p u id rs other [] at left all = tt
-keep_past mode p u id rs other (w ∷ ts) at left all = (λ is. goes_past mode p u rs other w at left.0 (all.0 is), keep_past mode p u id rs other ts at left.1 all.1)
+keep_past mode p u id rs other (w ∷ ts) at left all = (λ is. apart_on_past mode p u rs other w at left.0 (all.0 is), keep_past mode p u id rs other ts at left.1 all.1)
 
 read_by : (mode : Mode) (p : Past) (ts : List Txn) → UnreleasedRise p → TransactionsHold mode p ts → AllByRecursion (λ (w : Txn). w.read_time ≤ℤ p.last) ts
 read_by mode p [] rises holds = tt
@@ -246,7 +236,7 @@ later_touched : (time : ℤ) (b : Batch) (x : Bool) → time <ℤ b.time → x �
 later_touched time b x later is none = grind (arith, ints)
 
 -- it would have been in conflict with the other's
-own_conflict : (mode : Mode) (p : Past) (ts : List Txn) (v : Txn) (ws : List Write) (rs : List Read) (other : ℕ) (b : Batch) → conflict mode p ts v ws ≡ None → GoesOn mode p rs other v → IsCommitted p b → b.id ≡ other
+own_conflict : (mode : Mode) (p : Past) (ts : List Txn) (v : Txn) (ws : List Write) (rs : List Read) (other : ℕ) (b : Batch) → conflict mode p ts v ws ≡ None → StaysApart mode p rs other v → IsCommitted p b → b.id ≡ other
     → some_touched b.writes rs ≡ true → ⊥
 own_conflict Pessimistic p ts v ws rs other b free on at is touches = let apart = on.apart b at is in absurd (cc)
 own_conflict Optimistic p ts v ws rs other b free on at is touches =
@@ -289,19 +279,13 @@ module _ (mode : Mode) (p : Past) (ts : List Txn) (v : Txn) (u : Unreleased) (fr
         apart_swapped mode (past_prepared p u) (others v.id ts) b rb a ra (commits_if b rb a ra (λ same. other (sym same)) (apart_swapped mode p ts a ra b rb has) (eqb-true v.id b is))
     by_second false is isnt =
         apart_left mode (past_prepared p u) ts a ra b rb (λ w. not (w.id == v.id))
-        (apart_later mode p (past_prepared p u) ts a ra b rb (prepared_no_more p u a (λ same. isnt (sym id ∙ same))) (prepared_no_more p u b (λ same. isnt_it v.id b is (sym id ∙ same))) has)
+        (apart_later mode p (past_prepared p u) ts a ra b rb (prepared_no_more p u a (λ same. isnt (sym id ∙ same))) (prepared_no_more p u b (λ same. eqb-false v.id b is (sym id ∙ same))) has)
 
     by_first : (c : Bool) → (v.id == a) ≡ c → AreApart mode (past_prepared p u) (others v.id ts) a ra b rb
     by_first true is = commits_if a ra b rb other has (eqb-true v.id a is)
-    by_first false is = by_second (v.id == b) refl (λ same. isnt_it v.id a is same)
+    by_first false is = by_second (v.id == b) refl (λ same. eqb-false v.id a is same)
 
 -- ---- events
-
-counted_own : (id n : ℕ) → n ≡ id → counted id n ≡ 1
-counted_own id n is = grind (arith, nat_tests)
-
-not_counted : (id n : ℕ) → counted id n ≡ 0 → n ≡ id → ⊥
-not_counted id n none is = let one = counted_own id n is in omega (arith, one, none)
 
 module _ (a : ℕ) (ra : List Read) (b : ℕ) (rb : List Read) (other : a ≡ b → ⊥) where
   abbrev Apart : Machine → Type 0
@@ -451,7 +435,7 @@ none_open (v ∷ ts) id t none = (λ is. absurd (not_counted id v.id (omega (ari
 one_next : (v : Txn) (ts : List Txn) (id : ℕ) (t : Txn) (c : Bool) → (v.id == id) ≡ c → cond c (Some v) (txn_of id ts) ≡ Some t → counted id v.id + times_open id ts ≤ 1
     → (txn_of id ts ≡ Some t → times_open id ts ≤ 1 → AllByRecursion (λ (x : Txn). x.id ≡ id → x ≡ t) ts) → (v.id ≡ id → v ≡ t) × AllByRecursion (λ (x : Txn). x.id ≡ id → x ≡ t) ts
 one_next v ts id t true is found few more = let one = counted_own id v.id (eqb-true v.id id is) in (λ same. same_Some v t found, none_open ts id t (omega (arith, one, few)))
-one_next v ts id t false is found few more = (λ same. absurd (isnt_it v.id id is same), more found (omega (arith, few)))
+one_next v ts id t false is found few more = (λ same. absurd (eqb-false v.id id is same), more found (omega (arith, few)))
 
 -- no other open one has its number
 one_open : (ts : List Txn) (id : ℕ) (t : Txn) → txn_of id ts ≡ Some t → times_open id ts ≤ 1 → AllByRecursion (λ (v : Txn). v.id ≡ id → v ≡ t) ts
@@ -467,9 +451,6 @@ some_open ts id t found =
 no_batch : (bs : List Batch) (id : ℕ) → times_in id bs ≡ 0 → AllByRecursion (λ (x : Batch). x.id ≡ id → ⊥) bs
 no_batch [] id none = tt
 no_batch (x ∷ bs) id none = (λ is. not_counted id x.id (omega (arith, none)) is, no_batch bs id (omega (arith, none)))
-
-was_drawn : (id ids n : ℕ) → 1 ≤ n → (ids < id → n ≡ 0) → id ≤ ids
-was_drawn id ids n some above = grind (arith, above)
 
 module _ (m : Machine) (facts : Facts m) (id : ℕ) (t : Txn) (found : txn_of id m.txns.open ≡ Some t) where
   there : 1 ≤ times_open id m.txns.open
@@ -493,8 +474,8 @@ module _ (m : Machine) (facts : Facts m) (id : ℕ) (t : Txn) (found : txn_of id
 
 open_keeps : (m : Machine) (facts : Facts m) (a b : ℕ) (t u : Txn) → IsOpenReadWrite m a t → IsOpenReadWrite m b u → AllByRecursion (Keeps m.config.mode m.past a t.reads b) m.txns.open
 open_keeps m facts a b t u first second =
-    let on : GoesOn m.config.mode m.past t.reads b t = record { kind = first.kind; grown = λ ws is. is; apart = λ x at is. absurd (no_commit m facts b u second.found x at is) } in
-    each (λ (v : Txn). v.id ≡ a → v ≡ t) (Keeps m.config.mode m.past a t.reads b) m.txns.open (λ v same is. subst (GoesOn m.config.mode m.past t.reads b) (sym (same is)) on)
+    let on : StaysApart m.config.mode m.past t.reads b t = record { kind = first.kind; grown = λ ws is. is; apart = λ x at is. absurd (no_commit m facts b u second.found x at is) } in
+    each (λ (v : Txn). v.id ≡ a → v ≡ t) (Keeps m.config.mode m.past a t.reads b) m.txns.open (λ v same is. subst (StaysApart m.config.mode m.past t.reads b) (sym (same is)) on)
     (only_open m facts a t first.found)
 
 pub not_both_commit : NotBothCommit

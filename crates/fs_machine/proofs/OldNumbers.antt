@@ -17,7 +17,7 @@ use Rattle.fs_machine.specs.Settle.{decided_if, decided_with, outcome_of, pendin
 use Rattle.fs_machine.specs.State.{Machine}
 use Rattle.fs_machine.specs.declared.parked_request.ParkedRequest.{ParkedRequest}
 use Rattle.fs_machine.specs.declared.unreleased.Unreleased.{Unreleased}
-use Rattle.fs_machine.proofs.Carried.{asked_ids, carried_rest, retried_ids}
+use Rattle.fs_machine.proofs.Carried.{asked_ids, carried_rest, later_number, retried_ids}
 use Rattle.fs_machine.proofs.IdsAreDrawn.{fewer_departed, parked_less, parked_more}
 use Rattle.fs_machine.proofs.Listening.{loaded_rest, raised_rest}
 use Rattle.fs_machine.proofs.Streaming.{arrived_number, taken_rest}
@@ -26,8 +26,11 @@ use Rattle.fs_machine.proofs.Streaming.{arrived_number, taken_rest}
 abbrev pub IsOld : ℕ → Machine → Type 0
 IsOld id m = (times_parked id m.parked ≡ 0) × (id ≤ m.numbers.ids)
 
-later_number : (id ids n : ℕ) → id ≤ ids → n ≡ ids + 1 → counted id n ≡ 0
-later_number id ids n within is = grind (arith, nat_tests)
+pub counted_own : (id n : ℕ) → n ≡ id → counted id n ≡ 1
+counted_own id n is = grind (arith, nat_tests)
+
+pub not_counted : (id n : ℕ) → counted id n ≡ 0 → n ≡ id → ⊥
+not_counted id n none is = let one = counted_own id n is in omega (arith, one, none)
 
 -- what one that comes has drawn is later
 own_later : (id ids : ℕ) (r : ParkedRequest) (transaction : Option ℕ) → r.id ≡ unwrap_or transaction (ids + 1) → id ≤ ids → own_count id r transaction ≡ 0

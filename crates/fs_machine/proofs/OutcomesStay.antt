@@ -69,7 +69,7 @@ more_next : (v : Unreleased) (us : List Unreleased) (w : Unreleased) (id : ℕ) 
 more_next v us w id u true is more = is
 more_next v us w id u false is more = more is
 
-found_more : (us : List Unreleased) (w : Unreleased) (id : ℕ) (u : Unreleased) → pending_in id us ≡ Some u → pending_in id (us ++ w ∷ []) ≡ Some u
+pub found_more : (us : List Unreleased) (w : Unreleased) (id : ℕ) (u : Unreleased) → pending_in id us ≡ Some u → pending_in id (us ++ w ∷ []) ≡ Some u
 found_more [] w id u is = absurd (cc)
 found_more (v ∷ us) w id u is = more_next v us w id u (is_it id v) is (found_more us w id u)
 

@@ -1,43 +1,49 @@
 -- A request that is answered by a number and a time has left the pending commit of that number, behind all others.
-use Rattle.std.proofs.Common.{◌≡◌, ℕ, ℤ, ◌≤◌, Bool, true, false, cond, List, [], ◌∷◌, ◌++◌, Option, Some, None, refl, sym, ap, ◌∙◌, subst, arith}
-use Rattle.std.specs.Prelude.{◌+◌, ◌==◌, codes, is_none, pos, length, nat_le, remove}
-use Rattle.std.proofs.lemmas.Bool.{and_from, eq-eqb}
-use Rattle.fs_request.specs.declared.message.Message.TheVariants as message
-use Rattle.fs_request.specs.declared.request.Request.{Request}
-use Rattle.fs_request.specs.declared.request.Request.TheVariants.{Commit, GetDocument, BatchGetDocuments, RunQuery, BeginTransaction, Rollback, AddTarget, RemoveTarget}
-use Rattle.fs_request.specs.declared.request.Request.TheVariants as request
-use Rattle.fs_request.specs.declared.stream_request.StreamRequest.{StreamRequest}
-use Rattle.fs_request.specs.declared.stream_request.StreamRequest.TheVariants.{Open, Resume, Batch, Ask, Mixed}
+use Rattle.std.proofs.Common.{◌≡◌, ℕ, ℤ, ◌≤◌, Bool, true, false, cond, List, [], ◌∷◌, ◌++◌, Option, Some, None, refl, sym, ap, ◌∙◌, subst, arith, inl, inr, Result, Ok, Err}
+use Rattle.std.specs.Prelude.{◌+◌, ◌==◌, codes, is_none, pos, length, nat_le, remove, slice_get}
+use Rattle.std.proofs.lemmas.Bool.{and_from, eq-eqb, eqb-true}
 use Rattle.fs_path.specs.declared.name.Root.{Root}
+use Rattle.fs_request.specs.declared.message.Message.TheVariants as message
+use Rattle.fs_request.specs.declared.request.Request.TheVariants as request
+use Rattle.fs_request.specs.declared.request.Request.TheVariants.{Commit, GetDocument, BatchGetDocuments, RunQuery, BeginTransaction, Rollback, AddTarget, RemoveTarget}
+use Rattle.fs_request.specs.declared.request.Request.{Request}
+use Rattle.fs_request.specs.declared.stream_request.StreamRequest.TheVariants.{Open, Resume, Batch, Ask, Mixed}
+use Rattle.fs_request.specs.declared.stream_request.StreamRequest.{StreamRequest}
 use Rattle.fs_status.specs.Refusal.{at_limit}
 use Rattle.fs_status.specs.declared.refusal.Refusal.{Refusal}
 use Rattle.fs_stream.specs.Streams.{Streams}
 use Rattle.fs_txn.specs.Transactions.{expired_of, is_read_write, txn_of}
 use Rattle.fs_txn.specs.declared.txn.Txn.{Txn}
+use Rattle.fs_write.specs.Batch.{Docs}
 use Rattle.fs_write.specs.declared.write.Write.{Write}
-use Rattle.fs_machine.specs.AnswersStand.{AskedIsPending, IsPendingIn, PreparedStands, RetriedIsPending, batch_in, writes_in}
+use Rattle.fs_write.specs.declared.write_result.WriteResult.{WriteResult}
+use Rattle.fs_machine.specs.AnswersStand.{AskedIsPending, IsPendingIn, PreparedStands, RetriedIsPending, StaysPending, batch_in, writes_in}
 use Rattle.fs_machine.specs.Commit.{committed_answer_in, committed_answer_unless, committed_in, committed_unless, next_commit, only_reads, unless_closed, writing_refusal}
 use Rattle.fs_machine.specs.Conflict.{conflict}
-use Rattle.fs_machine.specs.Event.{Event}
+use Rattle.fs_machine.specs.Event.{Event, step}
 use Rattle.fs_machine.specs.Facts.{Facts}
 use Rattle.fs_machine.specs.IdsAreDrawn.{counted, times_in}
 use Rattle.fs_machine.specs.Numbered.{draws}
+use Rattle.fs_machine.specs.Open.{is_full, with_session}
 use Rattle.fs_machine.specs.Past.{Past, batches}
 use Rattle.fs_machine.specs.Refusing.{next_time}
-use Rattle.fs_machine.specs.Request.{Decision, answer_by, answered_unless, arrival_refusal, arrived, asked, asked_unless, carried_by, check_refusal, comes, arrives, decided_answer, decision, held_by, numbered, refused_by, retry_refusal, taken_unless, unless_full, unless_held, unless_refused}
+use Rattle.fs_machine.specs.Request.{Decision, answer_by, answered_unless, arrival_refusal, arrived, arrives, asked, asked_unless, carried_by, check_refusal, comes, decided_answer, decision, held_by, numbered, refused_by, retry_refusal, taken_unless, unless_full, unless_held, unless_refused}
 use Rattle.fs_machine.specs.Retry.{retried, retried_if, retry_decision, tried}
-use Rattle.fs_machine.specs.Settle.{is_it, pending_in}
+use Rattle.fs_machine.specs.Settle.{decided_if, decided_with, is_it, outcome_of, pending_in, pending_of}
 use Rattle.fs_machine.specs.State.{Machine}
 use Rattle.fs_machine.specs.Stream.{as_commit, batch_commit, taken_as, taker}
 use Rattle.fs_machine.specs.Transact.{refusal_unless, with_ended}
-use Rattle.fs_machine.specs.declared.answer.Answer.{Answer}
 use Rattle.fs_machine.specs.declared.answer.Answer.TheVariants.{Reply, Prepared, Held, InProgress, Refused}
+use Rattle.fs_machine.specs.declared.answer.Answer.{Answer}
 use Rattle.fs_machine.specs.declared.numbers.Numbers.{Numbers}
 use Rattle.fs_machine.specs.declared.parked_request.ParkedRequest.{ParkedRequest}
 use Rattle.fs_machine.specs.declared.unreleased.Unreleased.{Unreleased}
+use Rattle.fs_machine.proofs.Carried.{AtMostPrepares, asked_follows, retried_follows}
 use Rattle.fs_machine.proofs.IdsAreDrawn.{in_more}
-use Rattle.fs_machine.proofs.Ordinary.{carried_told, isnt_pending, none_arrival, refused_told, IsNoAbort, is_commit}
-use Rattle.fs_machine.proofs.OutcomesStay.{it_is_one}
+use Rattle.fs_machine.proofs.Listening.{loaded_rest, raised_rest}
+use Rattle.fs_machine.proofs.Ordinary.{IsNoAbort, carried_told, is_commit, isnt_pending, none_arrival, refused_told}
+use Rattle.fs_machine.proofs.OutcomesStay.{found_accepted, found_dropped, found_more, it_is_one, pending_released}
+use Rattle.fs_machine.proofs.Pending.{number_found}
 use Rattle.fs_machine.proofs.Runs.{keeps}
 use Rattle.fs_machine.proofs.Streaming.{taken_rest}
 
@@ -231,5 +237,48 @@ retried_is_pending m facts place r id time here is =
     let there = subst (λ (x : Machine). Adds m.past x.past id time (writes_in r.envelope.request)) (sym same) adds in
     found_last m.past n.past id time (writes_in r.envelope.request) there (few_unreleased n (keeps m (Event.retrying place) facts))
 
+-- ---- until it is settled
+
+module _ (m : Machine) (id : ℕ) (u : Unreleased) (is : pending_of m.past id ≡ Some u) where
+  -- as it is then
+  abbrev IsStill : Machine → Type 0
+  IsStill n = pending_of n.past id ≡ Some u
+
+  follows_still : (q : Past) → AtMostPrepares m.past q → pending_of q id ≡ Some u
+  follows_still q (inl same) = ap (λ (p : Past). pending_of p id) same ∙ is
+  follows_still q (inr one) = ap (λ (p : Past). pending_of p id) one.1 ∙ found_more m.past.unreleased one.0 id u is
+
+  opened_still : (full : Bool) → IsStill (cond full m (with_session m))
+  opened_still true = is
+  opened_still false = is
+
+  decided_still : (c : Unreleased) (r : Result (Docs × List WriteResult) Refusal) (b : Bool) → (c.batch.id == id) ≡ b → (c.batch.id ≡ id → ⊥) → IsStill (decided_with m c r)
+  decided_still c r true same other = absurd (other (eqb-true c.batch.id id same))
+  decided_still c (Ok done) false apart other = found_accepted m.past.unreleased c.batch.id id done.1 apart ∙ is
+  decided_still c (Err refusal) false apart other = found_dropped m.past.unreleased c.batch.id id apart ∙ is
+
+  if_still : (of : ℕ) (found : Option Unreleased) → pending_of m.past of ≡ found → (of ≡ id → ⊥) → IsStill (decided_if m found)
+  if_still of None here other = is
+  if_still of (Some c) here other =
+      decided_still c (outcome_of m.past c) (c.batch.id == id) refl (λ same. other (sym (number_found m.past.unreleased of c here) ∙ same))
+
+  still : (e : Event) → Facts m → (e ≡ Event.deciding id → ⊥) → IsStill (step m e)
+  still Event.opening facts other = opened_still (is_full m)
+  still (Event.leaving session) facts other = is
+  still (Event.asking session e) facts other = follows_still (asked m session e).past (asked_follows m (arrived m session e) (arrival_refusal m session e.request))
+  still (Event.retrying place) facts other = follows_still (retried m place).past (retried_follows m place (slice_get m.parked place))
+  still (Event.deciding of) facts other = if_still of (pending_of m.past of) refl (λ same. other (ap Event.deciding same))
+  still (Event.advancing now) facts other = is
+  still Event.releasing facts other = pending_released m.past id facts.past.unreleased ∙ is
+  still (Event.compacting to) facts other = is
+  still (Event.loading session target at) facts other = ap (λ (n : Machine). pending_of n.past id) (loaded_rest m session target at) ∙ is
+  still (Event.matching shard to) facts other = is
+  still (Event.raising session) facts other = ap (λ (n : Machine). pending_of n.past id) (raised_rest m session) ∙ is
+  still (Event.taking session) facts other = is
+
+stays_pending : (m : Machine) → Facts m → StaysPending m
+stays_pending m facts id u [] is others = is
+stays_pending m facts id u (e ∷ es) is others = stays_pending (step m e) (keeps m e facts) id u es (still m id u is e facts others.0) others.1
+
 pub prepared_stands : PreparedStands
-prepared_stands m facts = (asked_is_pending m facts, retried_is_pending m facts)
+prepared_stands m facts = (asked_is_pending m facts, retried_is_pending m facts, stays_pending m facts)

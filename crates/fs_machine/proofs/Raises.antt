@@ -1,7 +1,6 @@
 -- When a session is raised, and what it is told then.
-use Rattle.std.proofs.Common.{◌≡◌, ℕ, ℤ, Bool, true, false, cond, List, [], ◌∷◌, ◌++◌, refl, sym, ap, ◌∙◌, arith}
+use Rattle.std.proofs.Common.{◌≡◌, ℕ, ℤ, Bool, true, false, cond, List, [], ◌∷◌, ◌++◌, refl, sym, ap, ◌∙◌}
 use Rattle.std.specs.Prelude.{not, ◌&&◌, ◌==◌}
-use Rattle.std.proofs.lemmas.Bool.Decides.{nat_tests}
 use Rattle.std.proofs.lemmas.List.{append_assoc}
 use Rattle.fs_token.specs.Token.{token_of}
 use Rattle.fs_query.specs.declared.listen.ListenMessage.{ListenMessage}
@@ -14,6 +13,7 @@ use Rattle.fs_listen.specs.Sent.{current_from, new_targets}
 use Rattle.fs_listen.specs.Told.{told}
 use Rattle.fs_listen.specs.declared.cut.Cut.{Cut}
 use Rattle.fs_listen.specs.declared.cut.Cut.TheVariants.{At, Loading, NoTarget}
+use Rattle.fs_listen.proofs.Listed.{same_itself}
 use Rattle.fs_machine.specs.Event.{Event}
 use Rattle.fs_machine.specs.Listen.{listening_of}
 use Rattle.fs_machine.specs.Raise.{cut_of}
@@ -21,14 +21,11 @@ use Rattle.fs_machine.specs.RaiseLaws.{OthersStayQuiet, QuietUnlessReady, Raised
 use Rattle.fs_machine.specs.Refusing.{outbox_is_full}
 use Rattle.fs_machine.specs.State.{Machine}
 use Rattle.fs_machine.specs.Told.{is_open, told_by}
-use Rattle.fs_machine.proofs.Says.{raise_says, raise_says_at, raise_says_if, raised_says, told_closed, told_open}
+use Rattle.fs_machine.proofs.Says.{none_either, raise_says, raise_says_at, raise_says_if, raised_says, told_closed, told_open}
 
 -- what any session is told by it
 raise_told : (m : Machine) (session k : ℕ) → is_open k m.sessions ≡ true → told_by m (Event.raising session) k ≡ cond (session == k) (raise_says m session) []
 raise_told m session k is = told_open m (Event.raising session) k is ∙ raised_says m session k is
-
-same_number : (n : ℕ) → (n == n) ≡ true
-same_number n = grind (arith, nat_tests)
 
 -- ---- ready, with room
 
@@ -61,7 +58,7 @@ raised_when_ready m session is may =
       at = at.1;
       front = sends.0;
       told = raise_told m session session is
-          ∙ ap (λ b. cond b (raise_says m session) []) (same_number session)
+          ∙ ap (λ b. cond b (raise_says m session) []) (same_itself session)
           ∙ (λ i. raise_says_if m session (both.1 i) (both.0 i))
           ∙ ap (raise_says_at m session) at.1
           ∙ sends.1;
@@ -73,10 +70,6 @@ one_says : (m : Machine) (session : ℕ) (full ready : Bool) → (ready && not f
 one_says m session true ready is = refl
 one_says m session false true is = absurd (cc)
 one_says m session false false is = refl
-
-none_either : (b : Bool) → ◌≡◌ {A = List ListenMessage} (cond b [] []) []
-none_either true = refl
-none_either false = refl
 
 by_open : (m : Machine) (session other : ℕ) → cond (session == other) (raise_says m session) [] ≡ [] → (b : Bool) → is_open other m.sessions ≡ b → told_by m (Event.raising session) other ≡ []
 by_open m session other none true is = raise_told m session other is ∙ none

@@ -20,7 +20,7 @@ use Rattle.fs_request.specs.declared.when.When.{When}
 use Rattle.fs_request.specs.declared.when.When.TheVariants.{Released, At, In}
 use Rattle.fs_status.specs.Refusal.{at_limit}
 use Rattle.fs_status.specs.declared.refusal.Refusal.{Refusal}
-use Rattle.fs_txn.specs.Transactions.{Transactions, all_noted, changed_at, expired_of, is_read_write, noted, txn_of, with_read}
+use Rattle.fs_txn.specs.Transactions.{Transactions, all_noted, changed_at, expired_of, is_read_write, noted, txn_of}
 use Rattle.fs_txn.specs.declared.kind.Kind.{Kind}
 use Rattle.fs_txn.specs.declared.kind.Kind.TheVariants.{ReadWrite, ReadOnly}
 use Rattle.fs_txn.specs.declared.txn.Txn.{Txn}
@@ -41,7 +41,7 @@ use Rattle.fs_machine.specs.declared.config.Mode.{Mode}
 use Rattle.fs_machine.specs.declared.config.Mode.TheVariants.{Pessimistic, Optimistic}
 use Rattle.fs_machine.specs.declared.parked_request.ParkedRequest.{ParkedRequest}
 use Rattle.fs_machine.proofs.Holding.{may_be_read_at}
-use Rattle.fs_machine.proofs.TransactionsHold.{all_open, noted_keeps}
+use Rattle.fs_machine.proofs.TransactionsHold.{all_open, noted_keeps, with_noted}
 
 -- ---- the time of a read
 
@@ -116,9 +116,6 @@ changed_next f v t ts id false is same found more = ap (λ b. cond b (Some v) (t
 changed_found : (f : Txn → Txn) (ts : List Txn) (id : ℕ) (t : Txn) → ((v : Txn) → (f v).id ≡ v.id) → txn_of id ts ≡ Some t → txn_of id (changed_at id f ts) ≡ Some (f t)
 changed_found f [] id t same found = absurd (cc)
 changed_found f (v ∷ ts) id t same found = changed_next f v t ts id (v.id == id) refl (same v) found (changed_found f ts id t same)
-
-abbrev with_noted : Read → ℤ → Txn → Txn
-with_noted r now t = record (with_read r t) { used = now }
 
 one_more : (r : Read) (now : ℤ) (t : Txn) (b : Bool) → b ≡ true → (record (cond b (record t { reads = t.reads ++ r ∷ [] }) t) { used = now }).reads ≡ t.reads ++ r ∷ []
 one_more r now t true is = refl

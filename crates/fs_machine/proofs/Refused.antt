@@ -100,7 +100,7 @@ one_less : (us : List Unreleased) (id : ℕ) (u : Unreleased) → pending_in id 
 one_less [] id u is = absurd (cc)
 one_less (v ∷ us) id u is = less_next v us id u (is_it id v) refl is (one_less us id u)
 
-was_drawn : (id ids n : ℕ) → 0 < n → (ids < id → n ≡ 0) → id ≤ ids
+pub was_drawn : (id ids n : ℕ) → 0 < n → (ids < id → n ≡ 0) → id ≤ ids
 was_drawn id ids n some above = grind (arith, above)
 
 gone_dropped : (m : Machine) (id : ℕ) (u : Unreleased) (refusal : Refusal) → Facts m → pending_of m.past id ≡ Some u → IsGone id (decided_with m u (Err refusal))

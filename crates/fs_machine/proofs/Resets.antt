@@ -5,7 +5,6 @@ use Rattle.std.specs.FinMap.{get, get-empty}
 use Rattle.std.specs.List.{list_any}
 use Rattle.std.specs.Ordering.{nat_cmp}
 use Rattle.std.proofs.lemmas.Bool.{eqb-true, or_parts}
-use Rattle.std.proofs.lemmas.Bool.Decides.{nat_tests}
 use Rattle.std.proofs.lemmas.Int.{ints}
 use Rattle.fs_path.specs.declared.name.DocName.{DocName}
 use Rattle.fs_query.specs.declared.listen.ListenMessage.{ListenMessage}
@@ -22,6 +21,7 @@ use Rattle.fs_listen.specs.Sent.{current_from, new_targets, sent}
 use Rattle.fs_listen.specs.Told.{Views, told}
 use Rattle.fs_listen.specs.declared.cut.Cut.{Cut}
 use Rattle.fs_listen.specs.declared.cut.Cut.TheVariants.{At, Loading, NoTarget}
+use Rattle.fs_listen.proofs.Listed.{same_itself}
 use Rattle.fs_listen.proofs.OfDocuments.{AreOfDocuments, is_of_document, told_of_documents}
 use Rattle.fs_machine.specs.declared.unreleased.Unreleased.{Unreleased}
 use Rattle.fs_machine.specs.Event.{Event, after, step}
@@ -188,9 +188,6 @@ open_one m k id l false facts is there =
     let closed = heard_none m.listeners k (among_open m.sessions (listed_in m.listeners) k false facts.listeners.listed is) in
     absurd (let none : None ≡ Some l = sym (get-empty nat_cmp id) ∙ ap (λ (s : Listening). get s.targets id) (sym closed) ∙ there in cc)
 
-same_number : (n : ℕ) → (n == n) ≡ true
-same_number n = grind (arith, nat_tests)
-
 is_before : (s t : ℤ) → s <ℤ t → int_lt s t ≡ true
 is_before s t less = grind (arith, ints)
 
@@ -204,8 +201,8 @@ loads_reset : (m : Machine) (session id : ℕ) (at : Option ℤ) → Facts m →
     → has_reset id (told_by m (Event.loading session id at) session) ≡ true
 loads_reset m session id at facts is allowed =
     let says = told_says m (Event.loading session id at) session facts (open_one m session id is.target (is_open session m.sessions) facts refl is.listened) in
-    ap (has_reset id) (says ∙ (λ i. cond (same_number session i) (load_resets m session id at is allowed i) []))
-    ∙ ap (λ b. (b || false) || false) (same_number id)
+    ap (has_reset id) (says ∙ (λ i. cond (same_itself session i) (load_resets m session id at is allowed i) []))
+    ∙ ap (λ b. (b || false) || false) (same_itself id)
 
 by_event : (m : Machine) (e : Event) (session id : ℕ) → Facts m → (is : LoadsLost m e session id) → has_reset id (told_by m e session) ≡ true
 by_event m e session id facts is =

@@ -74,7 +74,7 @@ Says m (Event.loading s target at) k said = said ≡ cond (s == k) (load_says m 
 Says m (Event.raising s) k said = said ≡ cond (s == k) (raise_says m s) []
 Says m _ k said = said ≡ []
 
-none_either : {X : Type 0} (b : Bool) → ◌≡◌ {A = List X} (cond b [] []) []
+pub none_either : {X : Type 0} (b : Bool) → ◌≡◌ {A = List X} (cond b [] []) []
 none_either true = refl
 none_either false = refl
 

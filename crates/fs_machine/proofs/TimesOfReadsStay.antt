@@ -2,7 +2,6 @@
 use Rattle.std.proofs.Common.{◌≡◌, ℕ, ℤ, Bool, true, false, cond, List, [], ◌∷◌, Option, Some, None, Result, Ok, Err, refl, sym, ap, ◌∙◌, subst, arith}
 use Rattle.std.specs.Prelude.{◌+◌, ◌==◌, pos, negsuc, not, slice_get, unwrap_or}
 use Rattle.std.specs.List.{AllByRecursion}
-use Rattle.std.proofs.lemmas.Bool.Decides.{nat_tests}
 use Rattle.fs_request.specs.declared.message.Message.{Message}
 use Rattle.fs_request.specs.declared.message.Message.TheVariants as message
 use Rattle.fs_request.specs.declared.options.TransactionOptions.{TransactionOptions}
@@ -16,7 +15,7 @@ use Rattle.fs_path.specs.declared.name.Root.{Root}
 use Rattle.fs_history.specs.declared.read.Read.{Read}
 use Rattle.fs_status.specs.declared.refusal.Refusal.{Refusal}
 use Rattle.fs_txn.specs.Expiry.{is_over}
-use Rattle.fs_txn.specs.Transactions.{Transactions, all_noted, is_read_write, noted, txn_of, with_read}
+use Rattle.fs_txn.specs.Transactions.{Transactions, all_noted, is_read_write, noted, txn_of}
 use Rattle.fs_txn.specs.declared.kind.Kind.{Kind}
 use Rattle.fs_txn.specs.declared.txn.Txn.{Txn}
 use Rattle.fs_write.specs.Batch.{Docs}
@@ -26,7 +25,7 @@ use Rattle.fs_machine.specs.Commit.{committed_in, committed_unless}
 use Rattle.fs_machine.specs.Conflict.{conflict}
 use Rattle.fs_machine.specs.Event.{Event, after, step}
 use Rattle.fs_machine.specs.Facts.{Facts}
-use Rattle.fs_machine.specs.IdsAreDrawn.{counted, times_open}
+use Rattle.fs_machine.specs.IdsAreDrawn.{times_open}
 use Rattle.fs_machine.specs.Numbered.{draws}
 use Rattle.fs_machine.specs.Open.{is_full, with_session}
 use Rattle.fs_machine.specs.Read.{read_in, shown_at}
@@ -43,18 +42,9 @@ use Rattle.fs_machine.specs.declared.unreleased.Unreleased.{Unreleased}
 use Rattle.fs_machine.proofs.Carried.{drawn_count, drawn_later, number_open, own_or_drawn}
 use Rattle.fs_machine.proofs.IdsAreDrawn.{parked_less}
 use Rattle.fs_machine.proofs.Listening.{loaded_rest, raised_rest}
-use Rattle.fs_machine.proofs.OldNumbers.{IsOld, stays_old}
+use Rattle.fs_machine.proofs.OldNumbers.{IsOld, not_counted, stays_old}
 use Rattle.fs_machine.proofs.Streaming.{arrived_number, streamed_rest, taken_rest}
-use Rattle.fs_machine.proofs.TransactionsHold.{all_changed, all_left, all_open, all_put, noted_keeps}
-
-counted_own : (id n : ℕ) → n ≡ id → counted id n ≡ 1
-counted_own id n is = grind (arith, nat_tests)
-
-not_counted : (id n : ℕ) → counted id n ≡ 0 → n ≡ id → ⊥
-not_counted id n none is = let one = counted_own id n is in omega (arith, one, none)
-
-abbrev with_noted : Read → ℤ → Txn → Txn
-with_noted r now v = record (with_read r v) { used = now }
+use Rattle.fs_machine.proofs.TransactionsHold.{all_changed, all_left, all_open, all_put, noted_keeps, with_noted}
 
 -- the open one of a number has this time, and this kind
 module _ (id : ℕ) (time : ℤ) (kind : Kind) where

@@ -69,7 +69,7 @@ pub all_left : (P : Txn → Type 0) (test : Txn → Bool) (ts : List Txn) → Al
 all_left P test [] all = tt
 all_left P test (t ∷ ts) all = left_next P test t ts (test t) all.0 (all_left P test ts all.1)
 
-each : (P Q : Txn → Type 0) (ts : List Txn) → ((t : Txn) → P t → Q t) → AllByRecursion P ts → AllByRecursion Q ts
+pub each : (P Q : Txn → Type 0) (ts : List Txn) → ((t : Txn) → P t → Q t) → AllByRecursion P ts → AllByRecursion Q ts
 each P Q [] f all = tt
 each P Q (t ∷ ts) f all = (f t all.0, each P Q ts f all.1)
 
@@ -162,7 +162,7 @@ still_used : (mode : Mode) (p : Past) (t : Txn) (now : ℤ) → AreReadStill mod
 still_used Pessimistic p t now still = still
 still_used Optimistic p t now still = still
 
-abbrev with_noted : Read → ℤ → Txn → Txn
+abbrev pub with_noted : Read → ℤ → Txn → Txn
 with_noted r now t = record (with_read r t) { used = now }
 
 noted_by : (mode : Mode) (p : Past) (t : Txn) (r : Read) (rs : List Read) (now : ℤ) (b : Bool) → is_read_write t.kind ≡ b → (b ≡ true → MayBeMade mode p t (r ∷ rs)) → IsOpen mode p t

@@ -7,7 +7,7 @@
 --     6 is settled later     c/b is one of those documents then, and the result on them is still 2
 -- (Cloud Firestore documentation, "Transaction serializability and isolation".)
 use Rattle.std.specs.Prelude.{◌≡◌, ℕ, ℤ, List, [], Some, Ok, Err, slice_get}
-use Rattle.std.specs.List.{Contains}
+use Rattle.std.specs.List.{AllByRecursion, Contains}
 use Rattle.fs_history.specs.History.{before}
 use Rattle.fs_history.specs.declared.batch.Batch.{Batch}
 use Rattle.fs_request.specs.declared.request.Envelope.{Envelope}
@@ -77,5 +77,10 @@ abbrev pub RetriedIsPending : Machine → Type 0
 RetriedIsPending m = (place : ℕ) (r : ParkedRequest) (id : ℕ) (time : ℤ) → slice_get m.parked place ≡ Some r → tried_answer m r ≡ Prepared id time
     → IsPendingIn (retried m place).past id time (writes_in r.envelope.request)
 
+-- and it stays that, whatever else comes, until it is settled
+abbrev pub StaysPending : Machine → Type 0
+StaysPending m = (id : ℕ) (u : Unreleased) (events : List Event) → pending_of m.past id ≡ Some u → AllByRecursion (λ e. e ≡ Event.deciding id → ⊥) events
+    → pending_of (after m events).past id ≡ Some u
+
 abbrev pub PreparedStands : Type 0
-PreparedStands = (m : Machine) → Facts m → AskedIsPending m × RetriedIsPending m
+PreparedStands = (m : Machine) → Facts m → AskedIsPending m × RetriedIsPending m × StaysPending m

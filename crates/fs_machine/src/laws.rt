@@ -23,19 +23,19 @@ use fs_listen::listening_is_lawful;
 /// (`outcomes`). So any number of them leave the same, in whatever order they are settled (`any_order`), with the same replies in the
 /// same order where none is refused (`same_replies`). The results that a commit is answered, and why one was refused as it was settled, are
 /// what its writes come to on the documents just before its time in every later state (`results`, `refusals`). A request that is answered
-/// that its commit is pending, by a number and a time, has left the pending commit of these, with its writes (`prepared`).
+/// by a number and a time has left the pending commit of these, with its writes, and it stays that until it is settled (`prepared`).
 ///
 /// What waits, waits for the least of those that hold it, and what goes on has none (`held`): a commit for those that aren't released
 /// and write one of its names, and in pessimistic mode a plain one for the open transactions that have read what it writes, and a read in
 /// a read-write transaction for the commits that aren't released and touch it. A request that waited and goes on is carried out as if it
 /// came then (`retried`).
 ///
-/// A transaction that is aborted is told the least of those that it is in conflict with, and what is committed has none (`aborted`). One
-/// that only reads never waits (`goes_on`) and is never aborted (`commits`). A request is told that it is aborted, and for what, exactly where it is
-/// the commit of an open read-write transaction in conflict, which nothing refuses or holds (`told_aborted`). It is told that it waits, and for
-/// what, exactly where it is held and may wait (`told_held`). Of two transactions that are open at once, each of which writes what the
-/// other has read, not both are committed (`not_both`). So whatever events come, the history is serial: each of
-/// its batches had read what the batches before it leave (`serial`).
+/// A transaction that is aborted is told the least of those that it is in conflict with, and what is committed has none (`aborted`).
+/// One that only reads never waits (`goes_on`) and is never aborted (`commits`). A request is told that it is aborted, and for what,
+/// exactly where it is the commit of an open read-write transaction in conflict, which nothing refuses or holds; no other answer is
+/// ABORTED (`told_aborted`). It is told that it waits, and for what, exactly where it is held and may wait (`told_held`). Of two
+/// transactions that are open at once, each of which writes what the other has read, not both are committed (`not_both`). So whatever
+/// events come, the history is serial: each of its batches had read what the batches before it leave (`serial`).
 ///
 /// A read that is carried out is told the documents of its time, which can be read, and a read-write transaction has read from then on just what it
 /// is told, behind what it had read (`reads`). The time at which an open transaction reads by itself is the one of its begin (`read_times`).
@@ -48,16 +48,17 @@ use fs_listen::listening_is_lawful;
 /// and however far each shard was matched. Where nothing is left to be done for it, that is the released time (`served`).
 ///
 /// A session is told that a target is reset exactly as the target is loaded whose resume token is of a time that can't be read any more
-/// (`resets`). What can be read begins where the server did until times are given up (`floor`), so a target whose token is of a time since
-/// then is reset only after a compaction (`compacted`).
+/// (`resets`). What can be read begins where the server did, until times are given up (`floor`). So a target whose token is of a time
+/// since then is reset only after a compaction (`compacted`).
+///
 /// A session that is ready and has room in its outbox is raised: what it is told ends with a NO_CHANGE at the time at which its targets are
 /// together (`raised`). Else nothing is told (`quiet`), and to no other session (`others`). So one is raised whose targets are loaded, and
 /// whose least position is due (`due`).
-/// What a session was told is a front of what it is told later (`goes_further`), an event tells of a NO_CHANGE only at its end (`last`), and
-/// the views are consistent at each NO_CHANGE among what it was told (`each_cut`).
-/// Each target is told to be current once since it was added, and at each NO_CHANGE was (`currents`).
-/// No position of a target is before its load (`positions`).
-/// The versions of a name that it is told never fall (`versions`).
+///
+/// What a session was told is a front of what it is told later (`goes_further`). An event tells of a NO_CHANGE only at its end (`last`), and
+/// at each NO_CHANGE among what was told the views are consistent (`each_cut`). Each target is told to be current once since it was added,
+/// and at each NO_CHANGE was (`currents`). No position of a target is before its load (`positions`). The versions of a name that a session
+/// is told never fall (`versions`).
 ///
 /// A write stream takes one batch behind another, and finishes them in that order, each once, whatever was sent again and whoever owns the
 /// stream by then; the response to each has the next token (`batches_once`). Of all requests that send it one token, one at most is taken

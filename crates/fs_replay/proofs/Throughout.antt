@@ -58,6 +58,7 @@ module _ (kept : AlwaysKept) (config : Config) (limits : Limits) where
           times m session e database options id mid t (there front) asks told (ap (λ (n : Machine). txn_of id n.txns.open) (sym ends) ∙ found);
       asked_pending = λ front back cut. (prepared (server_after config limits front) (there front)).0;
       retried_pending = λ front back cut. (prepared (server_after config limits front) (there front)).1;
+      stays_pending = λ front back cut. (prepared (server_after config limits front) (there front)).2;
       results = λ front back u cut has. results first front [] u begins has;
       refusals = λ front mid back id u refusal cut pending refused.
           let m = server_after config limits front in

@@ -14,7 +14,7 @@ use Rattle.fs_listen.specs.Laws.{IsCurrentOnce, IsFromLoad}
 use Rattle.fs_listen.specs.Listening.{Listened}
 use Rattle.fs_listen.specs.ReadyLaws.{AreTogether, IsDue}
 use Rattle.fs_listen.specs.Versions.{versions_told}
-use Rattle.fs_machine.specs.AnswersStand.{AskedIsPending, IsRightIn, RetriedIsPending}
+use Rattle.fs_machine.specs.AnswersStand.{AskedIsPending, IsRightIn, RetriedIsPending, StaysPending}
 use Rattle.fs_machine.specs.Causes.{AskedIsAborted, AskedIsHeld, OnlyConflictsAbort, RetriedIsAborted, RetriedIsHeld}
 use Rattle.fs_machine.specs.CommitsOnce.{asked_in, commits_in}
 use Rattle.fs_machine.specs.Event.{Event, asking, deciding, raising}
@@ -96,6 +96,8 @@ pub record AnswersThroughout (config : Config) (limits : Limits) (lines : List (
   -- a commit that is answered by its number and time is pending from then on
   pub asked_pending : (front back : List Event) → IsCut config limits lines front back → AskedIsPending (server_after config limits front)
   pub retried_pending : (front back : List Event) → IsCut config limits lines front back → RetriedIsPending (server_after config limits front)
+  -- until it is settled
+  pub stays_pending : (front back : List Event) → IsCut config limits lines front back → StaysPending (server_after config limits front)
   -- one that was answered by then is in the history there, with the results that its writes have on what stands just before it
   pub results : (front back : List Event) (u : Unreleased) → IsCut config limits lines front back → Contains (let_out_in (first_server config limits) front) u
       → IsRightIn (server_after config limits front).past.history u
