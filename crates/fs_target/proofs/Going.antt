@@ -1,15 +1,15 @@
 -- Events that are gone over one after another.
-use Rattle.std.proofs.Common.{◌≡◌, ℕ, ℤ, zero, suc, ◌+◌, ◌<◌, Bool, cond, List, [], ◌∷◌, ◌++◌, length, drop, get_or, refl, sym, ap, ◌∙◌, subst, arith, add-one, drop-cons}
+use Rattle.std.proofs.Common.{◌≡◌, ℕ, ℤ, zero, suc, ◌+◌, ◌<◌, Bool, true, false, cond, List, [], ◌∷◌, ◌++◌, length, drop, get_or, refl, sym, ap, ◌∙◌, subst, arith, add-one, drop-cons}
 use Rattle.std.proofs.Math.ListN.{set}
-use Rattle.std.specs.Prelude.{IsTrue, int_le, is_some}
+use Rattle.std.specs.Prelude.{IsTrue, int_le, int_lt}
 use Rattle.std.specs.FinMap.{get}
 use Rattle.std.specs.List.{filter}
 use Rattle.std.proofs.lemmas.List.{drop-set-lt}
 use Rattle.std.proofs.lemmas.List.Elements.{filter-append}
 use Rattle.fs_path.specs.declared.name.DocName.{DocName}
 use Rattle.fs_write.specs.Batch.{Docs, with_document}
-use Rattle.fs_target.specs.Places.{HasPlace, HavePlaces}
-use Rattle.fs_target.specs.Staged.{gone_over, left_by, up_to}
+use Rattle.fs_target.specs.Places.{HasPlace, HavePlaces, is_until}
+use Rattle.fs_target.specs.Staged.{behind, gone_over, left_by, up_to}
 use Rattle.fs_target.specs.declared.event.TimedEvent.{TimedEvent}
 use Rattle.fs_target.proofs.Each.{each_before, each_behind, each_weaker}
 use Rattle.fs_target.proofs.Standing.{Placed}
@@ -19,8 +19,18 @@ gone_over-append [] fs docs = refl
 gone_over-append (e ∷ es) fs docs = gone_over-append es fs (with_document docs e.name (left_by e))
 
 -- where more places are there
-pub kept_places : (old new : Placed) (es : List TimedEvent) → ((name : DocName) → IsTrue (is_some (get old name)) → IsTrue (is_some (get new name))) → HavePlaces old es → HavePlaces new es
-kept_places old new es kept have = each_weaker (HasPlace old) (HasPlace new) (λ e has. (has.0, λ is. kept e.name (has.1 is))) es have
+pub kept_places : (old new : Placed) (es : List TimedEvent) → ((name : DocName) (t : ℤ) → IsTrue (is_until t (get old name)) → IsTrue (is_until t (get new name))) → HavePlaces old es → HavePlaces new es
+kept_places old new es kept have = each_weaker (HasPlace old) (HasPlace new) (λ e has. (has.0, λ is. kept e.name e.time (has.1 is))) es have
+
+-- where those stay that stay until a time behind another
+pub kept_behind : (old new : Placed) (time : ℤ) (es : List TimedEvent) → ((name : DocName) (t : ℤ) → IsTrue (int_lt time t) → IsTrue (is_until t (get old name)) → IsTrue (is_until t (get new name)))
+    → HavePlaces old (behind time es) → HavePlaces new (behind time es)
+kept_behind old new time [] kept have = tt
+kept_behind old new time (e ∷ es) kept have = one (int_lt time e.time) refl (kept_behind old new time es kept) have where
+  one : (b : Bool) → int_lt time e.time ≡ b → (HavePlaces old (behind time es) → HavePlaces new (behind time es))
+      → HavePlaces old (cond b (e ∷ behind time es) (behind time es)) → HavePlaces new (cond b (e ∷ behind time es) (behind time es))
+  one true late rest have = ((have.0.0, λ is. kept e.name e.time late (have.0.1 is)), rest have.1)
+  one false late rest have = rest have
 
 -- ---- one that is put at a place of a list
 
@@ -50,7 +60,7 @@ module _ (time : ℤ) (es : List TimedEvent) (i : ℕ) (d : TimedEvent) (within 
   pub place_first : (places : Placed) → HavePlaces places (up_to time (drop i es)) → HavePlaces places first
   place_first places have = each_before (HasPlace places) first rest (subst (HavePlaces places) left_is have)
 
-  pub places_next : (old new : Placed) (y : TimedEvent) → ((name : DocName) → IsTrue (is_some (get old name)) → IsTrue (is_some (get new name)))
+  pub places_next : (old new : Placed) (y : TimedEvent) → ((name : DocName) (t : ℤ) → IsTrue (is_until t (get old name)) → IsTrue (is_until t (get new name)))
       → HavePlaces old (up_to time (drop i es)) → HavePlaces new (up_to time (drop (i + 1) (set es i y)))
   places_next old new y kept have =
       subst (HavePlaces new) (sym (rest_is y)) (kept_places old new rest kept (each_behind (HasPlace old) first rest (subst (HavePlaces old) left_is have)))

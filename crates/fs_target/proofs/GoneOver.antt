@@ -1,6 +1,6 @@
 -- The documents behind events: at each name what the last event there leaves.
 use Rattle.std.proofs.Common.{◌≡◌, ℤ, Bool, true, false, cond, List, [], ◌∷◌, ◌++◌, map, Option, Some, None, refl, sym, ap, ◌∙◌, subst}
-use Rattle.std.specs.Prelude.{IfSome, IsTrue, int_le, is_some}
+use Rattle.std.specs.Prelude.{IfSome, IsTrue, int_le}
 use Rattle.std.specs.BTreeMap.{is_at}
 use Rattle.std.specs.FinMap.{FinMap, empty, entries, entries_sorted, from_entries, get, get-empty, get-insert, insert, is_sorted, same_map, values}
 use Rattle.std.specs.List.{AllByRecursion, cons_option, filter_map}
@@ -18,9 +18,10 @@ use Rattle.fs_write.proofs.Names.{with_named}
 use Rattle.fs_write.proofs.Stages.{get-with_document}
 use Rattle.fs_history.proofs.NamesListed.{listed}
 use Rattle.fs_target.specs.Latest.{latest_of, left_behind, with_latest}
-use Rattle.fs_target.specs.Places.{HasPlace, HavePlaces, docs_in, stood}
+use Rattle.fs_target.specs.Places.{HasPlace, HavePlaces, docs_in, is_until, stood}
 use Rattle.fs_target.specs.Staged.{IsNamed, gone_over, left_by, up_to}
 use Rattle.fs_target.specs.declared.event.TimedEvent.{TimedEvent}
+use Rattle.fs_target.specs.declared.place.Place.{Place}
 use Rattle.fs_target.proofs.Each.{each_filter, each_weaker}
 use Rattle.fs_target.proofs.Standing.{Placed, get-docs_in, get-kept, keep, rising_kept, then_at}
 
@@ -84,14 +85,14 @@ gone_named (e ∷ es) docs all named = gone_named es (with_document docs e.name 
 -- ---- as a list
 
 -- the documents behind the last events, of what stands at places
-abbrev pub shown : FinMap name_cmp TimedEvent → List (DocName × Option Document) → List Document
-shown latest es = filter_map (λ (e : DocName × Option Document). left_behind (get latest e.0) e.1) es
+abbrev pub shown : FinMap name_cmp TimedEvent → List (DocName × Place) → List Document
+shown latest es = filter_map (λ (e : DocName × Place). left_behind (get latest e.0) e.1.document) es
 
 module _ (latest : FinMap name_cmp TimedEvent) where
-  abbrev behind : DocName → Option Document → Option Document
-  behind name o = left_behind (get latest name) o
+  abbrev behind : DocName → Place → Option Document
+  behind name p = left_behind (get latest name) p.document
 
-  shown_values : (es : List (DocName × Option Document)) → map (λ (e : DocName × Document). e.1) (filter_map (keep behind) es) ≡ shown latest es
+  shown_values : (es : List (DocName × Place)) → map (λ (e : DocName × Document). e.1) (filter_map (keep behind) es) ≡ shown latest es
   shown_values [] = refl
   shown_values (e ∷ es) = one (behind e.0 e.1) (shown_values es) where
     one : (o : Option Document) → map (λ (d : DocName × Document). d.1) (filter_map (keep behind) es) ≡ shown latest es
@@ -101,18 +102,18 @@ module _ (latest : FinMap name_cmp TimedEvent) where
 
 -- where there is no place nothing is left
 none_left : (places : Placed) (name : DocName) (e : TimedEvent) (b : Bool) → e.inside ≡ b → HasPlace places e → e.name ≡ name → get places name ≡ None → cond b e.after None ≡ None
-none_left places name e true is has names none = absurd (let some : true ≡ false = sym (has.1 is) ∙ ap (λ n. is_some (get places n)) names ∙ ap is_some none in cc)
+none_left places name e true is has names none = absurd (let some : true ≡ false = sym (has.1 is) ∙ ap (λ n. is_until e.time (get places n)) names ∙ ap (is_until e.time) none in cc)
 none_left places name e false is has names none = refl
 
-left_there : (places : Placed) (name : DocName) (last : Option TimedEvent) (there : Option (Option Document)) → get places name ≡ there → IfSome last (λ e. HasPlace places e × (e.name ≡ name))
-    → left_behind last (stood there) ≡ then_at (λ (_ : DocName) (o : Option Document). left_behind last o) name there
-left_there places name last (Some o) is has = refl
+left_there : (places : Placed) (name : DocName) (last : Option TimedEvent) (there : Option Place) → get places name ≡ there → IfSome last (λ e. HasPlace places e × (e.name ≡ name))
+    → left_behind last (stood there) ≡ then_at (λ (_ : DocName) (p : Place). left_behind last p.document) name there
+left_there places name last (Some p) is has = refl
 left_there places name None None is has = refl
 left_there places name (Some e) None is has = none_left places name e e.inside refl has.0 has.1 is
 
-same_then : (latest : FinMap name_cmp TimedEvent) (name : DocName) (there : Option (Option Document)) → then_at (λ (_ : DocName) (o : Option Document). left_behind (get latest name) o) name there ≡ then_at (behind latest) name there
+same_then : (latest : FinMap name_cmp TimedEvent) (name : DocName) (there : Option Place) → then_at (λ (_ : DocName) (p : Place). left_behind (get latest name) p.document) name there ≡ then_at (behind latest) name there
 same_then latest name None = refl
-same_then latest name (Some o) = refl
+same_then latest name (Some p) = refl
 
 gone_kept : (places : Placed) (es : List TimedEvent) → HavePlaces places es → gone_over es (docs_in places) ≡ from_entries (filter_map (keep (behind (latest_of es))) (entries places))
 gone_kept places es have =

@@ -72,7 +72,7 @@ order_put e (f ∷ fs) order = one (is_lt (event_cmp e f)) refl (order_put e fs 
 abbrev pub comes_behind : TimedEvent → TimedEvent → Bool
 comes_behind e f = not (is_lt (event_cmp e f))
 
-not_true : (b : Bool) → not b ≡ true → b ≡ false
+pub not_true : (b : Bool) → not b ≡ true → b ≡ false
 not_true true is = absurd (cc)
 not_true false is = refl
 

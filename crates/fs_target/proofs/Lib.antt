@@ -1,3 +1,4 @@
+pub mod Aside
 pub mod Asked
 pub mod Changing
 pub mod Collected

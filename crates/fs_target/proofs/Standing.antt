@@ -1,5 +1,5 @@
 -- What stands at places, as the documents of a finite map.
-use Rattle.std.proofs.Common.{◌≡◌, Bool, true, false, cond, List, [], ◌∷◌, Option, Some, None, refl, sym, ap, ◌∙◌, subst}
+use Rattle.std.proofs.Common.{◌≡◌, ℤ, Bool, true, false, cond, List, [], ◌∷◌, Option, Some, None, refl, sym, ap, ◌∙◌, subst, arith}
 use Rattle.std.specs.Prelude.{IsTrue, is_some}
 use Rattle.std.specs.BTreeMap.{is_at}
 use Rattle.std.specs.Cmp.{first_so, second_so}
@@ -11,6 +11,7 @@ use Rattle.std.specs.Map.{lookup}
 use Rattle.std.specs.Option.{option_map}
 use Rattle.std.specs.Ordering.{eq_by_cmp, is_lt}
 use Rattle.std.proofs.lemmas.Cmp.{eq_by_cmp_equiv}
+use Rattle.std.proofs.lemmas.Int.{ints}
 use Rattle.fs_path.proofs.Bools.{to_true}
 use Rattle.fs_path.specs.NameOrder.{name_cmp, name_cmp_total, name_is, name_itself, name_same}
 use Rattle.fs_path.specs.declared.name.DocName.{DocName}
@@ -19,10 +20,11 @@ use Rattle.fs_value.proofs.Tree.{get_tree}
 use Rattle.fs_write.specs.Batch.{AreNamed, Bears, with_document}
 use Rattle.fs_write.proofs.Stages.{get-with_document}
 use Rattle.fs_history.proofs.Names.{none_below}
-use Rattle.fs_target.specs.Places.{StandNamed, docs_in, stood}
+use Rattle.fs_target.specs.Places.{StandNamed, docs_in, is_until, lasts, stood}
+use Rattle.fs_target.specs.declared.place.Place.{Place}
 
 abbrev pub Placed : Type 0
-Placed = FinMap name_cmp (Option Document)
+Placed = FinMap name_cmp Place
 
 -- ---- a look-up
 
@@ -80,42 +82,42 @@ module _ {X Y : Type 0} (f : DocName → X → Option Y) where
 
 -- ---- what stands at places
 
-same_stood : (o : Option (Option Document)) (name : DocName) → then_at (λ (_ : DocName) (x : Option Document). x) name o ≡ stood o
+same_stood : (o : Option Place) (name : DocName) → then_at (λ (_ : DocName) (x : Place). x.document) name o ≡ stood o
 same_stood None name = refl
-same_stood (Some o) name = refl
+same_stood (Some p) name = refl
 
 pub get-docs_in : (places : Placed) (name : DocName) → get (docs_in places) name ≡ stood (get places name)
-get-docs_in places name = get-kept (λ (_ : DocName) (x : Option Document). x) places name ∙ same_stood (get places name) name
+get-docs_in places name = get-kept (λ (_ : DocName) (x : Place). x.document) places name ∙ same_stood (get places name) name
 
 pub docs-empty : docs_in empty ≡ empty
 docs-empty = same_map name_cmp_total name_same (docs_in empty) empty (λ q. get-docs_in empty q ∙ ap stood (get-empty name_cmp q) ∙ sym (get-empty name_cmp q))
 
 -- what is put at a place
-put_there : (b : Bool) (o : Option Document) (there : Option (Option Document)) → stood (cond b (Some o) there) ≡ cond b o (stood there)
-put_there true o there = refl
-put_there false o there = refl
+put_there : (b : Bool) (p : Place) (there : Option Place) → stood (cond b (Some p) there) ≡ cond b p.document (stood there)
+put_there true p there = refl
+put_there false p there = refl
 
-pub docs-insert : (places : Placed) (name : DocName) (o : Option Document) → docs_in (insert places name o) ≡ with_document (docs_in places) name o
-docs-insert places name o =
-    same_map name_cmp_total name_same (docs_in (insert places name o)) (with_document (docs_in places) name o)
-    (λ q. get-docs_in (insert places name o) q
-    ∙ ap stood (get-insert name_cmp_total places name o q)
-    ∙ put_there (eq_by_cmp name_cmp q name) o (get places q)
-    ∙ ap (λ b. cond b o (stood (get places q))) ((eq_by_cmp_equiv name_cmp_total).symm q name)
-    ∙ ap (cond (is_at (name_cmp name) q) o) (sym (get-docs_in places q))
-    ∙ sym (get-with_document (docs_in places) name o q))
+pub docs-insert : (places : Placed) (name : DocName) (p : Place) → docs_in (insert places name p) ≡ with_document (docs_in places) name p.document
+docs-insert places name p =
+    same_map name_cmp_total name_same (docs_in (insert places name p)) (with_document (docs_in places) name p.document)
+    (λ q. get-docs_in (insert places name p) q
+    ∙ ap stood (get-insert name_cmp_total places name p q)
+    ∙ put_there (eq_by_cmp name_cmp q name) p (get places q)
+    ∙ ap (λ b. cond b p.document (stood (get places q))) ((eq_by_cmp_equiv name_cmp_total).symm q name)
+    ∙ ap (cond (is_at (name_cmp name) q) p.document) (sym (get-docs_in places q))
+    ∙ sym (get-with_document (docs_in places) name p.document q))
 
--- a place that is made where there is none
-made_there : (places : Placed) (name q : DocName) (b : Bool) → get places name ≡ None → eq_by_cmp name_cmp q name ≡ b → stood (cond b (Some None) (get places q)) ≡ stood (get places q)
-made_there places name q true none ties = ap stood (sym none ∙ ap (get places) (sym (name_is q name ties)))
-made_there places name q false none ties = refl
+-- a place at which the same stands as there did
+same_there : (places : Placed) (name q : DocName) (p : Place) (b : Bool) → p.document ≡ stood (get places name) → eq_by_cmp name_cmp q name ≡ b → stood (cond b (Some p) (get places q)) ≡ stood (get places q)
+same_there places name q p true same ties = same ∙ ap (λ n. stood (get places n)) (sym (name_is q name ties))
+same_there places name q p false same ties = refl
 
-pub docs-made : (places : Placed) (name : DocName) → get places name ≡ None → docs_in (insert places name None) ≡ docs_in places
-docs-made places name none =
-    same_map name_cmp_total name_same (docs_in (insert places name None)) (docs_in places)
-    (λ q. get-docs_in (insert places name None) q
-    ∙ ap stood (get-insert name_cmp_total places name None q)
-    ∙ made_there places name q (eq_by_cmp name_cmp q name) none refl
+pub docs-same : (places : Placed) (name : DocName) (p : Place) → p.document ≡ stood (get places name) → docs_in (insert places name p) ≡ docs_in places
+docs-same places name p same =
+    same_map name_cmp_total name_same (docs_in (insert places name p)) (docs_in places)
+    (λ q. get-docs_in (insert places name p) q
+    ∙ ap stood (get-insert name_cmp_total places name p q)
+    ∙ same_there places name q p (eq_by_cmp name_cmp q name) same refl
     ∙ sym (get-docs_in places q))
 
 -- nothing is taken out where no place is
@@ -131,45 +133,67 @@ pub not_put : (places : Placed) (name : DocName) (o : Option Document) → get p
 not_put places name None none place = sym (docs-none places name none)
 not_put places name (Some d) none place = absurd (let e : false ≡ true = sym (ap is_some none) ∙ place refl in cc)
 
--- a place stays where another is put
-stays : (b : Bool) (o : Option Document) (there : Option (Option Document)) → IsTrue (is_some there) → IsTrue (is_some (cond b (Some o) there))
-stays true o there some = refl
-stays false o there some = some
+-- a place stays where another is put, if that stays as long
+stays : (time : ℤ) (b : Bool) (p : Place) (there : Option Place) → (b ≡ true → IsTrue (is_until time there) → IsTrue (lasts time p.until)) → IsTrue (is_until time there) → IsTrue (is_until time (cond b (Some p) there))
+stays time true p there long some = long refl some
+stays time false p there long some = some
 
-pub kept_inserted : (places : Placed) (name : DocName) (o : Option Document) (q : DocName) → IsTrue (is_some (get places q)) → IsTrue (is_some (get (insert places name o) q))
-kept_inserted places name o q some = subst (λ t. IsTrue (is_some t)) (sym (get-insert name_cmp_total places name o q)) (stays (eq_by_cmp name_cmp q name) o (get places q) some)
+pub kept_inserted : (places : Placed) (name : DocName) (p : Place) (q : DocName) (time : ℤ) → (IsTrue (is_until time (get places name)) → IsTrue (lasts time p.until))
+    → IsTrue (is_until time (get places q)) → IsTrue (is_until time (get (insert places name p) q))
+kept_inserted places name p q time long some =
+    subst (λ t. IsTrue (is_until time t)) (sym (get-insert name_cmp_total places name p q))
+    (stays time (eq_by_cmp name_cmp q name) p (get places q) (λ ties had. long (subst (λ n. IsTrue (is_until time (get places n))) (name_is q name ties) had)) some)
 
-pub there_inserted : (places : Placed) (name : DocName) (o : Option Document) → IsTrue (is_some (get (insert places name o) name))
-there_inserted places name o =
-    subst (λ t. IsTrue (is_some t)) (sym (get-insert name_cmp_total places name o name ∙ ap (λ b. cond b (Some o) (get places name)) (name_itself name))) refl
+pub there_inserted : (places : Placed) (name : DocName) (p : Place) (time : ℤ) → IsTrue (lasts time p.until) → IsTrue (is_until time (get (insert places name p) name))
+there_inserted places name p time long =
+    subst (λ t. IsTrue (is_until time t)) (sym (get-insert name_cmp_total places name p name ∙ ap (λ b. cond b (Some p) (get places name)) (name_itself name))) long
+
+pub lasts_itself : (time : ℤ) → IsTrue (lasts time (Some time))
+lasts_itself time = grind (arith, ints)
+
+-- where there is no place, none stays
+pub none_until : (time : ℤ) (o : Option Place) (p : Place) → o ≡ None → IsTrue (is_until time o) → IsTrue (lasts time p.until)
+none_until time o p none until = absurd (let both : false ≡ true = sym (ap (is_until time) none) ∙ until in cc)
+
+-- what stays until a time is there
+pub until_some : (time : ℤ) (o : Option Place) → IsTrue (is_until time o) → IsTrue (is_some o)
+until_some time None until = until
+until_some time (Some p) until = refl
 
 -- a document has a place
 pub placed_where : (places : Placed) (name : DocName) → IsTrue (is_some (get (docs_in places) name)) → IsTrue (is_some (get places name))
 placed_where places name some = there (get places name) (subst (λ o. IsTrue (is_some o)) (get-docs_in places name) some) where
-  there : (o : Option (Option Document)) → IsTrue (is_some (stood o)) → IsTrue (is_some o)
+  there : (o : Option Place) → IsTrue (is_some (stood o)) → IsTrue (is_some o)
   there None some = some
-  there (Some o) some = refl
+  there (Some p) some = refl
 
 -- ---- of a tree
 
-pub none_there : (es : List (DocName × Option Document)) (name : DocName) → is_some (lookup (is_at (name_cmp name)) es) ≡ false → get (from_entries {R = name_cmp} es) name ≡ None
+pub none_there : (es : List (DocName × Place)) (name : DocName) → is_some (lookup (is_at (name_cmp name)) es) ≡ false → get (from_entries {R = name_cmp} es) name ≡ None
 none_there es name none = sym (get_tree name_cmp_total es name) ∙ is_none (lookup (is_at (name_cmp name)) es) none where
-  is_none : (o : Option (Option Document)) → is_some o ≡ false → o ≡ None
+  is_none : (o : Option Place) → is_some o ≡ false → o ≡ None
   is_none None is = refl
-  is_none (Some o) is = absurd (cc)
+  is_none (Some p) is = absurd (cc)
 
 -- each document bears its name
-pub named_tree : (es : List (DocName × Option Document)) → StandNamed es → AreNamed (docs_in (from_entries es))
+pub named_tree : (es : List (DocName × Place)) → StandNamed es → AreNamed (docs_in (from_entries es))
 named_tree es named name =
     subst (λ o. Bears o name) (sym (get-docs_in (from_entries es) name ∙ ap stood (sym (get_tree name_cmp_total es name)))) (named name)
 
-named_there : (b : Bool) (o : Option Document) (there : Option (Option Document)) (q : DocName) → (b ≡ true → Bears o q) → Bears (stood there) q → Bears (stood (cond b (Some o) there)) q
-named_there true o there q named others = named refl
-named_there false o there q named others = others
+named_there : (b : Bool) (p : Place) (there : Option Place) (q : DocName) → (b ≡ true → Bears p.document q) → Bears (stood there) q → Bears (stood (cond b (Some p) there)) q
+named_there true p there q named others = named refl
+named_there false p there q named others = others
 
-pub named_put : (es fs : List (DocName × Option Document)) (name : DocName) (o : Option Document)
-    → ((q : DocName) → lookup (is_at (name_cmp q)) fs ≡ cond (is_at (name_cmp name) q) (Some o) (lookup (is_at (name_cmp q)) es))
-    → Bears o name → StandNamed es → StandNamed fs
-named_put es fs name o is bears named q =
+pub named_put : (es fs : List (DocName × Place)) (name : DocName) (p : Place)
+    → ((q : DocName) → lookup (is_at (name_cmp q)) fs ≡ cond (is_at (name_cmp name) q) (Some p) (lookup (is_at (name_cmp q)) es))
+    → Bears p.document name → StandNamed es → StandNamed fs
+named_put es fs name p is bears named q =
     subst (λ t. Bears (stood t) q) (sym (is q))
-    (named_there (is_at (name_cmp name) q) o (lookup (is_at (name_cmp q)) es) q (λ ties. subst (Bears o) (name_is name q ties) bears) (named q))
+    (named_there (is_at (name_cmp name) q) p (lookup (is_at (name_cmp q)) es) q (λ ties. subst (Bears p.document) (name_is name q ties) bears) (named q))
+
+-- where the same stands
+pub named_same : (es fs : List (DocName × Place)) (name : DocName) (p d : Place)
+    → ((q : DocName) → lookup (is_at (name_cmp q)) fs ≡ cond (is_at (name_cmp name) q) (Some p) (lookup (is_at (name_cmp q)) es))
+    → lookup (is_at (name_cmp name)) es ≡ Some d → p.document ≡ d.document → StandNamed es → StandNamed fs
+named_same es fs name p d is there same named =
+    named_put es fs name p is (subst (λ o. Bears o name) (ap stood there ∙ sym same) (named name)) named

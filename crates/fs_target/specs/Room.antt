@@ -1,5 +1,5 @@
 -- Staged events in order, and those that come next. (Only private clauses cite this.)
-use Rattle.std.specs.Prelude.{◌≡◌, ⊤, false, List, [], ◌∷◌, Option, Some, None, refl}
+use Rattle.std.specs.Prelude.{◌≡◌, ⊤, Bool, true, false, List, [], ◌∷◌, Option, Some, None, refl}
 use Rattle.std.specs.Coded.{Coded, code_by, coded×, coded_list}
 use Rattle.std.specs.List.{AllByRecursion}
 use Rattle.std.specs.Ordering.{is_lt}
@@ -27,3 +27,8 @@ AreInOrder (e ∷ es) = AllByRecursion (λ (f : TimedEvent). is_lt (event_cmp f 
 abbrev pub coming_in : Option (Vec TimedEvent Global) → List TimedEvent
 coming_in None = []
 coming_in (Some v) = v.items
+
+-- whether an event comes before the first of others, if there are any
+abbrev pub is_before_first : TimedEvent → List TimedEvent → Bool
+is_before_first e [] = true
+is_before_first e (f ∷ fs) = is_lt (event_cmp e f)

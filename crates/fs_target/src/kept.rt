@@ -125,7 +125,7 @@ fn add_all(
 }
 
 impl Kept {
-    ghost use Rattle.std.specs.Prelude.{◌≡◌, ℤ, [], ◌∷◌, ◌++◌, false, None, IfOk, IfSome, IsTrue, OnOk, OnErr};
+    ghost use Rattle.std.specs.Prelude.{◌≡◌, ℤ, [], ◌∷◌, ◌++◌, false, None, IfOk, IfSome, IsFalse, IsTrue, OnOk, OnErr};
     ghost use Rattle.std.specs.BTreeSet.{contains};
     ghost use Rattle.std.specs.FinMap.{get, is_sorted};
     ghost use Rattle.std.specs.Option.{option_copied, option_map};
@@ -158,6 +158,13 @@ impl Kept {
         ensures { result.now ≡ self.now.kept.staged }
     {
         self.staged.as_slice()
+    }
+
+    /// Whether an event is staged behind a time.
+    pub(crate) fn are_behind(&self, time: Micros) -> bool
+        ensures { IsFalse result → behind time self.now.kept.staged ≡ [] }
+    {
+        self.staged.are_behind(time)
     }
 
     /// Makes an event ready to be taken in, behind those that are.

@@ -14,6 +14,7 @@ mod kept;
 mod keys;
 mod latest;
 mod laws;
+mod place;
 mod places;
 mod positions;
 mod raise;

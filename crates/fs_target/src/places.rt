@@ -7,31 +7,32 @@ ghost use Rattle.fs_target.specs.Latest.{left_behind};
 use crate::event::TimedEvent;
 use crate::keys::add_keys;
 use crate::latest::Latest;
+use crate::place::Place;
 use fs_path::DocName;
+use fs_time::Micros;
 use fs_value::{Document, Documents};
 use std::alloc::{AllocError, Global};
 use std::collections::{BTreeMap, BTreeSet};
 use std::marker::Model;
 
-/// Documents by their names, and places for others, so that these are put in without memory. Contracts see a finite map of what stands at
-/// each place, and the documents are those of it.
+/// Documents by their names, and places for others, so that these are put in without memory. A place knows up to when it is wanted, so that whether it
+/// is given back costs no look at the events. Contracts see a finite map of places, and the documents are those that stand there.
 ///
-///     c/a: {n: 1}, c/b: none     the documents c/a {n: 1}, and room for a c/b
-///     put c/a none               no documents, and room for both
-///     give_back c/a              no documents, and room for a c/b
+///     c/a: {n: 1}, c/b: none until 5     the documents c/a {n: 1}, and room for a c/b
+///     put c/a none                       no documents, and room for both
+///     give_back c/a and c/b at 4         no documents, and room for a c/b
 #[derive(Drop)]
 pub(crate) struct Places {
-    places: BTreeMap<DocName, Option<Document>>,
+    places: BTreeMap<DocName, Place>,
 }
 
 impl Model for Places {
     ghost use Rattle.std.specs.FinMap as map;
-    ghost use Rattle.std.specs.Prelude.{Option};
     ghost use Rattle.fs_path.specs.NameOrder.{name_cmp};
-    ghost use Rattle.fs_value.specs.declared.document.Document.{Document};
     ghost use Rattle.fs_target.specs.Places.{places_code};
+    ghost use Rattle.fs_target.specs.declared.place.Place.{Place};
 
-    ghost Value = { map.FinMap name_cmp (Option Document) };
+    ghost Value = { map.FinMap name_cmp Place };
 
     ghost coded = { places_code };
 
@@ -43,15 +44,12 @@ impl Model for Places {
 }
 
 // What stands at a name behind its last event, if there is one.
-fn left_behind<'a>(
-    event: Option<&'a TimedEvent>,
-    place: &'a Option<Document>,
-) -> Option<&'a Document>
-    ensures { option_copied result ≡ left_behind (option_copied event.entry) place.now }
+fn left_behind<'a>(event: Option<&'a TimedEvent>, place: &'a Place) -> Option<&'a Document>
+    ensures { option_copied result ≡ left_behind (option_copied event.entry) place.now.document }
 {
     match event {
         Some(event) => event.left(),
-        None => place.as_ref(),
+        None => place.document.as_ref(),
     }
 }
 
@@ -67,22 +65,22 @@ fn push_some<'a>(
     Ok(())
 }
 
-fn set(place: &mut Option<Document>, document: Option<Document>)
-    ensures { place.new ≡ document }
+fn set(place: &mut Place, document: Option<Document>)
+    ensures { place.new ≡ record place.old { document = document } }
 {
-    *place = document;
+    place.document = document;
 }
 
 impl Places {
-    ghost use Rattle.std.specs.Prelude.{◌≡◌, false, List, map, IfOk, IfSome, IsTrue, OnOk, is_some};
+    ghost use Rattle.std.specs.Prelude.{◌≡◌, ℤ, false, int_lt, List, map, IfOk, IfSome, IsTrue, None, OnOk, is_some};
     ghost use Rattle.std.specs.BTreeSet.{contains};
     ghost use Rattle.std.specs.FinMap as finite;
     ghost use Rattle.std.specs.Option.{option_copied};
-    ghost use Rattle.fs_path.specs.NameOrder.{name_cmp, name_eq};
+    ghost use Rattle.fs_path.specs.NameOrder.{name_cmp};
     ghost use Rattle.fs_path.specs.declared.name.DocName.{DocName};
     ghost use Rattle.fs_write.specs.Batch.{AreNamed, Bears, with_document};
     ghost use Rattle.fs_target.specs.Latest.{latest_of};
-    ghost use Rattle.fs_target.specs.Places.{HavePlaces, IsPlaced, all_put, docs_in};
+    ghost use Rattle.fs_target.specs.Places.{HavePlaces, IsPlaced, all_put, docs_in, is_until, stood};
     ghost use Rattle.fs_target.specs.Staged.{gone_over};
     ghost use Rattle.fs_target.specs.declared.event.TimedEvent.{TimedEvent};
 
@@ -99,7 +97,11 @@ impl Places {
         ensures { OnOk result (docs_in self.new ≡ finite.insert (docs_in self.old) document.name document) }
     {
         let name = document.name.copy(alloc)?;
-        self.places.insert(name, Some(document))?;
+        let place = Place {
+            document: Some(document),
+            until: None,
+        };
+        self.places.insert(name, place)?;
         Ok(())
     }
 
@@ -118,21 +120,39 @@ impl Places {
         ensures { option_copied result ≡ finite.get (docs_in self.now) name.now }
     {
         match self.places.get(name) {
-            Some(place) => place.as_ref(),
+            Some(place) => place.document.as_ref(),
             None => None,
         }
     }
 
-    // Makes a place for a name.
-    fn make(&mut self, alloc: Global, name: &DocName) -> Result<(), AllocError>
+    // The place of a name stays until a time, where there is one.
+    fn stay(&mut self, name: &DocName, time: Micros)
+        requires { IsTrue (is_some (finite.get self.old name.now)) }
         ensures same { docs_in self.new ≡ docs_in self.old }
-        ensures ok { OnOk result (IsTrue (is_some (finite.get self.new name.now))) }
-        ensures kept { (other : DocName) → IsTrue (is_some (finite.get self.old other)) → IsTrue (is_some (finite.get self.new other)) }
+        ensures stays { IsTrue (is_until time (finite.get self.new name.now)) }
+        ensures kept { (other : DocName) (t : ℤ) → IsTrue (is_until t (finite.get self.old other)) → IsTrue (is_until t (finite.get self.new other)) }
+    {
+        let Some(place) = self.places.get_mut(name) else {
+            return;
+        };
+        place.stay(time);
+    }
+
+    // Makes a place for a name, until a time.
+    fn make(&mut self, alloc: Global, name: &DocName, time: Micros) -> Result<(), AllocError>
+        ensures same { docs_in self.new ≡ docs_in self.old }
+        ensures ok { OnOk result (IsTrue (is_until time (finite.get self.new name.now))) }
+        ensures kept { (other : DocName) (t : ℤ) → IsTrue (is_until t (finite.get self.old other)) → IsTrue (is_until t (finite.get self.new other)) }
     {
         if self.places.contains_key(name) {
+            self.stay(name, time);
             return Ok(());
         }
-        self.places.insert(name.copy(alloc)?, None)?;
+        let place = Place {
+            document: None,
+            until: Some(time),
+        };
+        self.places.insert(name.copy(alloc)?, place)?;
         Ok(())
     }
 
@@ -140,10 +160,10 @@ impl Places {
     pub(crate) fn make_for(&mut self, alloc: Global, event: &TimedEvent) -> Result<(), AllocError>
         ensures same { docs_in self.new ≡ docs_in self.old }
         ensures ok { OnOk result (IsPlaced self.new event.now) }
-        ensures kept { (other : DocName) → IsTrue (is_some (finite.get self.old other)) → IsTrue (is_some (finite.get self.new other)) }
+        ensures kept { (other : DocName) (t : ℤ) → IsTrue (is_until t (finite.get self.old other)) → IsTrue (is_until t (finite.get self.new other)) }
     {
         if event.inside {
-            self.make(alloc, &event.name)
+            self.make(alloc, &event.name, event.time)
         } else {
             Ok(())
         }
@@ -154,7 +174,7 @@ impl Places {
         requires place { IsTrue (is_some document) → IsTrue (is_some (finite.get self.old name.now)) }
         requires named { Bears document name.now }
         ensures docs { docs_in self.new ≡ with_document (docs_in self.old) name.now document }
-        ensures kept { (other : DocName) → IsTrue (is_some (finite.get self.old other)) → IsTrue (is_some (finite.get self.new other)) }
+        ensures kept { (other : DocName) (t : ℤ) → IsTrue (is_until t (finite.get self.old other)) → IsTrue (is_until t (finite.get self.new other)) }
     {
         let Some(place) = self.places.get_mut(name) else {
             return;
@@ -162,12 +182,23 @@ impl Places {
         set(place, document);
     }
 
-    /// Gives the place of a name back, if no document stands there. It takes no memory.
-    pub(crate) fn give_back(&mut self, name: &DocName)
-        ensures docs { docs_in self.new ≡ docs_in self.old }
-        ensures others { (other : DocName) → name_eq other name.now ≡ false → finite.get self.new other ≡ finite.get self.old other }
+    // Whether nothing stands at the place of a name, nor is to be put there behind a time.
+    fn is_free(&self, name: &DocName, time: Micros) -> bool
+        ensures empty { IsTrue result → stood (finite.get self.now name.now) ≡ None }
+        ensures over { IsTrue result → (t : ℤ) → IsTrue (int_lt time t) → is_until t (finite.get self.now name.now) ≡ false }
     {
-        if self.get(name).is_none() {
+        match self.places.get(name) {
+            Some(place) => place.is_free(time),
+            None => false,
+        }
+    }
+
+    /// Gives the place of a name back, if nothing stands there, nor is to be put there behind a time. It takes no memory.
+    pub(crate) fn give_back(&mut self, name: &DocName, time: Micros)
+        ensures docs { docs_in self.new ≡ docs_in self.old }
+        ensures kept { (other : DocName) (t : ℤ) → IsTrue (int_lt time t) → IsTrue (is_until t (finite.get self.old other)) → IsTrue (is_until t (finite.get self.new other)) }
+    {
+        if self.is_free(name, time) {
             drop(self.places.remove(name));
         }
     }

@@ -1,32 +1,34 @@
 //! The staged events of a target.
-ghost use Rattle.std.specs.Prelude.{◌≡◌, ◌<◌, ◌≤◌, ◌+◌, ◌&&◌, ◌∷◌, ◌++◌, [], IsTrue, OnErr, OnOk, insert, int_lt, is_some, length};
+ghost use Rattle.std.specs.Prelude.{◌≡◌, ◌<◌, ◌≤◌, ◌+◌, ◌∷◌, ◌++◌, [], ℤ, IsTrue, OnErr, OnOk, insert, int_lt, length, reverse};
 ghost use Rattle.std.specs.FinMap.{get};
-ghost use Rattle.std.specs.List.{list_any};
 ghost use Rattle.std.specs.Vec.{vec_len, vec_capacity};
-ghost use Rattle.fs_path.specs.NameOrder.{name_eq};
 ghost use Rattle.fs_path.specs.declared.name.DocName.{DocName};
 ghost use Rattle.fs_write.specs.Batch.{with_document};
-ghost use Rattle.fs_target.specs.Places.{HasPlace, HavePlaces, docs_in};
-ghost use Rattle.fs_target.specs.Room.{AreInOrder, coming_in};
+ghost use Rattle.fs_target.specs.Places.{HasPlace, HavePlaces, docs_in, is_until};
+ghost use Rattle.fs_target.specs.Room.{AreInOrder, coming_in, is_before_first};
 ghost use Rattle.fs_target.specs.Staged.{behind, event_cmp, gone_over, left_by, put_event, put_events, up_to};
 
 use crate::event::TimedEvent;
 use crate::places::Places;
-use fs_path::DocName;
 use fs_time::Micros;
 use std::alloc::{AllocError, Global};
 use std::cmp::Ordering;
 use std::marker::Model;
 
-/// Events by time and then by name, and those that come next, for which there is room.
+/// Events by time and then by name, and those that come next, for which there is room. They are put in by one walk: what the first of them comes
+/// before is set aside, and is put back, the last first, as it is their turn.
 ///
-///     staged       5 c/a, 7 c/a      coming 6 c/b, 7 c/a
-///     taken in     5 c/a, 6 c/b, 7 c/a, 7 c/a
+///     staged                   5 c/a, 7 c/a                   coming 6 c/b, 8 c/a
+///     set aside by 6 c/b       5 c/a                          aside 7 c/a
+///     6 c/b is put             5 c/a, 6 c/b                   aside 7 c/a
+///     8 c/a is put             5 c/a, 6 c/b, 7 c/a, 8 c/a
 #[derive(Drop)]
 pub(crate) struct Staged {
     items: Vec<TimedEvent>,
     // in the order in which they are put in
     coming: Option<Vec<TimedEvent>>,
+    // none between two calls, but room for those that one of the coming is before
+    aside: Vec<TimedEvent>,
 }
 
 impl Model for Staged {
@@ -36,13 +38,13 @@ impl Model for Staged {
 
     ghost coded = { coming_code };
 
-    ghost use Rattle.std.specs.Prelude.{◌≤◌, ◌+◌, length};
+    ghost use Rattle.std.specs.Prelude.{◌≡◌, ◌≤◌, ◌+◌, [], length};
     ghost use Rattle.std.specs.Vec.{vec_len, vec_capacity};
     ghost use Rattle.fs_target.specs.Room.{AreInOrder, coming_in};
 
     ghost view = { λ s. record { staged = s.items.items; coming = coming_in s.coming } };
 
-    ghost invariant = { λ s. (vec_len s.items + length (coming_in s.coming) ≤ vec_capacity s.items) × AreInOrder s.items.items };
+    ghost invariant = { λ s. (vec_len s.items + length (coming_in s.coming) ≤ vec_capacity s.items) × (AreInOrder s.items.items × (s.aside.items ≡ [])) };
 }
 
 // Whether an event comes before another.
@@ -87,24 +89,131 @@ fn put(staged: &mut Vec<TimedEvent>, event: TimedEvent)
     insert_at(staged, place, event);
 }
 
-// Puts events at their places, one after another, where there is room for them.
-fn put_all(staged: &mut Vec<TimedEvent>, coming: Vec<TimedEvent>)
+// ---- events that are put among others in one walk
+
+// Whether an event comes before the last of others, if there are any.
+fn is_before(event: &TimedEvent, others: &[TimedEvent]) -> bool
+    ensures { result ≡ is_before_first event.now (reverse others.now) }
+{
+    match others.last() {
+        Some(last) => event_cmp(event, last).is_lt(),
+        None => true,
+    }
+}
+
+// Moves the last of some events behind others, if there is one and room for it.
+fn move_last(from: &mut Vec<TimedEvent>, to: &mut Vec<TimedEvent>)
+    requires { vec_len to.old < vec_capacity to.old }
+    ensures there { from.new.items ++ reverse to.new.items ≡ from.old.items ++ reverse to.old.items }
+    ensures back { to.new.items ++ reverse from.new.items ≡ to.old.items ++ reverse from.old.items }
+    ensures len { vec_len from.new + vec_len to.new ≡ vec_len from.old + vec_len to.old }
+    ensures fewer { 0 < vec_len from.old → vec_len from.new < vec_len from.old }
+    ensures from_capacity { vec_capacity from.old ≤ vec_capacity from.new }
+    ensures to_capacity { vec_capacity to.old ≤ vec_capacity to.new }
+{
+    if let Some(event) = from.pop() {
+        to.push_reserved(event);
+    }
+}
+
+// Sets those aside that an event comes before, as far as there is room for them.
+fn set_aside(staged: &mut Vec<TimedEvent>, aside: &mut Vec<TimedEvent>, event: &TimedEvent)
+    ensures whole { staged.new.items ++ reverse aside.new.items ≡ staged.old.items ++ reverse aside.old.items }
+    ensures len { vec_len staged.new + vec_len aside.new ≡ vec_len staged.old + vec_len aside.old }
+    ensures capacity { vec_capacity staged.old ≤ vec_capacity staged.new }
+{
+    while aside.len() < aside.capacity()
+        && !staged.is_empty()
+        && is_before(event, staged.as_slice())
+    {
+        move_last(staged, aside);
+    }
+}
+
+// Sets those aside that the first of the coming comes before.
+fn make_way(staged: &mut Vec<TimedEvent>, aside: &mut Vec<TimedEvent>, coming: &[TimedEvent])
+    ensures whole { staged.new.items ++ reverse aside.new.items ≡ staged.old.items ++ reverse aside.old.items }
+    ensures len { vec_len staged.new + vec_len aside.new ≡ vec_len staged.old + vec_len aside.old }
+    ensures capacity { vec_capacity staged.old ≤ vec_capacity staged.new }
+{
+    match coming.first() {
+        Some(first) => set_aside(staged, aside, first),
+        None => {}
+    }
+}
+
+// Puts those back that an event doesn't come before.
+fn put_back(staged: &mut Vec<TimedEvent>, aside: &mut Vec<TimedEvent>, event: &TimedEvent)
+    requires { vec_len staged.old + vec_len aside.old ≤ vec_capacity staged.old }
+    ensures whole { staged.new.items ++ reverse aside.new.items ≡ staged.old.items ++ reverse aside.old.items }
+    ensures before { IsTrue (is_before_first event.now (reverse aside.new.items)) }
+    ensures len { vec_len staged.new + vec_len aside.new ≡ vec_len staged.old + vec_len aside.old }
+    ensures capacity { vec_capacity staged.old ≤ vec_capacity staged.new }
+{
+    while !is_before(event, aside.as_slice()) {
+        move_last(aside, staged);
+    }
+}
+
+fn put_all_back(staged: &mut Vec<TimedEvent>, aside: &mut Vec<TimedEvent>)
+    requires { vec_len staged.old + vec_len aside.old ≤ vec_capacity staged.old }
+    ensures staged { staged.new.items ≡ staged.old.items ++ reverse aside.old.items }
+    ensures aside { aside.new.items ≡ [] }
+    ensures room { vec_len staged.new ≤ vec_capacity staged.new }
+{
+    while !aside.is_empty() {
+        move_last(aside, staged);
+    }
+}
+
+// Puts an event at its place, among those that are set aside and those that aren't.
+fn put_among(staged: &mut Vec<TimedEvent>, aside: &mut Vec<TimedEvent>, event: TimedEvent)
+    requires room { vec_len staged.old + vec_len aside.old < vec_capacity staged.old }
+    requires order { AreInOrder (staged.old.items ++ reverse aside.old.items) }
+    ensures items { staged.new.items ++ reverse aside.new.items ≡ put_event event (staged.old.items ++ reverse aside.old.items) }
+    ensures order { AreInOrder (staged.new.items ++ reverse aside.new.items) }
+    ensures len { vec_len staged.new + vec_len aside.new ≡ vec_len staged.old + vec_len aside.old + 1 }
+    ensures capacity { vec_capacity staged.old ≤ vec_capacity staged.new }
+{
+    put_back(staged, aside, &event);
+    put(staged, event);
+}
+
+// Puts events at their places, one after another. Where each comes behind the one before it, that is one walk.
+fn put_each(staged: &mut Vec<TimedEvent>, aside: &mut Vec<TimedEvent>, coming: Vec<TimedEvent>)
+    requires room { vec_len staged.old + vec_len aside.old + vec_len coming ≤ vec_capacity staged.old }
+    requires order { AreInOrder (staged.old.items ++ reverse aside.old.items) }
+    ensures items { staged.new.items ++ reverse aside.new.items ≡ put_events coming.items (staged.old.items ++ reverse aside.old.items) }
+    ensures order { AreInOrder (staged.new.items ++ reverse aside.new.items) }
+    ensures room { vec_len staged.new + vec_len aside.new ≤ vec_capacity staged.new }
+{
+    for event in coming {
+        put_among(staged, aside, event);
+    }
+}
+
+// Puts events at their places, where there is room for them.
+fn put_all(staged: &mut Vec<TimedEvent>, aside: &mut Vec<TimedEvent>, coming: Vec<TimedEvent>)
     requires room { vec_len staged.old + vec_len coming ≤ vec_capacity staged.old }
     requires order { AreInOrder staged.old.items }
+    requires none { aside.old.items ≡ [] }
     ensures items { staged.new.items ≡ put_events coming.items staged.old.items }
+    ensures aside { aside.new.items ≡ [] }
     ensures room { vec_len staged.new ≤ vec_capacity staged.new }
     ensures order { AreInOrder staged.new.items }
 {
-    for event in coming {
-        put(staged, event);
-    }
+    make_way(staged, aside, coming.as_slice());
+    put_each(staged, aside, coming);
+    put_all_back(staged, aside);
 }
+
+// ---- going to a time
 
 // Puts what an event leaves at its place, with its document.
 fn leave(event: &mut TimedEvent, places: &mut Places)
     requires { HasPlace places.old event.old }
     ensures docs { docs_in places.new ≡ with_document (docs_in places.old) event.old.name (left_by event.old) }
-    ensures kept { (name : DocName) → IsTrue (is_some (get places.old name)) → IsTrue (is_some (get places.new name)) }
+    ensures kept { (name : DocName) (t : ℤ) → IsTrue (is_until t (get places.old name)) → IsTrue (is_until t (get places.new name)) }
     ensures time { event.new.time ≡ event.old.time }
     ensures name { event.new.name ≡ event.old.name }
 {
@@ -116,7 +225,7 @@ fn leave(event: &mut TimedEvent, places: &mut Places)
 fn leave_by(event: &mut TimedEvent, places: &mut Places, time: Micros)
     requires { HavePlaces places.old (up_to time (event.old ∷ [])) }
     ensures docs { docs_in places.new ≡ gone_over (up_to time (event.old ∷ [])) (docs_in places.old) }
-    ensures kept { (name : DocName) → IsTrue (is_some (get places.old name)) → IsTrue (is_some (get places.new name)) }
+    ensures kept { (name : DocName) (t : ℤ) → IsTrue (is_until t (get places.old name)) → IsTrue (is_until t (get places.new name)) }
     ensures behind { behind time (event.new ∷ []) ≡ behind time (event.old ∷ []) }
     ensures time { event.new.time ≡ event.old.time }
     ensures name { event.new.name ≡ event.old.name }
@@ -131,7 +240,7 @@ fn leave_by(event: &mut TimedEvent, places: &mut Places, time: Micros)
 fn leave_all(staged: &mut [TimedEvent], places: &mut Places, time: Micros)
     requires { HavePlaces places.old (up_to time staged.old) }
     ensures docs { docs_in places.new ≡ gone_over (up_to time staged.old) (docs_in places.old) }
-    ensures kept { (name : DocName) → IsTrue (is_some (get places.old name)) → IsTrue (is_some (get places.new name)) }
+    ensures kept { (name : DocName) (t : ℤ) → IsTrue (is_until t (get places.old name)) → IsTrue (is_until t (get places.new name)) }
     ensures behind { behind time staged.new ≡ behind time staged.old }
     ensures order { AreInOrder staged.old → AreInOrder staged.new }
 {
@@ -168,32 +277,23 @@ fn push(
     }
 }
 
-// Whether an event behind a time is of a name.
-fn is_awaited(staged: &[TimedEvent], name: &DocName, time: Micros) -> bool
-    ensures { result ≡ list_any (λ (e : TimedEvent). int_lt time e.time && name_eq e.name name.now) staged.now }
-{
-    staged
-        .iter()
-        .any(|event| time < event.time && event.name == *name)
-}
-
-// Gives the place of an event back where no document stands, if it isn't behind a time and none behind that waits for it.
-fn give_back(staged: &[TimedEvent], event: &TimedEvent, places: &mut Places, time: Micros)
+// Gives the place of an event back where nothing stands, nor is to be put there behind a time, if the event isn't behind that.
+fn give_back(event: &TimedEvent, places: &mut Places, time: Micros)
     ensures docs { docs_in places.new ≡ docs_in places.old }
-    ensures places { HavePlaces places.old (behind time staged.now) → HavePlaces places.new (behind time staged.now) }
+    ensures kept { (name : DocName) (t : ℤ) → IsTrue (int_lt time t) → IsTrue (is_until t (get places.old name)) → IsTrue (is_until t (get places.new name)) }
 {
-    if event.time <= time && !is_awaited(staged, &event.name, time) {
-        places.give_back(&event.name);
+    if event.time <= time {
+        places.give_back(&event.name, time);
     }
 }
 
 // The same of each of them.
 fn give_back_all(staged: &[TimedEvent], places: &mut Places, time: Micros)
     ensures docs { docs_in places.new ≡ docs_in places.old }
-    ensures places { HavePlaces places.old (behind time staged.now) → HavePlaces places.new (behind time staged.now) }
+    ensures kept { (name : DocName) (t : ℤ) → IsTrue (int_lt time t) → IsTrue (is_until t (get places.old name)) → IsTrue (is_until t (get places.new name)) }
 {
     for event in staged {
-        give_back(staged, event, places, time);
+        give_back(event, places, time);
     }
 }
 
@@ -207,7 +307,7 @@ fn drop_up_to(staged: &mut Vec<TimedEvent>, time: Micros)
 }
 
 impl Staged {
-    ghost use Rattle.std.specs.Prelude.{◌≡◌, ◌∷◌, ◌++◌, [], OnOk, OnErr};
+    ghost use Rattle.std.specs.Prelude.{◌≡◌, ◌∷◌, ◌++◌, [], IsFalse, OnOk, OnErr};
     ghost use Rattle.fs_target.specs.Places.{HavePlaces, docs_in};
     ghost use Rattle.fs_target.specs.Staged.{behind, gone_over, put_events, up_to};
 
@@ -218,6 +318,7 @@ impl Staged {
         Staged {
             items: Vec::new(alloc),
             coming: None,
+            aside: Vec::new(alloc),
         }
     }
 
@@ -227,6 +328,16 @@ impl Staged {
         self.items.as_slice()
     }
 
+    /// Whether one is behind a time.
+    pub(crate) fn are_behind(&self, time: Micros) -> bool
+        ensures { IsFalse result → behind time self.now.staged ≡ [] }
+    {
+        match self.items.last() {
+            Some(last) => time < last.time,
+            None => false,
+        }
+    }
+
     /// Lets an event come next, behind those that do, with room for it. Where memory runs out, those stay.
     pub(crate) fn prepare(&mut self, alloc: Global, event: &TimedEvent) -> Result<(), AllocError>
         ensures staged { self.new.staged ≡ self.old.staged }
@@ -234,6 +345,9 @@ impl Staged {
         ensures err { OnErr result (self.new.coming ≡ self.old.coming) }
     {
         self.items.reserve(count(&self.coming) + 1)?;
+        if is_before(event, self.items.as_slice()) {
+            self.aside.reserve(self.items.len())?;
+        }
         push(alloc, &mut self.coming, event.copy(alloc)?)
     }
 
@@ -251,7 +365,7 @@ impl Staged {
         ensures coming { self.new.coming ≡ [] }
     {
         if let Some(coming) = self.coming.take() {
-            put_all(&mut self.items, coming);
+            put_all(&mut self.items, &mut self.aside, coming);
         }
     }
 

@@ -1,14 +1,12 @@
 //! Targets that stand still, so that a commit that concerns none of them costs no look at them.
-ghost use Rattle.std.specs.Prelude.{◌≡◌, false, IfOk, IfSome, IsTrue, Some, int_lt, map, option_map};
-ghost use Rattle.std.specs.List.{AllByRecursion, list_any};
+ghost use Rattle.std.specs.Prelude.{◌≡◌, false, IfOk, IfSome, IsTrue, Some, map, option_map};
+ghost use Rattle.std.specs.List.{AllByRecursion};
 ghost use Rattle.fs_listen.specs.Cuts.{positions_of};
 ghost use Rattle.fs_target.specs.Seen.{loaded_in, seen};
 ghost use Rattle.fs_target.specs.Still.{WillBe, all_joined, first_of, in_all, in_own, joined, nones, seen_at};
-ghost use Rattle.fs_target.specs.declared.event.TimedEvent.{TimedEvent};
 
 use crate::cuts::{cut_at, greater, is_behind, is_from, least_of};
 use crate::entry::{Entry, Loaded};
-use crate::event::TimedEvent;
 use crate::positions::position_at_place;
 use fs_listen::Cut;
 use fs_time::Micros;
@@ -196,19 +194,12 @@ fn agree(own: &[Option<Micros>], positions: &[Option<Micros>]) -> bool
     true
 }
 
-// Whether an event is behind a time.
-fn is_awaited(staged: &[TimedEvent], time: Micros) -> bool
-    ensures { result ≡ list_any (λ (e : TimedEvent). int_lt time e.time) staged.now }
-{
-    staged.iter().any(|event| time < event.time)
-}
-
 fn will_be(entry: &Entry, positions: &[Option<Micros>], time: Micros) -> bool
     ensures { IsTrue result → WillBe time positions.now (seen entry.now) }
 {
     match &entry.loaded {
         Some(loaded) => {
-            agree(loaded.positions.as_slice(), positions) && !is_awaited(loaded.kept.staged(), time)
+            agree(loaded.positions.as_slice(), positions) && !loaded.kept.are_behind(time)
         }
         None => false,
     }

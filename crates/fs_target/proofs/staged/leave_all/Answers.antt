@@ -21,7 +21,7 @@ loop-i-preserved c =
     record {
       gone = gone_next c.args.time l.staged l.i d within (docs_in l.places) (docs_in c.leave_by.new.places) y done.docs ∙ l.invariant.gone;
       places = places_next c.args.time l.staged l.i d within l.places c.leave_by.new.places y done.kept l.invariant.places;
-      kept = λ name some. done.kept name (l.invariant.kept name some);
+      kept = λ name t some. done.kept name t (l.invariant.kept name t some);
       behind = filter_set (λ (e : TimedEvent). int_lt c.args.time e.time) l.staged l.i y d within done.behind ∙ l.invariant.behind;
       order = λ first. order_set l.staged l.i y d within done.time done.name (l.invariant.order first);
     }

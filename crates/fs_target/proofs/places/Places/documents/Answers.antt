@@ -30,8 +30,8 @@ loop-name-preserved c =
     let latest = c.args.latest.now in
     let so_far = docs_of l.lent.items in
     let rest = shown latest c.next.new.self in
-    let left = left_behind (get latest c.in-Some.name.now) c.in-Some.place.now in
-    let is = c.left_behind.ensures ∙ ap (λ o. left_behind o c.in-Some.place.now) c.get.ensures in
+    let left = left_behind (get latest c.in-Some.name.now) c.in-Some.place.now.document in
+    let is = c.left_behind.ensures ∙ ap (λ o. left_behind o c.in-Some.place.now.document) c.get.ensures in
     ap (λ ds. ds ++ rest) c.in_ok-push_some.ensures
     ∙ ap (λ o. (so_far ++ cons_option o []) ++ rest) is
     ∙ append_assoc so_far (cons_option left []) rest
