@@ -1,6 +1,6 @@
 -- What is asked of the targets of a session, by their entries.
-use Rattle.std.proofs.Common.{◌≡◌, ℕ, ◌<◌, ◌≤◌, ℤ, true, false, cond, List, [], ◌∷◌, length, Option, Some, None, map, refl, sym, ap, ◌∙◌, subst, arith}
-use Rattle.std.specs.Prelude.{IfSome, is_some, nat_le}
+use Rattle.std.proofs.Common.{◌≡◌, ℕ, ◌<◌, ◌≤◌, ℤ, true, false, cond, List, [], ◌∷◌, length, Option, Some, None, Result, Ok, Err, map, refl, sym, ap, ◌∙◌, subst, arith}
+use Rattle.std.specs.Prelude.{⊤, IfErr, IfSome, OnOk, alloc_error, is_some, nat_le}
 use Rattle.std.specs.FinMap.{from_entries, get, keys, len, len-entries}
 use Rattle.std.specs.Option.{option_map}
 use Rattle.std.specs.Ordering.{nat_cmp}
@@ -8,7 +8,7 @@ use Rattle.std.proofs.lemmas.Bool.Decides.{nat_tests}
 use Rattle.std.proofs.lemmas.List.{length-map}
 use Rattle.std.proofs.lemmas.Simd.{map-map}
 use Rattle.fs_listen.specs.Listening.{Listened}
-use Rattle.fs_target.specs.Entries.{IsAbsentAt, IsThereAt, Rises, found, ids_of}
+use Rattle.fs_target.specs.Entries.{IsAbsentAt, IsKeptOut, IsThereAt, Rises, found, ids_of}
 use Rattle.fs_target.specs.Held.{Held, refusal}
 use Rattle.fs_target.specs.Seen.{Seen, held_of, listed_in, listening_of, seen}
 use Rattle.fs_target.specs.declared.entry.Entry.{Entry}
@@ -67,18 +67,15 @@ module _ (shards limit : ℕ) (raised : Option ℤ) (id : ℕ) (ss : List Seen) 
   not_refused rise low i at =
       few rise low ∙ ap (λ (o : Option Listened). cond (is_some o) (Some (error.InUse id)) None) (none_there raised id ss i at)
 
--- what is told of entries holds of what contracts see of them
-pub as_held : (shards limit : ℕ) (raised : Option ℤ) (id : ℕ) (es fs : List Entry) (h : Held) (o : Option TargetError) → es ≡ fs → held_of shards limit raised (map seen fs) ≡ h
-    → refusal id (held_of shards limit raised (map seen es)) ≡ o → refusal id h ≡ o
-as_held shards limit raised id es fs h o same is told =
-    sym (ap (λ (gs : List Entry). refusal id (held_of shards limit raised (map seen gs))) same ∙ ap (refusal id) is) ∙ told
+-- the refusal itself, by what keeps it out
+pub refused_by : (o : Option TargetError) (r : Result ⊤ TargetError) → OnOk r (o ≡ None) → IfErr r (IsKeptOut o) → IfSome o (λ e. r ≡ Err e)
+refused_by None r ok err = tt
+refused_by (Some e) (Ok u) ok err = absurd (cc)
+refused_by (Some e) (Err f) ok err = ap (λ (x : TargetError). Err x) err
 
--- of what may be there, which is known
-pub when_some : {A : Type 0} (P : A → Type 0) (o : Option A) (x : A) → o ≡ Some x → P x → IfSome o P
-when_some P o x is here = subst (λ p. IfSome p P) (sym is) here
-
-pub when_none : {A : Type 0} (P : A → Type 0) (o : Option A) → o ≡ None → IfSome o P
-when_none P o none = subst (λ p. IfSome p P) (sym none) tt
+pub taken_by : (o : Option TargetError) (r : Result ⊤ TargetError) → IfErr r (IsKeptOut o) → o ≡ None → IfErr r (λ e. e ≡ error.Memory alloc_error)
+taken_by None r err none = err
+taken_by (Some e) r err none = absurd (cc)
 
 -- ---- of all
 

@@ -13,7 +13,7 @@ use Rattle.fs_query.specs.declared.target.Target.{Target}
 use Rattle.fs_target.specs.Entries.{IsAbsentAt, IsThereAt, Rises, fed_in, raised_in}
 use Rattle.fs_target.specs.Held.{Held, each_kept, events_behind, fed, kept_fed, kept_raised, position_in, raised_at, with_loaded, with_target, without_target}
 use Rattle.fs_target.specs.Kept.{Kept}
-use Rattle.fs_target.specs.Seen.{Seen, held_of, kept_in, listed_in, listening_of, seen}
+use Rattle.fs_target.specs.Seen.{Seen, held_of, kept_in, listed_in, listening_of, loaded_in, seen}
 use Rattle.fs_target.specs.declared.entry.Entry.{Entry}
 use Rattle.fs_target.specs.declared.entry.Loaded as entry
 use Rattle.fs_target.specs.declared.event.TimedEvent.{TimedEvent}
@@ -61,14 +61,15 @@ module _ (shards limit : ℕ) (raised : Option ℤ) where
       (sym (target_there id ss i s rise at is))
 
   -- the same of an entry at its place, by what was put there
-  pub held_put : (id : ℕ) (es : List Entry) (i : ℕ) (e : Entry) (l : entry.Loaded) (sent docs : List Document) → Rises (map seen es) → IsThereAt id (map seen es) i
-      → e ≡ get_or es i e → l.positions.items ≡ positions_at shards e.target l.time → l.current ≡ false → l.kept.kept ≡ record { sent = docs_of sent; docs = docs_of docs; staged = [] }
-      → held (set (map seen es) i (seen (record e { loaded = Some l }))) ≡ with_loaded id sent l.reset docs l.time (held (map seen es))
-  held_put id es i e l sent docs rise at is positions current kept =
-      held_loaded id (map seen es) i (seen e) (seen (record e { loaded = Some l })) l.time l.reset sent docs rise at
+  pub held_put : (id : ℕ) (es : List Entry) (i : ℕ) (e : Entry) (l : entry.Loaded) (time : ℤ) (reset : Bool) (sent docs : List Document) → Rises (map seen es) → IsThereAt id (map seen es) i
+      → e ≡ get_or es i e → loaded_in l ≡ record { time = time; reset = reset; positions = positions_at shards e.target time; current = false }
+      → l.kept.kept ≡ record { sent = docs_of sent; docs = docs_of docs; staged = [] }
+      → held (set (map seen es) i (seen (record e { loaded = Some l }))) ≡ with_loaded id sent reset docs time (held (map seen es))
+  held_put id es i e l time reset sent docs rise at is loaded kept =
+      held_loaded id (map seen es) i (seen e) (seen (record e { loaded = Some l })) time reset sent docs rise at
       (ap seen is ∙ sym (get_or-map seen es i e (seen e) (within_there id es i at)))
       (ap (λ (d : Entry). d.id) is ∙ same_there id es i e at)
-      (λ j. record { target = e.target; token = e.token; loaded = Some (record { time = l.time; reset = l.reset; positions = positions j; current = current j }) })
+      (λ j. record { target = e.target; token = e.token; loaded = Some (loaded j) })
       (ap (λ (k : Kept). Some k) kept)
 
   -- ---- all of them

@@ -64,18 +64,6 @@ module _ (m : Prepared) where
       ∙ same
       ∙ sym (len_is m.shards m.limit m.raised 0 ts (rises_at s.positions.items m.entries are.of.rise))
 
-  -- why one more isn't added
-  pub refusal_shown : (o : Option Still) → IfSome o (λ s. AreStill s m) → (id : ℕ) → refusal id (held_in m) ≡ refusal id (held_in (as_awake o m))
-  refusal_shown None are id = refl
-  refusal_shown (Some s) are id =
-      let known = asked_same (λ (x : Option Listened). is_some x) known_same (Some s) id in
-      let many = len_shown (Some s) are in
-      λ i. cond (nat_le m.limit (many i)) (Some (error.TooMany m.limit)) (cond (known i) (Some (error.InUse id)) None)
-    where
-      known_same : (ps : List (Option ℤ)) (x : Option Listened) → is_some (option_map (listened_at ps) x) ≡ is_some x
-      known_same ps None = refl
-      known_same ps (Some l) = refl
-
   -- a position
   position_of_all : (ps : List (Option ℤ)) (shard : ℕ) (x : Option Listened) → position_in shard (option_map (listened_at ps) x) ≡ in_own (position_in shard x) (get_or ps shard None)
   position_of_all ps shard None = refl

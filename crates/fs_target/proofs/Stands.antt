@@ -29,16 +29,6 @@ use Rattle.fs_target.proofs.EachEntry.{map_found}
 use Rattle.fs_target.proofs.Entries.{entries_of, get_of, rises_changed}
 use Rattle.fs_target.proofs.InShards.{least_at, least_had, length_all}
 
--- ---- nothing behind a time
-
-pub none_awaited : (time : ℤ) (es : List TimedEvent) → not (list_any (λ (e : TimedEvent). int_lt time e.time) es) ≡ true → behind time es ≡ []
-none_awaited time [] none = refl
-none_awaited time (e ∷ es) none = by_test (int_lt time e.time) (none_awaited time es) none where
-  by_test : (b : Bool) → (not (list_any (λ (f : TimedEvent). int_lt time f.time) es) ≡ true → behind time es ≡ [])
-      → not (b || list_any (λ (f : TimedEvent). int_lt time f.time) es) ≡ true → cond b (e ∷ behind time es) (behind time es) ≡ []
-  by_test true rest is = absurd (cc)
-  by_test false rest is = rest is
-
 -- ---- an entry
 
 module _ (ps : List (Option ℤ)) where

@@ -1,5 +1,5 @@
 -- The places of entries by rising ids, and what happens to entries. (Only private clauses cite this.)
-use Rattle.std.specs.Prelude.{◌≡◌, ℕ, ℤ, ◌<◌, ◌≤◌, IsTrue, List, [], ◌∷◌, ◌++◌, Option, Some, length, map, not, slice_index_or, true}
+use Rattle.std.specs.Prelude.{◌≡◌, ℕ, ℤ, ◌<◌, ◌≤◌, IsTrue, List, [], ◌∷◌, ◌++◌, Option, Some, None, alloc_error, length, map, not, slice_index_or, true}
 use Rattle.std.specs.FinMap.{is_sorted}
 use Rattle.std.specs.List.{filter, filter_map, find}
 use Rattle.std.specs.Option.{option_map}
@@ -18,6 +18,8 @@ use Rattle.fs_target.specs.Ready.{Ready, sent_of}
 use Rattle.fs_target.specs.Seen.{Seen, listed_in, loaded_in, seen}
 use Rattle.fs_target.specs.Staged.{behind, put_events}
 use Rattle.fs_target.specs.declared.entry.Entry.{Entry}
+use Rattle.fs_target.specs.declared.error.TargetError.{TargetError}
+use Rattle.fs_target.specs.declared.error.TargetError.TheVariants as error
 use Rattle.fs_target.specs.declared.entry.Loaded as entry
 use Rattle.fs_target.specs.declared.event.TimedEvent.{TimedEvent}
 
@@ -40,6 +42,11 @@ pub record IsAbsentAt (id : ℕ) (ss : List Seen) (i : ℕ) : Type 0 where
   pub within : i ≤ length ss
   pub before : (k : ℕ) (s : Seen) → k < i → nat_cmp (slice_index_or ss k s).id id ≡ Less
   pub after : (k : ℕ) (s : Seen) → i ≤ k → k < length ss → nat_cmp (slice_index_or ss k s).id id ≡ Greater
+
+-- why a target isn't put in: it is refused, or there is no memory
+abbrev pub IsKeptOut : Option TargetError → TargetError → Type 0
+IsKeptOut None e = e ≡ error.Memory alloc_error
+IsKeptOut (Some refusal) e = e ≡ refusal
 
 abbrev pub found : ℕ → List Seen → Option Seen
 found id ss = find (λ (s : Seen). eq_by_cmp nat_cmp id s.id) ss

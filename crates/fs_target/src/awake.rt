@@ -1,9 +1,16 @@
 //! The targets of a session, each at positions of its own.
-ghost use Rattle.std.specs.Prelude.{◌≡◌, ◌<◌, ℕ, ℤ, Option, None, Some, IfErr, IfOk, OnOk, length, map};
+ghost use Rattle.std.specs.Prelude.{◌≡◌, ◌<◌, ◌≤◌, [], ℕ, ℤ, Option, None, Some, false, IfErr, IfOk, IsTrue, OnErr, OnOk, alloc_error, insert, length, map};
+ghost use Rattle.std.specs.FinMap.{is_sorted};
 ghost use Rattle.std.specs.List.{remove};
-ghost use Rattle.fs_target.specs.Entries.{IsAbsentAt, Rises};
+ghost use Rattle.fs_path.specs.NameOrder.{name_cmp};
+ghost use Rattle.fs_path.specs.Scope.{AreShards};
+ghost use Rattle.fs_value.specs.Named.{by_name};
+ghost use Rattle.fs_write.specs.Batch.{docs_of};
+ghost use Rattle.fs_listen.specs.Listening.{positions_at};
+ghost use Rattle.fs_target.specs.Collections.{HasAll, HasThoseOf};
+ghost use Rattle.fs_target.specs.Entries.{IsAbsentAt, IsKeptOut, IsThereAt, Rises};
 ghost use Rattle.fs_target.specs.Held.{refusal};
-ghost use Rattle.fs_target.specs.Seen.{held_of, seen};
+ghost use Rattle.fs_target.specs.Seen.{held_of, loaded_in, seen};
 
 use crate::collections::Collections;
 use crate::cuts;
@@ -75,7 +82,80 @@ fn take_out(entries: &mut Vec<Entry>, i: usize)
     requires { i < length entries.old.items }
     ensures { entries.new.items ≡ remove entries.old.items i }
 {
-    let _ = entries.remove(i);
+    drop(entries.remove(i));
+}
+
+// The place for one more target, whose collections are put in, or why there is none.
+fn make_way(
+    entries: &[Entry],
+    collections: &mut Collections,
+    limit: u64,
+    id: u32,
+    target: &Target,
+) -> Result<usize, TargetError>
+    requires rise { Rises (map seen entries.now) }
+    requires had { HasAll collections.old.ids (map seen entries.now) }
+    ensures place { IfOk result (IsAbsentAt id (map seen entries.now)) }
+    ensures kept { HasAll collections.new.ids (map seen entries.now) }
+    ensures put { OnOk result (HasThoseOf collections.new.ids target.now) }
+    ensures ok { (shards : ℕ) (raised : Option ℤ) → OnOk result (refusal id (held_of shards limit raised (map seen entries.now)) ≡ None) }
+    ensures err { (shards : ℕ) (raised : Option ℤ) → IfErr result (IsKeptOut (refusal id (held_of shards limit raised (map seen entries.now)))) }
+{
+    let i = match place_for(entries, limit, id) {
+        Ok(i) => i,
+        Err(refusal) => return Err(refusal),
+    };
+    match collections.add(entries, target) {
+        Ok(()) => Ok(i),
+        Err(error) => Err(TargetError::Memory(error)),
+    }
+}
+
+fn put_in(entries: &mut Vec<Entry>, i: usize, entry: Entry) -> Result<(), TargetError>
+    requires { i ≤ length entries.old.items }
+    ensures ok { OnOk result (entries.new.items ≡ insert entries.old.items i entry) }
+    ensures err { OnErr result (entries.new.items ≡ entries.old.items) }
+    ensures memory { IfErr result (λ e. e ≡ TargetError.Memory alloc_error) }
+{
+    Ok(entries.insert(i, entry)?)
+}
+
+// The place of a target that is there.
+fn place_there(entries: &[Entry], id: u32) -> usize
+    requires rise { Rises (map seen entries.now) }
+    requires there { (i : ℕ) → IsAbsentAt id (map seen entries.now) i → ⊥ }
+    ensures { IsThereAt id (map seen entries.now) result }
+{
+    match place_of(entries, u64::from(id)) {
+        Ok(i) => i,
+        Err(_) => unreachable!(),
+    }
+}
+
+// What a target is at that is loaded at a time.
+fn loaded_at(
+    alloc: Global,
+    shards: u32,
+    target: &Target,
+    sent: Documents,
+    reset: bool,
+    docs: Documents,
+    time: Micros,
+) -> Result<Loaded, AllocError>
+    requires shards { AreShards shards }
+    requires sent { IsTrue (is_sorted name_cmp (by_name sent)) }
+    requires docs { IsTrue (is_sorted name_cmp (by_name docs)) }
+    ensures loaded { IfOk result (λ l. loaded_in l ≡ record { time = time; reset = reset; positions = positions_at shards target.now time; current = false }) }
+    ensures kept { IfOk result (λ l. l.kept.kept ≡ record { sent = docs_of sent; docs = docs_of docs; staged = [] }) }
+{
+    let kept = Kept::new(alloc, sent, docs)?;
+    Ok(Loaded {
+        time,
+        reset,
+        positions: positions_at(alloc, shards, target, time)?,
+        current: false,
+        kept,
+    })
 }
 
 impl Awake {
@@ -88,7 +168,7 @@ impl Awake {
     ghost use Rattle.fs_value.specs.Named.{by_name};
     ghost use Rattle.fs_listen.specs.Cuts.{base, cut, first_loading, is_loaded, is_ready, least, least_position};
     ghost use Rattle.fs_listen.specs.Listening.{Listened};
-    ghost use Rattle.fs_target.specs.Entries.{gone_to};
+    ghost use Rattle.fs_target.specs.Entries.{IsKeptOut, gone_to};
     ghost use Rattle.fs_target.specs.Held.{IsListenedByNone, IsUnloaded, fed, id_after, none_held, position_in, positions_in, raised_at, refusal, staged_of, with_loaded, with_target, without_target};
     ghost use Rattle.fs_target.specs.Prepared.{ArePrepared, AreReady, held_in};
     ghost use Rattle.fs_target.specs.Raise.{kept_told};
@@ -111,16 +191,6 @@ impl Awake {
         }
     }
 
-    /// Why a target isn't added, if it isn't.
-    pub(crate) fn refusal(&self, id: u32) -> Option<TargetError>
-        ensures { result ≡ refusal id (held_in self.now) }
-    {
-        match place_for(self.entries.as_slice(), self.limit, id) {
-            Ok(_) => None,
-            Err(refusal) => Some(refusal),
-        }
-    }
-
     /// Adds a target, with the time that its resume token shows. It isn't loaded. Of two refusals the limit comes first.
     pub(crate) fn add(
         &mut self,
@@ -130,20 +200,24 @@ impl Awake {
     ) -> Result<(), TargetError>
         ensures ok { OnOk result (held_in self.new ≡ with_target id target token (held_in self.old)) }
         ensures err { OnErr result (held_in self.new ≡ held_in self.old) }
-
-        // `InUse` and `TooMany` just where they hold.
-        ensures refused { IfSome (refusal id (held_in self.old)) (λ e. result ≡ Err e) }
-        ensures taken { refusal id (held_in self.old) ≡ None → IfErr result (λ e. e ≡ TargetError.Memory alloc_error) }
+        ensures none { OnOk result (refusal id (held_in self.old) ≡ None) }
+        ensures refused { IfErr result (IsKeptOut (refusal id (held_in self.old))) }
     {
-        let i = place_for(self.entries.as_slice(), self.limit, id)?;
-        self.collections.add(self.entries.as_slice(), &target)?;
+        let entries = self.entries.as_slice();
+        let i = match make_way(entries, &mut self.collections, self.limit, id, &target) {
+            Ok(i) => i,
+            Err(refusal) => {
+                drop(target);
+                return Err(refusal);
+            }
+        };
         let entry = Entry {
             id,
             target,
             token,
             loaded: None,
         };
-        self.entries.insert(i, entry)?;
+        put_in(&mut self.entries, i, entry)?;
         Ok(())
     }
 
@@ -178,19 +252,9 @@ impl Awake {
         ensures ok { OnOk result (held_in self.new ≡ with_loaded id sent reset docs time (held_in self.old)) }
         ensures err { OnErr result (held_in self.new ≡ held_in self.old) }
     {
-        let kept = Kept::new(alloc, sent, docs)?;
-        let i = match place_of(self.entries.as_slice(), u64::from(id)) {
-            Ok(i) => i,
-            Err(_) => unreachable!(),
-        };
-        let positions = positions_at(alloc, self.shards, &self.entries[i].target, time)?;
-        let loaded = Loaded {
-            time,
-            reset,
-            positions,
-            current: false,
-            kept,
-        };
+        let i = place_there(self.entries.as_slice(), id);
+        let target = &self.entries[i].target;
+        let loaded = loaded_at(alloc, self.shards, target, sent, reset, docs, time)?;
         put_loaded(self.entries.as_mut_slice(), i, loaded);
         Ok(())
     }
@@ -342,22 +406,28 @@ impl Awake {
         Some(loaded.kept.staged())
     }
 
-    /// What a raise at a time says. It makes the views ready that the targets are to go to. What is asked of these stays the same until
-    /// `go_to`, so where none follows nothing has to be undone: the next `messages` forgets what was made ready.
-    pub(crate) fn messages(
-        &mut self,
-        alloc: Global,
-        time: Micros,
-    ) -> Result<Vec<ListenMessage>, AllocError>
+    /// Makes the views ready that the targets are to go to by a raise at a time. What is asked of these stays the same until `go_to`, so where
+    /// none follows nothing has to be undone: the next `make_ready` forgets what was made ready.
+    pub(crate) fn make_ready(&mut self, alloc: Global, time: Micros) -> Result<(), AllocError>
         ensures same { held_in self.new ≡ held_in self.old }
-        ensures told { IfOk result (λ v. v.items ≡ kept_told time (held_in self.old)) }
         ensures ok { OnOk result (AreReady time self.new) }
     {
         make_all_next(alloc, self.entries.as_mut_slice(), time)?;
+        Ok(())
+    }
+
+    /// What a raise at a time says, for which the views were made ready.
+    pub(crate) fn messages(
+        &self,
+        alloc: Global,
+        time: Micros,
+    ) -> Result<Vec<ListenMessage>, AllocError>
+        ensures { AreReady time self.now → IfOk result (λ v. v.items ≡ kept_told time (held_in self.now)) }
+    {
         messages_at(alloc, self.entries.as_slice(), time)
     }
 
-    /// Goes to a time, without memory, and is raised there. `messages` has made the views ready before, with no other change in between: else
+    /// Goes to a time, without memory, and is raised there. `make_ready` has made the views ready before, with no other change in between: else
     /// nothing is promised of what is kept.
     pub(crate) fn go_to(&mut self, time: Micros)
         ensures held { AreReady time self.old → held_in self.new ≡ raised_at time (held_in self.old) }

@@ -1,7 +1,7 @@
 //! The targets of a session.
-ghost use Rattle.std.specs.Prelude.{◌≡◌, None};
-ghost use Rattle.fs_target.specs.Prepared.{held_in};
-ghost use Rattle.fs_target.specs.Still.{as_awake};
+ghost use Rattle.std.specs.Prelude.{◌≡◌, None, IfOk, IfSome};
+ghost use Rattle.fs_target.specs.Prepared.{AreReady, held_in};
+ghost use Rattle.fs_target.specs.Still.{IsNextStill, as_awake};
 
 use crate::awake::Awake;
 use crate::error::TargetError;
@@ -52,14 +52,27 @@ impl Model for Targets {
     ghost invariant = { λ t. IfSome t.still (λ s. AreStill s t.awake) × IfSome t.next (λ n. IsNextStill n t.awake) };
 }
 
-// Writes the positions of targets that stand still into each, so that they are still no longer. It takes no memory.
-fn wake(still: &mut Option<Still>, awake: &mut Awake)
+// Writes the positions of targets that stand still into each, so that they are still no longer, and forgets what was ready. It takes no memory.
+fn wake(still: &mut Option<Still>, next: &mut Option<Next>, awake: &mut Awake)
     ensures still { still.new ≡ None }
+    ensures next { next.new ≡ None }
     ensures same { held_in awake.new ≡ held_in (as_awake still.old awake.old) }
 {
+    *next = None;
     if let Some(still) = still.take() {
         awake.write_positions(still.positions.as_slice());
     }
+}
+
+// What targets are to stand still with once they go to a time that they are ready for, if they will.
+fn next_at(alloc: Global, awake: &Awake, time: Micros) -> Result<Option<Next>, AllocError>
+    requires { AreReady time awake.now }
+    ensures { IfOk result (λ o. IfSome o (λ n. IsNextStill n awake.now)) }
+{
+    Ok(match awake.next_still(alloc, time)? {
+        Some(still) => Some(Next { time, still }),
+        None => None,
+    })
 }
 
 impl Targets {
@@ -101,11 +114,7 @@ impl Targets {
         ensures refused { IfSome (refusal id (held_in self.old)) (λ e. result ≡ Err e) }
         ensures taken { refusal id (held_in self.old) ≡ None → IfErr result (λ e. e ≡ TargetError.Memory alloc_error) }
     {
-        if let Some(refusal) = self.awake.refusal(id) {
-            return Err(refusal);
-        }
-        wake(&mut self.still, &mut self.awake);
-        self.next = None;
+        wake(&mut self.still, &mut self.next, &mut self.awake);
         self.awake.add(id, target, token)
     }
 
@@ -118,8 +127,7 @@ impl Targets {
         if self.target(id).is_none() {
             return Err(TargetError::Unknown(id));
         }
-        wake(&mut self.still, &mut self.awake);
-        self.next = None;
+        wake(&mut self.still, &mut self.next, &mut self.awake);
         self.awake.remove(id)
     }
 
@@ -139,8 +147,7 @@ impl Targets {
         ensures ok { OnOk result (held_in self.new ≡ with_loaded id sent reset docs time (held_in self.old)) }
         ensures err { OnErr result (held_in self.new ≡ held_in self.old) }
     {
-        wake(&mut self.still, &mut self.awake);
-        self.next = None;
+        wake(&mut self.still, &mut self.next, &mut self.awake);
         self.awake.load(alloc, id, sent, reset, docs, time)
     }
 
@@ -177,8 +184,7 @@ impl Targets {
         if self.still.is_some() && events.is_empty() {
             return Ok(());
         }
-        wake(&mut self.still, &mut self.awake);
-        self.next = None;
+        wake(&mut self.still, &mut self.next, &mut self.awake);
         self.awake.prepare(alloc, shard, events)
     }
 
@@ -345,12 +351,9 @@ impl Targets {
             return no_change(alloc, time);
         }
         self.next = None;
-        let messages = self.awake.messages(alloc, time)?;
-        self.next = match self.awake.next_still(alloc, time)? {
-            Some(still) => Some(Next { time, still }),
-            None => None,
-        };
-        Ok(messages)
+        self.awake.make_ready(alloc, time)?;
+        self.next = next_at(alloc, &self.awake, time)?;
+        self.awake.messages(alloc, time)
     }
 
     /// Goes to a time, without memory, and is raised there. `messages` has made the views ready before, with no other change in between: else

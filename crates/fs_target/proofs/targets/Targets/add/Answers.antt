@@ -1,24 +1,22 @@
-use Rattle.std.proofs.Common.{◌≡◌, Some, refl, sym, ap, ◌∙◌}
-use Rattle.fs_target.specs.Held.{refusal}
+use Rattle.std.proofs.Common.{◌≡◌, None, subst, ap, ◌∙◌}
+use Rattle.std.specs.Prelude.{IfErr, OnOk}
+use Rattle.fs_target.specs.Entries.{IsKeptOut}
+use Rattle.fs_target.specs.Held.{Held, refusal}
 use Rattle.fs_target.specs.Prepared.{held_in}
-use Rattle.fs_target.proofs.Asked.{when_some}
-use Rattle.fs_target.proofs.MayStand.{refusal_shown}
+use Rattle.fs_target.proofs.Asked.{refused_by, taken_by}
 use Rattle.fs_target.proofs.targets.Targets.add.Goals as goal
 
-pub returns-in-Some-clause-refused : goal.returns-in-Some-clause-refused
-returns-in-Some-clause-refused c =
-    let is : refusal c.args.id (held_in c.args.self.now) ≡ Some c.in-Some.refusal =
-    ap (λ v. refusal c.args.id (held_in v)) (sym c.self.view_is)
-    ∙ sym (refusal_shown c.self.inside.awake c.self.inside.still c.self.invariant.0 c.args.id)
-    ∙ sym c.refusal.ensures
-    ∙ c.in-Some.is in
-    when_some _ _ c.in-Some.refusal is refl
+pub returns-clause-refused : goal.returns-clause-refused
+returns-clause-refused c =
+    let id = c.args.id in
+    let r = c.add.result in
+    let same : held_in c.wake.new.awake ≡ held_in c.args.self.now = c.wake.ensures.same ∙ ap held_in c.self.view_is in
+    refused_by (refusal id (held_in c.args.self.now)) r (subst (λ (h : Held). OnOk r (refusal id h ≡ None)) same c.add.ensures.none)
+    (subst (λ (h : Held). IfErr r (IsKeptOut (refusal id h))) same c.add.ensures.refused)
 
-pub returns-in-Some-clause-taken : goal.returns-in-Some-clause-taken
-returns-in-Some-clause-taken c = λ none.
-    let is : refusal c.args.id (held_in c.args.self.now) ≡ Some c.in-Some.refusal =
-    ap (λ v. refusal c.args.id (held_in v)) (sym c.self.view_is)
-    ∙ sym (refusal_shown c.self.inside.awake c.self.inside.still c.self.invariant.0 c.args.id)
-    ∙ sym c.refusal.ensures
-    ∙ c.in-Some.is in
-    absurd (let both = sym is ∙ none in cc)
+pub returns-clause-taken : goal.returns-clause-taken
+returns-clause-taken c =
+    let id = c.args.id in
+    let r = c.add.result in
+    let same : held_in c.wake.new.awake ≡ held_in c.args.self.now = c.wake.ensures.same ∙ ap held_in c.self.view_is in
+    taken_by (refusal id (held_in c.args.self.now)) r (subst (λ (h : Held). IfErr r (IsKeptOut (refusal id h))) same c.add.ensures.refused)
