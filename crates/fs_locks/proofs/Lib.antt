@@ -1,4 +1,5 @@
 pub mod Above
+pub mod Anys
 pub mod Conflicts
 pub mod Cuts
 pub mod Entries

@@ -20,7 +20,7 @@ pub(crate) struct Index {
 }
 
 impl Index {
-    ghost use Rattle.std.specs.Prelude.{◌≡◌, ◌∷◌, [], ℕ, OnOk, OnErr, false, true};
+    ghost use Rattle.std.specs.Prelude.{◌≡◌, ◌↔◌, ◌∷◌, [], ℕ, IsTrue, OnOk, OnErr, false, true};
     ghost use Rattle.std.specs.Option.{option_copied};
     ghost use Rattle.fs_locks.specs.Holds.{IsLeastOther};
     ghost use Rattle.fs_locks.specs.Marks.{helds};
@@ -87,6 +87,13 @@ impl Index {
         for noted in notes {
             self.take(&noted.share, id);
         }
+    }
+
+    // Whether an id stands where a collection is looked up, or a group that it belongs to.
+    pub(crate) fn has_over(&self, path: Option<&str>, name: &str, id: Id) -> bool
+        ensures { IsTrue result ↔ StandsOver self.now (option_copied path.entry) name.now id }
+    {
+        self.collections.has(name, path, id) || self.groups.has_above(name, path, id)
     }
 
     // The least other id that stands where a collection is looked up, or a group that it belongs to.

@@ -21,12 +21,13 @@ use std::marker::Model;
 ///
 ///     2 holds c/a, and the collection x below c/a; 5 holds the group x below the root
 ///     `conflict([c/a/x/b], 5)` is 2, and `conflict([c/a/x/b], 2)` is 5
+///     c/a/x/b touches what 2 holds and what 5 holds, and c/b touches neither
 ///     `conflict([c/b/x/b], 1)` is 5, and `conflict([c/b], 1)` none
 ///     after `take_back(2)` it holds c/a alone, and `conflict([c/a/x/b], 5)` is none
 ///     after `release_all(2)` only 5 holds its group
 ///
 /// A name costs a search for it and one among the ids that hold it, whether it is taken, looked up or released, and a scope one
-/// more. `conflict` also searches for a name's collection and for each path with which the name begins. Only `behind_scope`
+/// more. `conflict` and `is_touched` also search for a name's collection and for each path with which the name begins. Only `behind_scope`
 /// goes over all names, where it is asked for a scope.
 /// (docs/DECISIONS.md, "Exclusive and shared holds are two structures side by side".)
 #[derive(Drop)]
@@ -118,6 +119,13 @@ impl Locks {
         ensures { IsLeastOther (HoldsTouched self.now.exclusive scope.now) by result }
     {
         self.exclusive.behind_scope(scope, by)
+    }
+
+    /// Whether a name touches what an id holds shared. It takes no memory.
+    pub fn is_touched(&self, id: Id, name: &DocName) -> bool
+        ensures { result ≡ is_shared self.now.shared id name.now }
+    {
+        self.shared.is_touched(id, name)
     }
 
     /// The least id other than `by` with a shared hold that one of these names touches. It takes no memory.

@@ -54,7 +54,7 @@ fn take(tree: &mut BTreeMap<String, Holders>, path: &str, id: Id)
 }
 
 impl Parents {
-    ghost use Rattle.std.specs.Prelude.{◌≡◌, ◌≤◌, ◌||◌, ◌&&◌, ◌==◌, ℕ, List, Option, IsTrue, OnOk, OnErr, not, false};
+    ghost use Rattle.std.specs.Prelude.{◌≡◌, ◌↔◌, ◌≤◌, ◌||◌, ◌&&◌, ◌==◌, ℕ, List, Option, IsTrue, OnOk, OnErr, not, false};
     ghost use Rattle.std.specs.Option.{option_copied};
     ghost use Rattle.fs_path.specs.Cursor.{rest_segments};
     ghost use Rattle.fs_locks.specs.Holds.{IsLeastOther};
@@ -112,6 +112,20 @@ impl Parents {
             Some(text) => take(&mut self.below, text, id),
             None => self.root.remove(id),
         }
+    }
+
+    // Whether an id holds something below a path, or below one with which it begins.
+    pub(crate) fn has_above(&self, path: Option<&str>, id: Id) -> bool
+        ensures { IsTrue result ↔ HoldsAbove self.now (rest_segments (option_copied path.entry)) 0 id }
+    {
+        let mut rest = path;
+        while let Some(text) = rest {
+            if self.has(rest, id) {
+                return true;
+            }
+            rest = parent_of(text).0;
+        }
+        self.has(None, id)
     }
 
     // The least other id that holds something right below a path.

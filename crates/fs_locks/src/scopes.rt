@@ -11,7 +11,7 @@ pub(crate) struct Scopes {
 }
 
 impl Scopes {
-    ghost use Rattle.std.specs.Prelude.{◌≡◌, ◌||◌, ◌&&◌, ◌==◌, ℕ, List, Option, IsTrue, OnOk, OnErr, not, false};
+    ghost use Rattle.std.specs.Prelude.{◌≡◌, ◌↔◌, ◌||◌, ◌&&◌, ◌==◌, ℕ, List, Option, IsTrue, OnOk, OnErr, not, false};
     ghost use Rattle.std.specs.Option.{option_copied};
     ghost use Rattle.fs_path.specs.Cursor.{rest_segments};
     ghost use Rattle.fs_path.specs.TextOrder.{text_eq};
@@ -68,6 +68,16 @@ impl Scopes {
         parents.take(path, id);
         if parents.is_empty() {
             self.by_id.remove(name);
+        }
+    }
+
+    // Whether an id holds the collections with an id below a path, or below one with which it begins.
+    pub(crate) fn has_above(&self, name: &str, path: Option<&str>, id: Id) -> bool
+        ensures { IsTrue result ↔ StandsAbove self.now name.now (rest_segments (option_copied path.entry)) id }
+    {
+        match self.by_id.get(name) {
+            Some(parents) => parents.has_above(path, id),
+            None => false,
         }
     }
 

@@ -13,7 +13,7 @@ use crate::index::Index;
 use crate::least::lesser;
 use crate::reads::{Noted, Reads};
 use crate::share::Share;
-use crate::tree::first_at;
+use crate::tree::{first_at, is_held};
 use fs_path::{DocName, Names};
 use fs_status::Id;
 use std::alloc::{AllocError, Global};
@@ -92,6 +92,19 @@ impl Shared {
             if !noted.again {
                 self.index.take(&noted.share, id);
             }
+        }
+    }
+
+    // Whether a name touches what an id holds. It takes no memory.
+    pub(crate) fn is_touched(&self, id: Id, name: &DocName) -> bool
+        ensures { result ≡ is_shared self.now id name.now }
+    {
+        if is_held(&self.index.names, name, id) {
+            return true;
+        }
+        match collection_of(name) {
+            Some((path, last)) => self.index.has_over(path, last, id),
+            None => false,
         }
     }
 
