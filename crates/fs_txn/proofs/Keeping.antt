@@ -1,9 +1,8 @@
 -- What always holds of the transactions holds after each call.
-use Rattle.std.proofs.Common.{◌≡◌, ℕ, ℤ, ◌+◌, ◌-◌, ◌≤◌, ◌<◌, ◌^◌, Bool, true, false, cond, List, [], ◌∷◌, ◌++◌, length, take, min, Option, Some, None, sum_by, refl, sym, ap, ◌∙◌, subst, add-zero, arith, length-append}
-use Rattle.std.specs.Prelude.{◌==◌, ◌&&◌, ◌||◌, is_some, not}
+use Rattle.std.proofs.Common.{◌≡◌, ℕ, ℤ, ◌+◌, ◌-◌, ◌≤◌, ◌<◌, ◌^◌, Bool, true, false, cond, List, [], ◌∷◌, ◌++◌, length, min, Option, Some, None, sum_by, refl, sym, ap, ◌∙◌, subst, add-zero, arith}
+use Rattle.std.specs.Prelude.{◌==◌, ◌&&◌, is_some, not}
 use Rattle.std.specs.List.{filter, list_any}
 use Rattle.std.specs.Option.{option_map_or}
-use Rattle.std.proofs.Math.Seq.{take-append_seam}
 use Rattle.std.proofs.Math.Bool.{and-false}
 use Rattle.fs_history.specs.Bytes.{shown_size}
 use Rattle.fs_history.specs.Touches.{touches}
@@ -16,9 +15,8 @@ use Rattle.fs_txn.specs.Kept.{IsKept, Holds, Releases, is_one_over, read_writes}
 use Rattle.fs_txn.specs.Reading.{shown_to_all, shown_to}
 use Rattle.fs_txn.specs.Rising.{Rise}
 use Rattle.fs_txn.specs.Transactions.{changed_at, is_read_write, put_in, txn_of, with_read}
-use Rattle.fs_txn.proofs.Entries.{unchanged}
-use Rattle.fs_txn.proofs.Readers.{read_adds, reads_changed, reads_ended, reads_kept, reads_put, reads_used}
-use Rattle.fs_txn.proofs.Shown.{length_put, length_changed, length_kept, length_over, shown_put, shown_changed, shown_ended, shown_parts, shown_with}
+use Rattle.fs_txn.proofs.Readers.{reads_ended, reads_kept, reads_put, reads_used}
+use Rattle.fs_txn.proofs.Shown.{length_put, length_changed, length_kept, length_over, shown_put, shown_changed, shown_ended, shown_parts}
 
 pub kept_put : (ts : List Txn) (len capacity more bytes : ℕ) (t : Txn) → IsKept ts len capacity bytes → len + (length ts + 1) ≤ more → shown_to t ≡ 0 → IsKept (put_in t ts) len more bytes
 kept_put ts len capacity more bytes t kept room none = record {
@@ -113,13 +111,6 @@ holds_used ts len capacity bytes shares id now there holds = at (txn_of id ts) r
 abbrev pub reading : Read → ℤ → Txn → Txn
 reading r now t = record t { used = now; reads = t.reads ++ r ∷ [] }
 
-pub holds_reading : (ts : List Txn) (len capacity bytes : ℕ) (old new : Shares) (id : ℕ) (r : Read) (now : ℤ) (o : Txn) → txn_of id ts ≡ Some o → is_read_write o.kind ≡ true
-    → ((i : ℕ) (n : DocName) → is_shared new i n ≡ (is_shared old i n || (i == id && touches n r))) → Holds ts len capacity bytes old → Holds (changed_at id (reading r now) ts) len capacity (bytes + shown_size r) new
-holds_reading ts len capacity bytes old new id r now o is kind more holds = (
-  kept_changed ts len capacity bytes (shown_size r) id (reading r now) o holds.0 (shown_with r) is,
-  λ i n. more i n ∙ ap (λ b. b || (i == id && touches n r)) (holds.1 i n) ∙ sym (reads_changed id (reading r now) (λ m. touches m r) o ts (λ t. refl) (read_adds r now o kind) is n i),
-)
-
 pub holds_ended : (ts : List Txn) (len capacity bytes left : ℕ) (old new : Shares) (id : ℕ) (o : Txn) → Rise ts → txn_of id ts ≡ Some o → left ≡ bytes - shown_to o
     → ((i : ℕ) (n : DocName) → is_shared new i n ≡ (not (i == id) && is_shared old i n)) → Holds ts len capacity bytes old → Holds (filter (λ t. not (t.id == id)) ts) len capacity left new
 holds_ended ts len capacity bytes left old new id o rise is counted less holds = (
@@ -163,19 +154,3 @@ noted_reading ts id r now there kind = at (txn_of id ts) refl there kind
     at : (o : Option Txn) → txn_of id ts ≡ o → is_some o ≡ true → option_map_or (λ t. is_read_write t.kind) o false ≡ false → changed_at id (λ t. record t { used = now }) ts ≡ changed_at id (λ t. record (with_read r t) { used = now }) ts
     at None is there kind = absurd (cc)
     at (Some o) is there kind = changed_as id (λ t. record t { used = now }) (λ t. record (with_read r t) { used = now }) o ts is (sym (note_as r now o false kind))
-
--- a read is put behind the others, and the last one taken back
-abbrev pub more : Read → Txn → Txn
-more r t = record t { reads = t.reads ++ r ∷ [] }
-
-abbrev pub back : Txn → Txn
-back t = record t { reads = take (length t.reads - 1) t.reads }
-
-pub taken_back : (ts : List Txn) (id : ℕ) (r : Read) (o : Txn) → txn_of id ts ≡ Some o → changed_at id back (changed_at id (more r) ts) ≡ ts
-taken_back ts id r o is =
-    changed_twice id (more r) back ts (λ t. refl) ∙ changed_as id (λ t. back (more r t)) (λ t. t) o ts is (ap (λ rs. record o { reads = rs }) (front o.reads)) ∙ unchanged ts id
-  where
-    front : (rs : List Read) → take (length (rs ++ r ∷ []) - 1) (rs ++ r ∷ []) ≡ rs
-    front rs =
-        let one : length (rs ++ r ∷ []) - 1 ≡ length rs = omega (arith, length-append rs (r ∷ [])) in
-        ap (λ n. take n (rs ++ r ∷ [])) one ∙ take-append_seam rs (r ∷ [])

@@ -1,12 +1,11 @@
 -- Who has read what, after each of what becomes of the transactions.
-use Rattle.std.proofs.Common.{◌≡◌, ℕ, ℤ, ◌<◌, Bool, true, false, cond, List, [], ◌∷◌, ◌++◌, Some, None, refl, sym, ap, ◌∙◌, subst, arith}
-use Rattle.std.specs.Prelude.{◌==◌, ◌&&◌, ◌||◌, nat_lt, not}
+use Rattle.std.proofs.Common.{◌≡◌, ℕ, ℤ, ◌<◌, Bool, true, false, cond, List, [], ◌∷◌, Option, Some, None, refl, sym, ap, ◌∙◌, subst, arith}
+use Rattle.std.specs.Prelude.{◌==◌, ◌&&◌, ◌||◌, nat_lt, not, unwrap_or}
 use Rattle.std.specs.List.{AllByRecursion, filter, list_any}
 use Rattle.std.specs.Option.{option_and_then, option_map_or}
 use Rattle.std.proofs.Math.Bool.{and-false, or-false}
 use Rattle.std.proofs.lemmas.Bool.{eqb-true}
 use Rattle.std.proofs.lemmas.Bool.Decides.{nat_tests}
-use Rattle.std.proofs.lemmas.List.Folds.{list_any-append}
 use Rattle.fs_history.specs.Touches.{touches}
 use Rattle.fs_history.specs.declared.read.Read.{Read}
 use Rattle.fs_locks.proofs.Ids.{apart_from, same_id}
@@ -103,14 +102,6 @@ reads_changed id f p o (t ∷ ts) same adds found n i = at (λ there. reads_chan
         ∙ ap (λ b. ((t.id == i && has_read n t) || reads_name ts n i) || (b && p n)) (test is)
     at more false is found = ap (λ b. (t.id == i && has_read n t) || b) (more found) ∙ regrouped (t.id == i && has_read n t) (reads_name ts n i) (i == id && p n)
 
--- a read-write one with a read behind its others
-pub read_adds : (r : Read) (now : ℤ) (o : Txn) → is_read_write o.kind ≡ true → Adds (λ t. record t { used = now; reads = t.reads ++ r ∷ [] }) (λ n. touches n r) o
-read_adds r now o is n =
-    ap (λ b. b && list_any (touches n) (o.reads ++ r ∷ [])) is
-    ∙ list_any-append (touches n) o.reads (r ∷ [])
-    ∙ ap (λ b. list_any (touches n) o.reads || b) (or-false (touches n r))
-    ∙ ap (λ b. (b && list_any (touches n) o.reads) || touches n r) (sym is)
-
 -- ---- one ends
 
 ended_next : (t : Txn) (h r : Bool) (i id : ℕ) (b : Bool) → (t.id == id) ≡ b → cond (not b) ((t.id == i && h) || (not (i == id) && r)) (not (i == id) && r) ≡ (not (i == id) && ((t.id == i && h) || r))
@@ -187,7 +178,7 @@ there_next t rest n true is none = ap (λ b. has_read n t || b) none ∙ or-fals
 there_next t rest n false is none = ap (λ b. has_read n t || b) none ∙ or-false (has_read n t) ∙ ap (λ b. b && list_any (touches n) t.reads) is
     ∙ ap (λ b. option_map_or (λ (rs : List Read). list_any (touches n) rs) (cond b (Some t.reads) None) false) (sym is)
 
-pub reads_there : (ts : List Txn) (id : ℕ) (n : DocName) → Rise ts → reads_name ts n id ≡ option_map_or (λ rs. list_any (touches n) rs) (reads_in id ts) false
+reads_there : (ts : List Txn) (id : ℕ) (n : DocName) → Rise ts → reads_name ts n id ≡ option_map_or (λ rs. list_any (touches n) rs) (reads_in id ts) false
 reads_there [] id n rise = refl
 reads_there (t ∷ ts) id n rise = at (reads_there ts id n rise.1) (t.id == id) refl
   where
@@ -196,7 +187,9 @@ reads_there (t ∷ ts) id n rise = at (reads_there ts id n rise.1) (t.id == id) 
     at more true is = there_next t (reads_name ts n id) n (is_read_write t.kind) refl (none_there ts n id (above_itself t ts id is rise.0))
     at more false is = more
 
--- names of which none is touched
-pub none_touched : (names : List DocName) → list_any (λ n. false) names ≡ false
-none_touched [] = refl
-none_touched (n ∷ names) = none_touched names
+pub read_in : (ts : List Txn) (id : ℕ) (n : DocName) → Rise ts → reads_name ts n id ≡ list_any (touches n) (unwrap_or (reads_in id ts) [])
+read_in ts id n rise = reads_there ts id n rise ∙ at (reads_in id ts)
+  where
+    at : (o : Option (List Read)) → option_map_or (λ rs. list_any (touches n) rs) o false ≡ list_any (touches n) (unwrap_or o [])
+    at None = refl
+    at (Some rs) = refl

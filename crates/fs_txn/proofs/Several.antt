@@ -14,7 +14,7 @@ use Rattle.fs_path.specs.declared.name.DocName.{DocName}
 use Rattle.fs_txn.specs.declared.expired.Expired.{Expired}
 use Rattle.fs_txn.specs.declared.txn.Txn.{Txn}
 use Rattle.fs_txn.specs.Kept.{Holds, read_writes, without_lasts}
-use Rattle.fs_txn.specs.Transactions.{Transactions, all_noted, changed_at, is_read_write, txn_of, used_at}
+use Rattle.fs_txn.specs.Transactions.{Transactions, all_noted, changed_at, is_read_write, noted, txn_of, used_at, with_read}
 use Rattle.fs_txn.proofs.Keeping.{changed_as, changed_twice, found_changed, kept_changed, noted_reading, noted_writing, reading}
 use Rattle.fs_txn.proofs.Readers.{Adds, reads_changed}
 
@@ -129,3 +129,16 @@ noted_none (r ∷ rs) us id now there kind =
     ap (λ (ts : List Txn). record us { «open» = ts }) (sym (changed_twice id (λ t. record t { used = now }) (λ t. record t { used = now }) us.open (λ t. refl)))
     ∙ noted_none rs (used_at us id now) id now (found_changed id (λ t. record t { used = now }) us.open (λ t. refl) there) (not_writing us.open id now ∙ kind)
     ∙ ap (λ (ts : List Txn). all_noted (record us { «open» = ts }) id rs now) (noted_reading us.open id r now there kind)
+
+-- ---- one read alone
+
+noted_id : (r : Read) (t : Txn) → (with_read r t).id ≡ t.id
+noted_id r t = at (is_read_write t.kind)
+  where
+    at : (b : Bool) → (let u : Txn = cond b (record t { reads = t.reads ++ r ∷ [] }) t in u.id) ≡ t.id
+    at true = refl
+    at false = refl
+
+pub noted_alone : (us : Transactions) (id : ℕ) (r : Read) (now : ℤ) → all_noted us id (r ∷ []) now ≡ noted us id r now
+noted_alone us id r now =
+    ap (λ (ts : List Txn). record us { «open» = ts }) (changed_twice id (λ t. record (with_read r t) { used = now }) (λ t. record t { used = now }) us.open (noted_id r))

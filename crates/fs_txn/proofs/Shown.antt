@@ -1,12 +1,10 @@
 -- How many transactions are open, and the bytes that they were shown, after each of what becomes of them.
-use Rattle.std.proofs.Common.{◌≡◌, ℕ, ℤ, ◌+◌, ◌≤◌, ◌<◌, Bool, true, false, cond, List, [], ◌∷◌, ◌++◌, length, Some, None, refl, ap, ◌∙◌, subst, arith}
+use Rattle.std.proofs.Common.{◌≡◌, ℕ, ℤ, ◌+◌, ◌≤◌, ◌<◌, Bool, true, false, cond, List, [], ◌∷◌, length, Some, None, refl, ap, ◌∙◌, subst, arith}
 use Rattle.std.specs.Prelude.{◌==◌, nat_lt, not}
 use Rattle.std.specs.List.{AllByRecursion, filter}
 use Rattle.std.proofs.lemmas.List.Filters.{length-filter_both, sum_by-filter_both}
-use Rattle.std.proofs.lemmas.List.Sums.{sum_by-append, sum_by-cons}
+use Rattle.std.proofs.lemmas.List.Sums.{sum_by-cons}
 use Rattle.std.proofs.lemmas.Bool.{eqb-true}
-use Rattle.fs_history.specs.Bytes.{shown_size}
-use Rattle.fs_history.specs.declared.read.Read.{Read}
 use Rattle.fs_txn.specs.declared.txn.Txn.{Txn}
 use Rattle.fs_txn.specs.Expiry.{is_over, over}
 use Rattle.fs_txn.specs.Reading.{shown_to_all, shown_to}
@@ -58,9 +56,6 @@ shown_changed id more f o (t ∷ ts) is found = at (shown_changed id more f o ts
         → shown_to_all (cond b (f t ∷ ts) (t ∷ changed_at id f ts)) ≡ shown_to_all (t ∷ ts) + more
     at rest true found = omega (arith, sum_by-cons shown_to (f t) ts, sum_by-cons shown_to t ts, is t)
     at rest false found = omega (arith, sum_by-cons shown_to t (changed_at id f ts), sum_by-cons shown_to t ts, rest found)
-
-pub shown_with : (r : Read) (t : Txn) → shown_to (record t { reads = t.reads ++ r ∷ [] }) ≡ shown_to t + shown_size r
-shown_with r t = sum_by-append shown_size t.reads (r ∷ []) ∙ ap (λ n. shown_to t + n) (sum_by-cons shown_size r [] ∙ omega arith)
 
 -- where none has the id, all stay
 pub none_ends : (id : ℕ) (ts : List Txn) → txn_of id ts ≡ None → filter (λ t. not (t.id == id)) ts ≡ ts

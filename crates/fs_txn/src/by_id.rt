@@ -1,11 +1,11 @@
 //! The open transactions, each at its id.
-ghost use Rattle.std.specs.Prelude.{◌≡◌, ◌-◌, ◌++◌, OnOk, OnErr, length, take};
+ghost use Rattle.std.specs.Prelude.{◌≡◌, ◌++◌, OnOk, OnErr};
 ghost use Rattle.fs_txn.specs.Reading.{earlier as earlier_of};
 
 use crate::expired::{Expired, gone_at};
 use crate::kind::Kind;
 use crate::txn::{Txn, end_of, is_over};
-use fs_history::{Read, Reads, all_shown};
+use fs_history::{Reads, all_shown};
 use fs_locks::Locks;
 use fs_path::List;
 use fs_status::Id;
@@ -39,7 +39,7 @@ impl Model for ById {
 }
 
 impl ById {
-    ghost use Rattle.std.specs.Prelude.{◌≡◌, ◌↔◌, ◌+◌, ◌-◌, ◌^◌, ◌<◌, ◌≤◌, ◌==◌, ◌++◌, ◌∷◌, [], None, OnOk, OnErr, IsTrue, IsSome, not, length, map, take};
+    ghost use Rattle.std.specs.Prelude.{◌≡◌, ◌↔◌, ◌+◌, ◌^◌, ◌<◌, ◌≤◌, ◌==◌, ◌++◌, [], None, OnOk, OnErr, IsTrue, IsSome, not, length, map};
     ghost use Rattle.std.specs.List.{filter};
     ghost use Rattle.std.specs.Option.{option_copied};
     ghost use Rattle.std.specs.Vec.{vec_len, vec_capacity};
@@ -105,16 +105,7 @@ impl ById {
         self.txns.get_mut(&id).unwrap().used = now;
     }
 
-    // Notes a read. It counts as no use.
-    pub(crate) fn push_read(&mut self, id: Id, r: Read) -> Result<(), AllocError>
-        requires { IsSome (txn_of id self.old) }
-        ensures ok { OnOk result (self.new ≡ changed_at id (λ t. record t { reads = t.reads ++ r ∷ [] }) self.old) }
-        ensures err { OnErr result (self.new ≡ self.old) }
-    {
-        self.txns.get_mut(&id).unwrap().reads.push(r)
-    }
-
-    // Notes several reads, as `push_read` does each.
+    // Notes reads. It counts as no use.
     pub(crate) fn append_reads(
         &mut self,
         alloc: Global,
@@ -126,14 +117,6 @@ impl ById {
         ensures err { OnErr result (self.new ≡ self.old) }
     {
         append(alloc, &mut self.txns.get_mut(&id).unwrap().reads, reads)
-    }
-
-    // Takes the last read back.
-    pub(crate) fn pop_read(&mut self, alloc: Global, id: Id)
-        requires { IsSome (txn_of id self.old) }
-        ensures { self.new ≡ changed_at id (λ t. record t { reads = take (length t.reads - 1) t.reads }) self.old }
-    {
-        take_back(alloc, &mut self.txns.get_mut(&id).unwrap().reads);
     }
 
     pub(crate) fn remove(&mut self, id: Id) -> Option<Txn>
@@ -222,15 +205,6 @@ fn earlier(other: Option<Micros>, time: Micros) -> Micros
         Some(other) if other < time => other,
         _ => time,
     }
-}
-
-// Takes the last read back.
-fn take_back(alloc: Global, reads: &mut Reads)
-    ensures { reads.new ≡ take (length reads.old - 1) reads.old }
-{
-    let mut items = mem::replace(reads, List::new(alloc)).into_vec();
-    items.pop();
-    *reads = List::of(items);
 }
 
 // Puts reads behind others. Where memory runs out, these stay as they are.

@@ -1,19 +1,27 @@
 //! What transactions have read.
-ghost use Rattle.std.specs.Prelude.{◌≡◌, ◌||◌, ◌&&◌, ◌==◌, ℕ, IfOk, OnOk, OnErr, length};
+ghost use Rattle.std.specs.Prelude.{◌≡◌, ◌||◌, ◌&&◌, ◌==◌, ◌∷◌, ℕ, [], IfOk, OnOk, OnErr, length};
 ghost use Rattle.std.specs.List.{list_any};
 ghost use Rattle.fs_history.specs.Touches.{touches as touches_one};
 ghost use Rattle.fs_locks.specs.Shares.{is_shared, is_touched, without_last_share};
 ghost use Rattle.fs_path.specs.declared.name.DocName.{DocName};
 ghost use Rattle.fs_txn.specs.Kept.{without_lasts};
 
-use fs_history::{Read, Reads, touches};
+use fs_history::{Read, Reads};
 use fs_locks::{Held, Locks};
-use fs_path::{DocName, Names};
 use fs_status::Id;
 use std::alloc::{AllocError, Global};
 
+/// One read alone.
+pub(crate) fn one(alloc: Global, r: Read) -> Result<Reads, AllocError>
+    ensures { IfOk result (λ rs. rs ≡ r ∷ []) }
+{
+    let mut reads = Reads::new(alloc);
+    reads.push(r)?;
+    Ok(reads)
+}
+
 // What a read-write transaction holds shared by a read: the name, or the scope of the query.
-pub(crate) fn held_of(alloc: Global, r: &Read) -> Result<Held, AllocError>
+fn held_of(alloc: Global, r: &Read) -> Result<Held, AllocError>
     ensures { IfOk result (λ held. (n : DocName) → is_touched held n ≡ touches_one n r.now) }
 {
     match r {
@@ -59,18 +67,4 @@ pub(crate) fn take_back_all(holds: &mut Locks, id: Id, count: usize)
     for _done in 0..count {
         holds.take_back(id);
     }
-}
-
-// Whether a write of this name touches one of these reads.
-fn is_read(name: &DocName, reads: &Reads) -> bool
-    ensures { result ≡ list_any (touches_one name.now) reads.now }
-{
-    reads.as_slice().iter().any(|r| touches(name, r))
-}
-
-// Whether a write of one of these names does.
-pub(crate) fn one_is_read(names: &Names, reads: &Reads) -> bool
-    ensures { result ≡ list_any (λ n. list_any (touches_one n) reads.now) names.now }
-{
-    names.as_slice().iter().any(|name| is_read(name, reads))
 }

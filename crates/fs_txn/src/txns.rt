@@ -2,11 +2,11 @@
 use crate::by_id::ById;
 use crate::expired::{Expired, TxnError, error_in, forget_first};
 use crate::kind::Kind;
-use crate::reading::{held_of, hold_all, one_is_read, take_back_all};
+use crate::reading::{hold_all, one, take_back_all};
 use crate::txn::{Txn, due_with};
-use fs_history::{Read, Reads, all_shown, shown_size};
+use fs_history::{Read, Reads, all_shown};
 use fs_locks::Locks;
-use fs_path::{List, Names};
+use fs_path::{DocName, List, Names};
 use fs_status::Id;
 use fs_time::Micros;
 use std::alloc::{AllocError, Global};
@@ -51,10 +51,11 @@ impl Model for Txns {
 }
 
 impl Txns {
-    ghost use Rattle.std.specs.Prelude.{◌≡◌, ◌↔◌, ◌+◌, ◌<◌, ◌^◌, [], None, Some, Err, IsTrue, IsSome, true, IfOk, IfErr, OnOk, OnErr, length, sum_by};
+    ghost use Rattle.std.specs.Prelude.{◌≡◌, ◌↔◌, ◌+◌, ◌<◌, ◌^◌, [], None, Some, Err, IsTrue, IsSome, true, IfOk, IfErr, OnOk, OnErr, length, sum_by, unwrap_or};
     ghost use Rattle.std.specs.List.{list_any};
     ghost use Rattle.std.specs.Option.{option_copied};
     ghost use Rattle.fs_history.specs.Bytes.{shown_size as shown_size_of};
+    ghost use Rattle.fs_history.specs.Touches.{touches};
     ghost use Rattle.fs_locks.specs.Holds.{IsLeastOther};
     ghost use Rattle.fs_txn.specs.Expiry.{error_of, expired_at};
     ghost use Rattle.fs_txn.specs.Reading.{is_reader, oldest, reads_in, shown_bytes};
@@ -151,13 +152,7 @@ impl Txns {
         ensures ok { OnOk result (self.new ≡ noted self.old id r now) }
         ensures err { OnErr result (self.new ≡ self.old) }
     {
-        if self.is_read_write(id) {
-            self.add_read(alloc, id, r, now)
-        } else {
-            drop(r);
-            self.use_at(id, now);
-            Ok(())
-        }
+        self.note_reads(alloc, id, one(alloc, r)?, now)
     }
 
     /// An open one is used at a moment and makes these reads one after another, which a read-write one notes behind its others.
@@ -222,15 +217,23 @@ impl Txns {
         self.holds.conflict(names, by)
     }
 
-    /// Whether a write of one of these names touches what the open read-write one of an id has read.
+    /// Whether a write of a name touches what the open read-write one of an id has read. It costs a search for the name, and one for each
+    /// path with which it begins. (Cloud Firestore documentation, "Transaction serializability and isolation".)
+    pub fn has_read(&self, id: Id, name: &DocName) -> bool
+        ensures reader { result ≡ is_reader self.now name.now id }
+        ensures touches { result ≡ list_any (touches name.now) (unwrap_or (reads_in id self.now.open) []) }
+    {
+        // (its list is known to rise once it is read)
+        let _ = self.by_id.len();
+        self.holds.is_touched(id, name)
+    }
+
+    /// Whether a write of one of these names does.
     /// (Cloud Firestore documentation, "Transaction serializability and isolation".)
     pub fn touched_by(&self, id: Id, names: &Names) -> bool
         ensures { result ≡ list_any (λ n. is_reader self.now n id) names.now }
     {
-        match self.by_id.reads(id) {
-            Some(reads) => one_is_read(names, reads),
-            None => false,
-        }
+        names.as_slice().iter().any(|name| self.has_read(id, name))
     }
 
     /// The least time at which an open one reads.
@@ -263,26 +266,6 @@ impl Txns {
             Some(txn) => txn.kind == Kind::ReadWrite,
             None => false,
         }
-    }
-
-    // A read-write one is used at a moment, and has a read more.
-    fn add_read(&mut self, alloc: Global, id: Id, r: Read, now: Micros) -> Result<(), AllocError>
-        requires there { read_writes id self.old.open ≡ true }
-        requires fits { shown_bytes self.old + shown_size_of r < 2 ^ 128 }
-        ensures ok { OnOk result (self.new ≡ noted self.old id r now) }
-        ensures err { OnErr result (self.new ≡ self.old) }
-    {
-        let held = held_of(alloc, &r)?;
-        let size = shown_size(&r);
-        self.by_id.push_read(id, r)?;
-        if let Err(error) = self.holds.hold(alloc, id, held) {
-            self.by_id.pop_read(alloc, id);
-            return Err(error);
-        }
-        self.by_id.use_at(id, now);
-        self.due = due_with(self.due, now);
-        self.bytes += size;
-        Ok(())
     }
 
     // A read-write one is used at a moment, and has these reads more.
