@@ -1,6 +1,6 @@
 -- What becomes of the streams keeps that each keeps its last response, and that sessions own streams that were opened.
 use Rattle.std.proofs.Common.{◌≡◌, ℕ, zero, suc, ◌<◌, ◌≤◌, ◌-◌, Bool, true, false, cond, List, [], ◌∷◌, ◌++◌, Option, Some, None, Result, Ok, Err, length, refl, sym, ap, ◌∙◌, subst, arith, slice_index_or, slice_set}
-use Rattle.std.specs.Prelude.{◌↔◌, ◌==◌, not}
+use Rattle.std.specs.Prelude.{◌↔◌, ◌==◌, is_some, not}
 use Rattle.std.specs.FinMap.{FinMap, entries, get, get-empty, get-insert, get-remove, insert, remove}
 use Rattle.std.specs.Option.{option_map_or}
 use Rattle.std.specs.Ordering.{eq_by_cmp, nat_cmp}
@@ -16,6 +16,7 @@ use Rattle.fs_stream.specs.declared.kept.Kept.{Kept}
 use Rattle.fs_stream.specs.declared.error.StreamError.{StreamError}
 use Rattle.fs_stream.specs.declared.error.StreamError.TheVariants as error
 use Rattle.fs_stream.specs.declared.stream.Stream.{Stream}
+use Rattle.fs_stream.specs.declared.take.Resumed.{Resumed}
 use Rattle.fs_stream.specs.declared.take.Take.{Take}
 use Rattle.fs_stream.specs.declared.take.Take.TheVariants as take
 
@@ -209,14 +210,14 @@ new_there session known k m stands is = by_owner (get m.owners session) refl is 
   by_owner None owns told = absurd (cc)
   by_owner (Some n) owns told = subst (λ i. (0 < i) × (i ≤ length m.opened)) (new_is n (stream_of n m) (missed (stream_of n m) known) k told) (stands.opened session n owns)
 
--- what a session is told that owns no other stream
-pub resumes : (session n known : ℕ) (m : Streams) → is_opened n m ≡ true → owns_other session n m ≡ false → resume_answer session n known m ≡ resumption_told (stream_of n m) known
-resumes session n known m there alone = by_tests (is_opened n m) there (owns_other session n m) alone where
-  by_tests : (opened : Bool) → opened ≡ true → (other : Bool) → other ≡ false
-      → cond (not opened) (Err (error.Unknown n)) (cond other (Err error.Second) (resumption_told (stream_of n m) known)) ≡ resumption_told (stream_of n m) known
-  by_tests true is false is_too = refl
-  by_tests true is true is_too = absurd (cc)
-  by_tests false is other is_too = absurd (cc)
+-- who may resume a stream
+pub may_resume : (session n known : ℕ) (m : Streams) (r : Resumed) → resume_answer session n known m ≡ Ok r → (is_opened n m ≡ true) × (owns_other session n m ≡ false)
+may_resume session n known m r is = by_tests (is_opened n m) (owns_other session n m) is where
+  by_tests : (opened other : Bool) → cond (not opened) (Err (error.Unknown n)) (cond other (Err error.Second) (resumption_told (stream_of n m) known)) ≡ Ok r
+      → (opened ≡ true) × (other ≡ false)
+  by_tests true false is = (refl, refl)
+  by_tests true true is = absurd (cc)
+  by_tests false other is = absurd (cc)
 
 -- between which numbers one is that was opened
 pub opened_between : (n : ℕ) (m : Streams) → is_opened n m ≡ true → (0 < n) × (n ≤ length m.opened)
@@ -226,7 +227,13 @@ opened_between n m is = grind (arith, nat_tests)
 pub handed_again : (session n : ℕ) (m : Streams) → AreDistinct m.owners → get m.owners session ≡ Some n → handed_to session n m ≡ m
 handed_again session n m differ owns = ap (λ o. record m { owners = o }) (given_again m.owners session n differ owns)
 
-pub own_alone : (session n own : ℕ) (m : Streams) → get m.owners session ≡ Some own → own ≡ n → owns_other session n m ≡ false
-own_alone session n own m owns same = ap (λ o. option_map_or (λ k. not (k == n)) o false) owns ∙ its_own own n same where
-  its_own : (a b : ℕ) → a ≡ b → not (a == b) ≡ false
+-- who owns a stream, and no other than one, owns that one
+pub owned_as : (session n own : ℕ) (m : Streams) → get m.owners session ≡ Some own → owns_other session n m ≡ false → own ≡ n
+owned_as session n own m owns alone = its_own own n (sym (ap (λ o. option_map_or (λ k. not (k == n)) o false) owns) ∙ alone) where
+  its_own : (a b : ℕ) → not (a == b) ≡ false → a ≡ b
   its_own a b same = grind (arith, nat_tests)
+
+-- so nothing is changed where it is handed over
+pub handed_there : (session n : ℕ) (m : Streams) (o : Option ℕ) → get m.owners session ≡ o → is_some o ≡ true → owns_other session n m ≡ false → AreDistinct m.owners → handed_to session n m ≡ m
+handed_there session n m None owns some alone differ = absurd (cc)
+handed_there session n m (Some own) owns some alone differ = handed_again session n m differ (owns ∙ ap Some (owned_as session n own m owns alone))

@@ -1,30 +1,22 @@
 //! Why a write stream doesn't take a request.
 use std::alloc::{AllocError, AllocFailed};
-use thiserror::Error;
 
 /// Why a write stream doesn't take a request.
-#[derive(Debug, Drop, Error)]
+#[derive(Drop)]
 pub enum StreamError {
     /// No stream of this number was opened.
-    #[error("stream {0} unknown")]
     Unknown(u64),
     /// The session owns no stream.
-    #[error("stream not owned")]
     NotOwner,
     /// The token, which is more than one batch behind, and how many batches are finished.
-    #[error("stream token {0} stale, next {1}")]
     Stale(u64, u64),
     /// The token, which no response had yet, and how many batches are finished.
-    #[error("stream token {0} ahead, next {1}")]
     Ahead(u64, u64),
     /// As many streams were opened as may be.
-    #[error("more than {0} streams")]
     TooMany(u64),
     /// The session owns a stream, and can't have another.
-    #[error("second stream")]
     Second,
     /// There was no memory left.
-    #[error("out of memory")]
     Memory(AllocError),
 }
 

@@ -42,7 +42,7 @@ impl Streams {
     ghost use Rattle.std.specs.Prelude.{◌≡◌, ◌↔◌, ◌<◌, ◌≤◌, ◌^◌, suc, Err, IfErr, IfOk, IfSome, IsNone, IsOk, None, Ok, OnErr, OnOk, alloc_error, false, length, true};
     ghost use Rattle.std.specs.FinMap.{entries};
     ghost use Rattle.fs_pairs.specs.Pairs.{AreDistinct, key_of};
-    ghost use Rattle.fs_stream.specs.Answers.{is_full, is_opened, open_refusal, resume_answer, take_answer};
+    ghost use Rattle.fs_stream.specs.Answers.{is_full, is_opened, open_refusal, owns_other, resume_answer, take_answer};
     ghost use Rattle.fs_stream.specs.Stands.{Stands};
     ghost use Rattle.fs_stream.specs.Streams.{finished_with, handed_to, left_by, none_opened, opened_by, owned_by, stream_of, taken};
     ghost use Rattle.fs_stream.specs.declared.error.StreamError.{StreamError};
@@ -99,17 +99,15 @@ impl Streams {
         ensures refused { IfErr (resume_answer session stream token self.old) (λ e. result ≡ Err e) }
         ensures memory { IsOk (resume_answer session stream token self.old) → IfErr result (λ e. e ≡ Memory alloc_error) }
     {
-        let Some(found) = self.get(stream) else {
-            return Err(StreamError::Unknown(stream));
-        };
-        match self.owners.get(session) {
-            Some(own) if own == stream => found.resumption(alloc, token),
-            Some(_) => Err(StreamError::Second),
-            None => {
-                let resumed = found.resumption(alloc, token)?;
-                self.owners.give(session, stream)?;
-                Ok(resumed)
-            }
+        match self.seek(alloc, session, stream, token) {
+            Ok(resumed) => match self.hand(session, stream) {
+                Ok(()) => Ok(resumed),
+                Err(error) => {
+                    drop(resumed);
+                    Err(error)
+                }
+            },
+            Err(error) => Err(error),
         }
     }
 
@@ -238,5 +236,22 @@ impl Streams {
         ensures { result.now ≡ stream_of number self.now }
     {
         &self.opened[number as usize - 1]
+    }
+
+    // A session that owns no other stream owns one from now on.
+    fn hand(&mut self, session: u32, stream: u64) -> Result<(), StreamError>
+        requires opened { is_opened stream self.old ≡ true }
+        requires alone { owns_other session stream self.old ≡ false }
+        ensures ok { OnOk result (self.new ≡ handed_to session stream self.old) }
+        ensures err { OnErr result (self.new ≡ self.old) }
+        ensures memory { IfErr result (λ e. e ≡ Memory alloc_error) }
+    {
+        match self.owners.get(session) {
+            Some(_) => Ok(()),
+            None => {
+                self.owners.give(session, stream)?;
+                Ok(())
+            }
+        }
     }
 }
