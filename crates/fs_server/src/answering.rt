@@ -1,14 +1,17 @@
 //! What commits are answered that are let into the history, and batches of streams that are refused.
-ghost use Rattle.std.specs.Prelude.{◌≡◌, ◌++◌, ◌∷◌, ◌<◌, ◌^◌, suc, [], IfOk, OnOk, OnErr};
-ghost use Rattle.fs_machine.specs.Stream.{answer_of as answer_by, batch_refused, response_of as response_by};
+ghost use Rattle.std.specs.Prelude.{◌≡◌, ◌++◌, ◌∷◌, ◌<◌, ◌^◌, suc, [], None, Some, IfOk, OnOk, OnErr};
+ghost use Rattle.fs_request.specs.declared.message.Message.TheVariants as message;
+ghost use Rattle.fs_machine.specs.Stream.{answer_of as answer_by, batch_refused, kept_refused, owner_told, response_of as response_by, told_if};
 ghost use Rattle.fs_stream.specs.Streams.{stream_of};
-ghost use Rattle.fs_server.specs.Answering.{AreAnswerable, CanFinish, CanFinishAll, all_finished, replies_of, replies_to, responses_of, responses_to};
+ghost use Rattle.fs_server.specs.Answering.{AreAnswerable, CanFinish, CanFinishAll, all_finished, replies_of, replies_to, reply_if, responses_of, responses_to};
 
 use fs_machine::{Asker, Committed, Reply};
+use fs_path::Text;
 use fs_request::{Message, StreamAnswer};
 use fs_sessions::Sessions;
 use fs_status::{Refusal, message};
 use fs_stream::{Kept, Streams};
+use fs_time::Micros;
 use fs_write::WriteResults;
 use std::alloc::{AllocError, Global};
 
@@ -64,6 +67,83 @@ fn next_token(streams: &Streams, stream: u64) -> u64
     }
 }
 
+// How a batch of a stream is kept that is committed.
+fn committed(streams: &Streams, stream: u64, time: Micros, results: WriteResults) -> Kept
+    requires { suc (stream_of stream streams.now).finished < 2 ^ 64 }
+    ensures { result ≡ record { token = suc (stream_of stream streams.now).finished; results = results; commit = Some time; refusal = None } }
+{
+    Kept {
+        token: next_token(streams, stream),
+        results,
+        commit: Some(time),
+        refusal: None,
+    }
+}
+
+// The session that asked is told.
+fn tell_asker(
+    session: u32,
+    request: Option<Text>,
+    time: Micros,
+    results: WriteResults,
+    replies: &mut Vec<Reply>,
+) -> Result<(), AllocError>
+    ensures { OnOk result (replies.new.items ≡ replies.old.items ++ record { session = session; message = message.Commit request time results } ∷ []) }
+{
+    let message = Message::Commit {
+        id: request,
+        time,
+        results,
+    };
+    Ok(replies.push(Reply { session, message })?)
+}
+
+// Whoever owns a stream is told.
+fn tell_owner(
+    alloc: Global,
+    streams: &Streams,
+    stream: u64,
+    kept: &Kept,
+    replies: &mut Vec<Reply>,
+) -> Result<(), AllocError>
+    ensures { OnOk result (replies.new.items ≡ replies.old.items ++ reply_if (owner_told streams.now stream kept.now)) }
+{
+    let Some(session) = streams.owner(stream) else {
+        return Ok(());
+    };
+    let message = response_of(alloc, stream, kept)?;
+    replies.push(Reply { session, message })?;
+    Ok(())
+}
+
+// A stream is to keep a response.
+fn keep(stream: u64, kept: Kept, responses: &mut Vec<Response>) -> Result<(), AllocError>
+    ensures { OnOk result (responses.new.items ≡ responses.old.items ++ record { stream = stream; kept = kept } ∷ []) }
+{
+    Ok(responses.push(Response { stream, kept })?)
+}
+
+// One of a stream, by what it keeps.
+fn answer_stream(
+    alloc: Global,
+    streams: &Streams,
+    stream: u64,
+    kept: Kept,
+    replies: &mut Vec<Reply>,
+    responses: &mut Vec<Response>,
+) -> Result<(), AllocError>
+    ensures told { OnOk result (replies.new.items ≡ replies.old.items ++ reply_if (owner_told streams.now stream kept)) }
+    ensures kept { OnOk result (responses.new.items ≡ responses.old.items ++ record { stream = stream; kept = kept } ∷ []) }
+{
+    match tell_owner(alloc, streams, stream, &kept, replies) {
+        Ok(()) => keep(stream, kept, responses),
+        Err(error) => {
+            drop(kept);
+            Err(error)
+        }
+    }
+}
+
 // One of them, by a reply and a response more. Its results go into the message of a session, or are kept by the stream.
 fn answer_one(
     alloc: Global,
@@ -83,28 +163,13 @@ fn answer_one(
     } = commit;
     match asker {
         Asker::Session { session, request } => {
-            let message = Message::Commit {
-                id: request,
-                time,
-                results,
-            };
-            replies.push(Reply { session, message })?;
+            tell_asker(session, request, time, results, replies)
         }
         Asker::Stream(stream) => {
-            let kept = Kept {
-                token: next_token(streams, stream),
-                results,
-                commit: Some(time),
-                refusal: None,
-            };
-            if let Some(session) = streams.owner(stream) {
-                let message = response_of(alloc, stream, &kept)?;
-                replies.push(Reply { session, message })?;
-            }
-            responses.push(Response { stream, kept })?;
+            let kept = committed(streams, stream, time, results);
+            answer_stream(alloc, streams, stream, kept, replies, responses)
         }
     }
-    Ok(())
 }
 
 /// What sessions are told of commits that are let into the history, in order, and what streams keep of them.
@@ -137,6 +202,36 @@ pub(crate) fn finish_all(streams: &mut Streams, responses: Vec<Response>)
 
 // ---- batches that are refused
 
+// How it is kept.
+fn refused(alloc: Global, streams: &Streams, stream: u64, refusal: Refusal) -> Kept
+    requires { suc (stream_of stream streams.now).finished < 2 ^ 64 }
+    ensures { result ≡ kept_refused streams.now stream refusal }
+{
+    Kept {
+        token: next_token(streams, stream),
+        results: WriteResults::new(alloc),
+        commit: None,
+        refusal: Some(refusal),
+    }
+}
+
+// Whoever owns a stream is sent the response that it is to keep.
+fn send_owner(
+    alloc: Global,
+    streams: &Streams,
+    sessions: &mut Sessions,
+    stream: u64,
+    kept: &Kept,
+) -> Result<(), AllocError>
+    ensures ok { OnOk result (sessions.new ≡ told_if (owner_told streams.now stream kept.now) sessions.old) }
+    ensures err { OnErr result (sessions.new ≡ sessions.old) }
+{
+    match streams.owner(stream) {
+        Some(session) => sessions.deliver(session, response_of(alloc, stream, kept)?),
+        None => Ok(()),
+    }
+}
+
 /// The batch in progress of a stream is finished by a refusal, and whoever owns the stream is told. Where memory runs out, nothing is
 /// changed.
 pub(crate) fn refuse_batch(
@@ -151,16 +246,15 @@ pub(crate) fn refuse_batch(
     ensures err { OnErr result (streams.new ≡ streams.old) }
     ensures err_told { OnErr result (sessions.new ≡ sessions.old) }
 {
-    let kept = Kept {
-        token: next_token(streams, stream),
-        results: WriteResults::new(alloc),
-        commit: None,
-        refusal: Some(refusal),
-    };
-    if let Some(session) = streams.owner(stream) {
-        let message = response_of(alloc, stream, &kept)?;
-        sessions.deliver(session, message)?;
+    let kept = refused(alloc, streams, stream, refusal);
+    match send_owner(alloc, streams, sessions, stream, &kept) {
+        Ok(()) => {
+            streams.finish(stream, kept);
+            Ok(())
+        }
+        Err(error) => {
+            drop(kept);
+            Err(error)
+        }
     }
-    streams.finish(stream, kept);
-    Ok(())
 }

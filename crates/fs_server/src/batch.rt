@@ -1,6 +1,7 @@
 //! Batches of write streams.
-ghost use Rattle.std.specs.Prelude.{◌≡◌, IfOk};
+ghost use Rattle.std.specs.Prelude.{◌≡◌, IfOk, Some};
 ghost use Rattle.fs_machine.specs.Stream.{is_known as known_by, new_of as new_by};
+ghost use Rattle.fs_server.specs.Changes.{asking};
 ghost use Rattle.fs_server.specs.Streaming.{commit_of as commit_by};
 
 use crate::answering::response_of;
@@ -59,13 +60,33 @@ fn commit_of(
     })
 }
 
+// A batch that waits with a number.
+fn parked(
+    alloc: Global,
+    session: u32,
+    number: Id,
+    stream: u64,
+    id: &Option<Text>,
+    database: &Root,
+    writes: &Writes,
+) -> Result<ParkedRequest, AllocError>
+    ensures { IfOk result (λ r. r ≡ asking session number (Some stream) (commit_by id.now database.now writes.now)) }
+{
+    Ok(ParkedRequest {
+        session,
+        id: number,
+        stream: Some(stream),
+        envelope: commit_of(alloc, id, database, writes)?,
+    })
+}
+
 impl Server {
     ghost use Rattle.std.specs.Prelude.{◌≡◌, ◌+◌, ℕ, None, Some, IfOk, OnErr, OnOk};
     ghost use Rattle.fs_request.specs.declared.stream_request.StreamRequest.TheVariants as ask;
     ghost use Rattle.fs_machine.specs.Refusing.{next_time};
     ghost use Rattle.fs_machine.specs.Request.{answered, asked, writer_behind};
     ghost use Rattle.fs_machine.specs.Sessions.{has_owned};
-    ghost use Rattle.fs_machine.specs.Stream.{batch_refusal, own_stream, take_of};
+    ghost use Rattle.fs_machine.specs.Stream.{batch_refusal, new_of, own_stream, take_of};
     ghost use Rattle.fs_machine.specs.declared.answer.Answer.TheVariants.{Prepared};
     ghost use Rattle.fs_server.specs.Streaming.{IsKnown, IsNext, after_next, batch_of, batch_prepared, number_drawn, told_batch, told_next, writing};
 
@@ -84,10 +105,31 @@ impl Server {
         ensures err { OnErr result (self.new ≡ self.old) }
     {
         let take = self.take_of(alloc, session, token)?;
-        if let Some(refusal) = self.batch_refusal(alloc, session, writes, is_known(&take))? {
+        let answer = self.look_at(alloc, session, id, database, token, writes, &take);
+        drop(take);
+        answer
+    }
+
+    // The one with a token, which is this to its stream.
+    fn look_at(
+        &mut self,
+        alloc: Global,
+        session: u32,
+        id: &Option<Text>,
+        database: &Root,
+        _token: u64,
+        writes: &Writes,
+        take: &Result<Take, StreamError>,
+    ) -> Result<Answer, AllocError>
+        requires { take.now ≡ take_of self.old session _token }
+        ensures told { IfOk result (λ a. a ≡ answered self.old session (writing id.now database.now (ask.Batch _token writes.now))) }
+        ensures state { OnOk result (self.new ≡ asked self.old session (writing id.now database.now (ask.Batch _token writes.now))) }
+        ensures err { OnErr result (self.new ≡ self.old) }
+    {
+        if let Some(refusal) = self.batch_refusal(alloc, session, writes, is_known(take))? {
             return Ok(Answer::Refused(refusal));
         }
-        match new_of(&take) {
+        match new_of(take) {
             Some(stream) => self.take_batch(alloc, session, id, database, stream, writes),
             None => self.tell_batch(alloc, session, take),
         }
@@ -135,27 +177,41 @@ impl Server {
         &mut self,
         alloc: Global,
         session: u32,
-        take: Result<Take, StreamError>,
+        take: &Result<Take, StreamError>,
     ) -> Result<Answer, AllocError>
-        requires { IsKnown self.old session take }
-        ensures told { IfOk result (λ a. a ≡ told_batch (has_owned session self.old.sessions) (own_stream self.old session) take) }
+        requires { IsKnown self.old session take.now }
+        ensures told { IfOk result (λ a. a ≡ told_batch (has_owned session self.old.sessions) (own_stream self.old session) take.now) }
         ensures state { OnOk result (self.new ≡ number_drawn self.old) }
         ensures err { OnErr result (self.new ≡ self.old) }
     {
         self.stand();
-        let answer = match take {
-            Ok(Take::New(_)) => unreachable!(),
-            Ok(Take::Repeat(kept)) => {
-                Answer::Reply(response_of(alloc, self.own_stream(session), &kept)?)
-            }
-            Ok(Take::InProgress(finished)) => Answer::InProgress(finished),
-            Err(error) => {
-                let ever = self.sessions.has_owned(session);
-                Answer::Refused(not_taken(alloc, ever, error)?)
-            }
-        };
+        let answer = self.known_answer(alloc, session, take)?;
         self.numbers.ids += 1;
         Ok(answer)
+    }
+
+    // What it is told.
+    fn known_answer(
+        &self,
+        alloc: Global,
+        session: u32,
+        take: &Result<Take, StreamError>,
+    ) -> Result<Answer, AllocError>
+        requires { new_of take.now ≡ None }
+        ensures { IfOk result (λ a. a ≡ told_batch (has_owned session self.now.sessions) (own_stream self.now session) take.now) }
+    {
+        match take {
+            Ok(Take::New(_)) => unreachable!(),
+            Ok(Take::Repeat(kept)) => {
+                let stream = self.own_stream(session);
+                Ok(Answer::Reply(response_of(alloc, stream, kept)?))
+            }
+            Ok(Take::InProgress(finished)) => Ok(Answer::InProgress(*finished)),
+            Err(error) => {
+                let ever = self.sessions.has_owned(session);
+                Ok(Answer::Refused(not_taken(alloc, ever, error)?))
+            }
+        }
     }
 
     // The number of a session's own stream.
@@ -217,12 +273,8 @@ impl Server {
             self.numbers.ids += 1;
             return Ok(Answer::Refused(refusal));
         }
-        let request = ParkedRequest {
-            session,
-            id: Id::new(self.numbers.ids + 1),
-            stream: Some(stream),
-            envelope: commit_of(alloc, id, database, writes)?,
-        };
+        let number = Id::new(self.numbers.ids + 1);
+        let request = parked(alloc, session, number, stream, id, database, writes)?;
         self.waiting.push(request)?;
         self.streams.begin(stream);
         self.numbers.ids += 1;
@@ -245,7 +297,10 @@ impl Server {
         self.stand();
         let id = Id::new(self.numbers.ids + 1);
         let (answer, change) = self.commit_plain(alloc, id, Asker::Stream(stream), writes)?;
-        make(alloc, &mut self.past, &mut self.txns, change)?;
+        if let Err(error) = make(alloc, &mut self.past, &mut self.txns, change) {
+            drop(answer);
+            return Err(error);
+        }
         self.streams.begin(stream);
         self.numbers.ids += 1;
         Ok(answer)

@@ -52,7 +52,7 @@ fn commit(
 {
     let id = id_of(&commit);
     past.prepare(alloc, commit)?;
-    let _ = txns.end(id);
+    drop(txns.end(id));
     Ok(())
 }
 
@@ -75,7 +75,7 @@ pub(crate) fn make(
         Change::Prepares(prepared) => past.prepare(alloc, prepared),
         Change::Commits(committed) => commit(alloc, past, txns, committed),
         Change::Ends(id) => {
-            let _ = txns.end(id);
+            drop(txns.end(id));
             Ok(())
         }
         Change::Begins(id, kind, time) => txns.begin(alloc, id, kind, time, now),

@@ -105,6 +105,21 @@ fn removed_answer(alloc: Global, id: u32, cause: Option<Cause>) -> Result<Answer
     }
 }
 
+// What is told of a target that is added, and the target.
+fn to_add(alloc: Global, id: u32, target: &Target) -> Result<(Answer, Target), AllocError>
+    ensures told { IfOk result (λ a. a.0 ≡ Reply (message.Listen (listen.Add (id ∷ [])))) }
+    ensures copied { IfOk result (λ a. a.1 ≡ target.now) }
+{
+    let answer = added_answer(alloc, id)?;
+    match target.copy(alloc) {
+        Ok(target) => Ok((answer, target)),
+        Err(error) => {
+            drop(answer);
+            Err(error)
+        }
+    }
+}
+
 // A rule that the query of a target breaks is told at its place.
 fn broken(alloc: Global, rule: QueryRule) -> Result<Refusal, AllocError>
     ensures { IfOk result (λ r. r ≡ refusal_of (reasons.Rule (Q rule.number rule.count) target_query_place)) }
@@ -259,11 +274,13 @@ impl Server {
     {
         self.stand();
         targets_are_lawful();
-        let answer = added_answer(alloc, id)?;
-        let target = target.copy(alloc)?;
+        let (answer, target) = to_add(alloc, id, target)?;
         let number = self.numbers.targets + 1;
-        self.listeners
-            .add_target(session, id, number, target, token_time(token))?;
+        let time = token_time(token);
+        if let Err(error) = self.listeners.add_target(session, id, number, target, time) {
+            drop(answer);
+            return Err(error);
+        }
         self.numbers.targets = number;
         Ok(answer)
     }

@@ -194,7 +194,10 @@ impl Server {
         self.stand();
         let id = number_of(self.numbers.ids, &envelope.request);
         let (answer, change) = self.carry_out(alloc, session, id, None, envelope, reads)?;
-        make(alloc, &mut self.past, &mut self.txns, change)?;
+        if let Err(error) = make(alloc, &mut self.past, &mut self.txns, change) {
+            drop(answer);
+            return Err(error);
+        }
         self.numbers.ids = ids_after(self.numbers.ids, &envelope.request);
         Ok(answer)
     }

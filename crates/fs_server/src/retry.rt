@@ -5,7 +5,7 @@ use crate::server::Server;
 use fs_history::Reads;
 use fs_machine::{Answer, Parked};
 use fs_request::{Request, copy_id};
-use fs_status::{Reason, Refusal};
+use fs_status::{Id, Reason, Refusal};
 use std::alloc::{AllocError, Global};
 
 impl Server {
@@ -34,13 +34,23 @@ impl Server {
         ensures { IfOk result (λ p. Some p ≡ option_map (parked_of self.now) (slice_get self.now.parked place)) }
     {
         let request = self.waiting.at(place as usize);
-        let reads = self.shown(alloc, &request.envelope.request)?;
+        let held = self.held_by(alloc, &request.envelope.request)?;
         Ok(Parked {
             session: request.session,
             id: copy_id(alloc, &request.envelope.id)?,
             stream: request.stream,
-            held: self.holder(alloc, &request.envelope.request, &reads)?,
+            held,
         })
+    }
+
+    // Whom a request waits for.
+    fn held_by(&self, alloc: Global, request: &Request) -> Result<Option<Id>, AllocError>
+        ensures { IfOk result (λ h. h ≡ held_by self.now request.now) }
+    {
+        let reads = self.shown(alloc, request)?;
+        let held = self.holder(alloc, request, &reads);
+        drop(reads);
+        held
     }
 
     /// The request that waits at a place is tried again: what it is answered. One that still has to wait stays where it is
@@ -70,9 +80,16 @@ impl Server {
         self.stand();
         let request = &self.waiting.at(place).envelope.request;
         let reads = self.shown(alloc, request)?;
-        match self.refusal(alloc, request, &reads)? {
-            Some(refusal) => self.give_up(alloc, place, refusal),
-            None => self.try_clear(alloc, place, reads),
+        match self.refusal(alloc, request, &reads) {
+            Ok(None) => self.try_clear(alloc, place, reads),
+            Ok(Some(refusal)) => {
+                drop(reads);
+                self.give_up(alloc, place, refusal)
+            }
+            Err(error) => {
+                drop(reads);
+                Err(error)
+            }
         }
     }
 
@@ -157,7 +174,10 @@ impl Server {
             &request.envelope,
             reads,
         )?;
-        make(alloc, &mut self.past, &mut self.txns, change)?;
+        if let Err(error) = make(alloc, &mut self.past, &mut self.txns, change) {
+            drop(answer);
+            return Err(error);
+        }
         self.waiting.remove(place);
         Ok(answer)
     }

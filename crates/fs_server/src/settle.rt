@@ -1,16 +1,20 @@
 //! Settling commits, and releasing what can be.
 ghost use Rattle.std.specs.Prelude.{◌≡◌, IfOk, IsSome, OnOk, OnErr, Some};
+ghost use Rattle.fs_request.specs.Refused.{refused as refused_by};
 ghost use Rattle.fs_machine.specs.Release.{all_answered, committed_out, past_released};
+ghost use Rattle.fs_machine.specs.Sessions.{delivered};
 ghost use Rattle.fs_machine.specs.Settle.{ComesTo, dropped_from, pending_of, refused_to};
 ghost use Rattle.fs_machine.specs.declared.unreleased.Unreleased.{Unreleased};
 ghost use Rattle.fs_past.specs.Bringing.{BringsMore};
+ghost use Rattle.fs_sessions.specs.Place.{all_delivered};
 ghost use Rattle.fs_server.specs.Answering.{AreAnswerable, CanFinishFor};
 ghost use Rattle.fs_server.specs.Settling.{is_refused, settled_so, Decides};
 
 use crate::answering::{answers, finish_all, refuse_batch};
 use crate::server::Server;
-use fs_machine::{Asker, Outcome, Settled, Unreleased};
+use fs_machine::{Asker, Outcome, Reply, Settled, Unreleased};
 use fs_past::Past;
+use fs_path::Text;
 use fs_request::{Message, copy_id};
 use fs_sessions::Sessions;
 use fs_status::{Id, Refusal};
@@ -28,6 +32,22 @@ fn pending(past: &Past, id: Id) -> &Unreleased
         Some(commit) => commit,
         None => unreachable!(),
     }
+}
+
+// The session that asked is told a refusal.
+fn tell_refused(
+    alloc: Global,
+    sessions: &mut Sessions,
+    session: u32,
+    request: &Option<Text>,
+    refusal: &Refusal,
+) -> Result<(), AllocError>
+    ensures ok { OnOk result (sessions.new ≡ delivered session (refused_by request.now refusal.now) sessions.old) }
+    ensures err { OnErr result (sessions.new ≡ sessions.old) }
+{
+    let request = copy_id(alloc, request)?;
+    let message = Message::refused(alloc, request, refusal)?;
+    sessions.deliver(session, message)
 }
 
 // A pending commit is dropped, and the session that asked is told why, or its stream has finished the batch so.
@@ -50,9 +70,9 @@ fn reject(
 {
     match &pending(past, id).asker {
         Asker::Session { session, request } => {
-            let request = copy_id(alloc, request)?;
-            let message = Message::refused(alloc, request, &refusal)?;
-            sessions.deliver(*session, message)?;
+            let told = tell_refused(alloc, sessions, *session, request, &refusal);
+            drop(refusal);
+            told?;
         }
         Asker::Stream(stream) => refuse_batch(alloc, streams, sessions, *stream, refusal)?,
     }
@@ -85,6 +105,29 @@ fn decide(
     }
 }
 
+// What can be is released, and sessions have these replies. Where memory runs out, nothing is changed.
+fn release_told(
+    alloc: Global,
+    past: &mut Past,
+    sessions: &mut Sessions,
+    replies: Vec<Reply>,
+) -> Result<(), AllocError>
+    ensures past { OnOk result (past.new ≡ past_released past.old) }
+    ensures brings { OnOk result (BringsMore past.old past.new) }
+    ensures told { OnOk result (sessions.new ≡ all_delivered replies.items sessions.old) }
+    ensures err { OnErr result (past.new ≡ past.old) }
+    ensures err_told { OnErr result (sessions.new ≡ sessions.old) }
+{
+    let to = sessions.deliver_all(alloc, replies)?;
+    match past.release(alloc) {
+        Ok(()) => Ok(()),
+        Err(error) => {
+            sessions.take_all_back(to);
+            Err(error)
+        }
+    }
+}
+
 /// What can be is released, sessions have their replies, and streams keep their responses. Where memory runs out, nothing is changed.
 /// (docs/DECISIONS.md, "Replies are delivered before what they tell is released".)
 pub(crate) fn release(
@@ -103,13 +146,16 @@ pub(crate) fn release(
 {
     let commits = past.committed(alloc)?;
     let (replies, responses) = answers(alloc, streams, commits)?;
-    let to = sessions.deliver_all(alloc, replies)?;
-    if let Err(error) = past.release(alloc) {
-        sessions.take_all_back(to);
-        return Err(error);
+    match release_told(alloc, past, sessions, replies) {
+        Ok(()) => {
+            finish_all(streams, responses);
+            Ok(())
+        }
+        Err(error) => {
+            drop(responses);
+            Err(error)
+        }
     }
-    finish_all(streams, responses);
-    Ok(())
 }
 
 // What has become of a commit of this time, once what can be is released.

@@ -63,7 +63,7 @@ impl Waiting {
         requires { place < length self.old }
         ensures { self.new ≡ remove self.old place }
     {
-        let _ = self.items.remove(place);
+        drop(self.items.remove(place));
     }
 
     /// Those of a session wait no more, but for the batches that streams took. It takes no memory.

@@ -63,20 +63,26 @@ pub(crate) fn lasting(error: StreamError) -> Result<StreamError, AllocError>
 pub(crate) fn not_taken(
     alloc: Global,
     ever: bool,
-    error: StreamError,
+    error: &StreamError,
 ) -> Result<Refusal, AllocError>
-    ensures { IfOk result (λ r. r ≡ refusal_of (reason_of ever error)) }
+    ensures { IfOk result (λ r. r ≡ refusal_of (reason_of ever error.now)) }
+{
+    Ok(Refusal::of(reason_of(alloc, ever, error)?))
+}
+
+fn reason_of(alloc: Global, ever: bool, error: &StreamError) -> Result<Reason, AllocError>
+    ensures { IfOk result (λ r. r ≡ reason_of ever error.now) }
 {
     match error {
-        StreamError::Unknown(stream) => Ok(Refusal::of(Reason::StreamUnknown(stream))),
-        StreamError::NotOwner => Ok(Refusal::of(unowned(ever))),
-        StreamError::Stale(token, next) => Ok(Refusal::of(Reason::Stale(token, next))),
-        StreamError::Ahead(token, next) => Ok(Refusal::of(Reason::Ahead(token, next))),
+        StreamError::Unknown(stream) => Ok(Reason::StreamUnknown(*stream)),
+        StreamError::NotOwner => Ok(unowned(ever)),
+        StreamError::Stale(token, next) => Ok(Reason::Stale(*token, *next)),
+        StreamError::Ahead(token, next) => Ok(Reason::Ahead(*token, *next)),
         StreamError::TooMany(limit) => {
-            Ok(Refusal::of(Reason::AtLimit(Text::from_str(alloc, "streams")?, limit)))
+            Ok(Reason::AtLimit(Text::from_str(alloc, "streams")?, *limit))
         }
-        StreamError::Second => Ok(Refusal::of(Reason::SecondStream)),
-        StreamError::Memory(error) => Err(error),
+        StreamError::Second => Ok(Reason::SecondStream),
+        StreamError::Memory(_) => Err(AllocError),
     }
 }
 
@@ -175,15 +181,56 @@ impl Server {
             return Ok(Answer::Refused(refusal));
         }
         match self.streams.seek(alloc, session, stream, token) {
-            Ok(resumed) => {
-                let answer = resumed_answer(alloc, stream, &resumed)?;
-                self.hand(alloc, session, stream, token)?;
-                Ok(answer)
-            }
+            Ok(resumed) => self.resume_as(alloc, session, stream, token, resumed),
             Err(error) => {
                 let error = lasting(error)?;
                 let ever = self.sessions.has_owned(session);
-                Ok(Answer::Refused(not_taken(alloc, ever, error)?))
+                Ok(Answer::Refused(not_taken(alloc, ever, &error)?))
+            }
+        }
+    }
+
+    // It is told where the stream is, and owns it from now on.
+    fn resume_as(
+        &mut self,
+        alloc: Global,
+        session: u32,
+        stream: u64,
+        token: u64,
+        resumed: Resumed,
+    ) -> Result<Answer, AllocError>
+        requires { refusal_of_stream self.old session (ask.Resume stream token) ≡ None }
+        ensures told { IfOk result (λ a. a ≡ resumed_by stream (Told resumed)) }
+        ensures state { OnOk result (self.new ≡ streamed self.old session (ask.Resume stream token)) }
+        ensures err { OnErr result (self.new ≡ self.old) }
+    {
+        let answer = resumed_answer(alloc, stream, &resumed);
+        drop(resumed);
+        match answer {
+            Ok(answer) => self.resume_free(alloc, session, stream, token, answer),
+            Err(error) => Err(error),
+        }
+    }
+
+    // It is told this, once it owns the stream.
+    fn resume_free(
+        &mut self,
+        alloc: Global,
+        session: u32,
+        stream: u64,
+        token: u64,
+        answer: Answer,
+    ) -> Result<Answer, AllocError>
+        requires { refusal_of_stream self.old session (ask.Resume stream token) ≡ None }
+        ensures same { IfOk result (λ a. a ≡ answer) }
+        ensures state { OnOk result (self.new ≡ streamed self.old session (ask.Resume stream token)) }
+        ensures err { OnErr result (self.new ≡ self.old) }
+    {
+        match self.hand(alloc, session, stream, token) {
+            Ok(()) => Ok(answer),
+            Err(error) => {
+                drop(answer);
+                Err(error)
             }
         }
     }

@@ -1,5 +1,5 @@
 use Rattle.fs_server.proofs.Responses.{answerable_counts}
 use Rattle.fs_server.proofs.answering.answer_one.Goals as goal
 
-pub next_token-requires : goal.next_token-requires
-next_token-requires c = answerable_counts c.args.streams.now c.args.commit c.in-Stream.stream c.in-Stream.is c.requires
+pub committed-kept-requires : goal.committed-kept-requires
+committed-kept-requires c = answerable_counts c.args.streams.now c.args.commit c.in-Stream.stream c.in-Stream.is c.requires

@@ -1,7 +1,6 @@
 use Rattle.std.proofs.Common.{sym, ap, ◌∙◌, subst}
 use Rattle.fs_machine.specs.Release.{all_answered}
-use Rattle.fs_sessions.specs.Place.{all_delivered, all_taken_back}
-use Rattle.fs_sessions.proofs.Replies.{all_back}
+use Rattle.fs_sessions.specs.Place.{all_delivered}
 use Rattle.fs_server.specs.Answering.{AreAnswerable, CanFinishAll, all_finished}
 use Rattle.fs_server.proofs.Responses.{answered_apart, can_finish_all}
 use Rattle.fs_server.proofs.settle.release.Goals as goal
@@ -14,18 +13,12 @@ finish_all-requires c =
     let may = subst (AreAnswerable c.args.streams.now) (sym c.in_ok-commits.ensures) c.requires in
     subst (CanFinishAll c.args.streams.now) (sym c.in_ok-replies.ensures.kept) (can_finish_all c.args.streams.now c.in_ok-commits.commits.items may)
 
-pub returns-in-Err-clause-err_told : goal.returns-in-Err-clause-err_told
-returns-in-Err-clause-err_told c =
-    let ok = c.in_ok-to.ensures.ok in
-    let to = c.in_ok-to.ensures.to in
-    c.take_all_back.ensures ∙ (λ i. all_taken_back (to i) (ok i)) ∙ all_back c.in_ok-replies.replies.items c.args.sessions.now
-
-pub returns-clause-told : goal.returns-clause-told
-returns-clause-told c =
+pub returns-in-Ok-clause-told : goal.returns-in-Ok-clause-told
+returns-in-Ok-clause-told c =
     let s = c.args.streams.now in
     let ss = c.args.sessions.now in
     let may = subst (AreAnswerable s) (sym c.in_ok-commits.ensures) c.requires in
-    (λ i. (c.finish_all.ensures i, c.in_ok-to.ensures.ok i))
+    (λ i. (c.finish_all.ensures i, c.in-Ok.ensures.told i))
     ∙ (λ i. (all_finished (c.in_ok-replies.ensures.kept i) s, all_delivered (c.in_ok-replies.ensures.told i) ss))
     ∙ answered_apart s c.in_ok-commits.commits.items ss may
     ∙ ap (λ cs. all_answered cs (s, ss)) c.in_ok-commits.ensures

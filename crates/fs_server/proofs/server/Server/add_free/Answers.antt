@@ -44,13 +44,13 @@ invariant_of-self-2 c =
     let none = ap (λ (k : Machine). adding_refusal k c.args.session c.args.id c.args.target.now c.args.token.now) c.self.view_is ∙ c.requires in
     let shown = token_shown m c.args.token.now (adding_passes m c.args.session c.args.id c.args.target.now c.args.token.now none).1 in
     kept_adding s.config s.limits s.past s.txns s.sessions s.listeners c.add_target.new.self s.waiting s.streams s.numbers c.self.invariant c.targets_are_lawful.ensures.adding c.args.session c.args.id
-    c.in_ok-target.target c.token_time.result (subst (λ o. IfSome o (λ k. k ≤ℤ s.past.released)) (sym c.token_time.ensures) shown) c.in_ok-add_target.ensures.ok
+    c.in_ok-answer.target c.token_time-time.result (subst (λ o. IfSome o (λ k. k ≤ℤ s.past.released)) (sym c.token_time-time.ensures) shown) c.in_default.ensures.ok
 
 pub returns-clause-state : goal.returns-clause-state
 returns-clause-state c =
     let s = c.self.inside in
     let m : Machine = record { config = s.config; limits = s.limits; past = s.past; txns = s.txns; sessions = s.sessions; listeners = listeners_of s.listeners; parked = s.waiting; streams = s.streams; numbers = s.numbers } in
     let number = s.numbers.targets + 1 in
-    let listeners = ap listeners_of c.in_ok-add_target.ensures.ok ∙ listeners_adding c.args.session c.args.id number c.in_ok-target.target c.token_time.result s.listeners in
+    let listeners = ap listeners_of c.in_default.ensures.ok ∙ listeners_adding c.args.session c.args.id number c.in_ok-answer.target c.token_time-time.result s.listeners in
     (λ i. record m { listeners = listeners i; numbers = record s.numbers { targets = number } })
-    ∙ (λ i. with_target (c.self.view_is i) c.args.session c.args.id (c.in_ok-target.ensures i) (c.token_time.ensures i))
+    ∙ (λ i. with_target (c.self.view_is i) c.args.session c.args.id (c.in_ok-answer.ensures.copied i) (c.token_time-time.ensures i))

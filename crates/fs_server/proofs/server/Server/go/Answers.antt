@@ -27,7 +27,7 @@ invariant_of-self-2 c =
     let s = c.self.inside in
     let m0 : Machine = record { config = s.config; limits = s.limits; past = s.past; txns = s.txns; sessions = s.sessions; listeners = listeners_of s.listeners; parked = s.waiting; streams = s.streams; numbers = s.numbers } in
     went_kept m0 c.args.self.now c.self.view_is c.args.session c.args.envelope.now c.requires.limits c.requires.check c.number_of-id.result c.ids_after-self-inside.result c.number_of-id.ensures
-    c.ids_after-self-inside.ensures c.requires.plain c.requires.free (c.in_ok-answer.answer, c.in_ok-answer.change) c.in_ok-answer.ensures c.make.new.past c.make.new.txns c.in_ok-make.ensures.past c.in_ok-make.ensures.txns
+    c.ids_after-self-inside.ensures c.requires.plain c.requires.free (c.in_ok-answer.answer, c.in_ok-answer.change) c.in_ok-answer.ensures c.make.new.past c.make.new.txns c.in_default.ensures.past c.in_default.ensures.txns
     s.listeners refl c.self.invariant.configured c.self.invariant.allowed c.self.invariant.shards c.self.invariant.heard c.stand.ensures.facts
 
 pub returns-clause-state : goal.returns-clause-state
@@ -35,4 +35,4 @@ returns-clause-state c =
     let s = c.self.inside in
     let m0 : Machine = record { config = s.config; limits = s.limits; past = s.past; txns = s.txns; sessions = s.sessions; listeners = listeners_of s.listeners; parked = s.waiting; streams = s.streams; numbers = s.numbers } in
     went m0 c.args.self.now c.self.view_is c.args.session c.args.envelope.now c.requires.limits c.requires.check c.number_of-id.result c.ids_after-self-inside.result c.number_of-id.ensures
-    c.ids_after-self-inside.ensures c.requires.plain c.requires.free (c.in_ok-answer.answer, c.in_ok-answer.change) c.in_ok-answer.ensures c.make.new.past c.make.new.txns c.in_ok-make.ensures.past c.in_ok-make.ensures.txns
+    c.ids_after-self-inside.ensures c.requires.plain c.requires.free (c.in_ok-answer.answer, c.in_ok-answer.change) c.in_ok-answer.ensures c.make.new.past c.make.new.txns c.in_default.ensures.past c.in_default.ensures.txns

@@ -25,7 +25,7 @@ invariant_of-self-2 c =
     let here = ap (λ (n : Machine). slice_get n.parked c.args.place) (sym c.self.view_is) ∙ c.at-request.ensures in
     let clear = c.requires.clear r here in
     went_on_kept m0 c.args.self.now c.self.view_is c.args.place r here clear.limits clear.check (plain_parked c.args.self.now c.args.place r here c.stand.ensures.facts.waiters) (c.requires.free r here) (c.in_ok-answer.answer, c.in_ok-answer.change) c.in_ok-answer.ensures
-    c.make.new.past c.make.new.txns c.remove.new.self c.in_ok-make.ensures.past c.in_ok-make.ensures.txns c.remove.ensures s.listeners refl c.self.invariant.configured c.self.invariant.allowed c.self.invariant.shards c.self.invariant.heard c.stand.ensures.facts
+    c.make.new.past c.make.new.txns c.remove.new.self c.in_default.ensures.past c.in_default.ensures.txns c.remove.ensures s.listeners refl c.self.invariant.configured c.self.invariant.allowed c.self.invariant.shards c.self.invariant.heard c.stand.ensures.facts
 
 pub returns-clause-state : goal.returns-clause-state
 returns-clause-state c =
@@ -35,4 +35,4 @@ returns-clause-state c =
     let here = ap (λ (n : Machine). slice_get n.parked c.args.place) (sym c.self.view_is) ∙ c.at-request.ensures in
     let clear = c.requires.clear r here in
     went_on m0 c.args.self.now c.self.view_is c.args.place r here clear.limits clear.check (plain_parked c.args.self.now c.args.place r here c.stand.ensures.facts.waiters) (c.requires.free r here) (c.in_ok-answer.answer, c.in_ok-answer.change) c.in_ok-answer.ensures
-    c.make.new.past c.make.new.txns c.remove.new.self c.in_ok-make.ensures.past c.in_ok-make.ensures.txns c.remove.ensures
+    c.make.new.past c.make.new.txns c.remove.new.self c.in_default.ensures.past c.in_default.ensures.txns c.remove.ensures

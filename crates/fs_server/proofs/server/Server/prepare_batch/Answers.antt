@@ -46,8 +46,8 @@ invariant_of-self-2 c =
     let made : changed m change ≡ prepared m (commit_for m.past (m.numbers.ids + 1) (Stream n) ws []) =
     c.in_ok-answer.ensures.state ∙ ap (λ id. prepared m (commit_for m.past id (Stream n) ws [])) number in
     let is : k ≡ batch_prepared m n ws =
-    (λ i. record m0 { past = c.in_ok-make.ensures.past i; txns = c.in_ok-make.ensures.txns i; streams = c.begin.ensures i; numbers = record s.numbers { ids = s.numbers.ids + 1 } })
+    (λ i. record m0 { past = c.in_default.ensures.past i; txns = c.in_default.ensures.txns i; streams = c.begin.ensures i; numbers = record s.numbers { ids = s.numbers.ids + 1 } })
     ∙ ap (λ (x : Machine). record (changed x change) { streams = taken (New n) x.streams; numbers = record x.numbers { ids = x.numbers.ids + 1 } }) c.self.view_is
     ∙ ap (λ (x : Machine). record x { streams = taken (New n) m.streams; numbers = record m.numbers { ids = m.numbers.ids + 1 } }) made in
-    next_kept m c.requires.next.0 n ws c.requires.next.1 k None m.config.root (is ∙ state_prepared m c.requires.next.0 None m.config.root n ws c.requires.free) s.listeners refl c.self.invariant.configured c.self.invariant.allowed (shards_changed s.past c.make.new.past change s.config.shards c.in_ok-make.ensures.past c.self.invariant.shards)
-    (heard_changed s.config s.limits s.past c.make.new.past change s.listeners c.in_ok-make.ensures.past c.self.invariant.heard) c.stand.ensures.facts
+    next_kept m c.requires.next.0 n ws c.requires.next.1 k None m.config.root (is ∙ state_prepared m c.requires.next.0 None m.config.root n ws c.requires.free) s.listeners refl c.self.invariant.configured c.self.invariant.allowed (shards_changed s.past c.make.new.past change s.config.shards c.in_default.ensures.past c.self.invariant.shards)
+    (heard_changed s.config s.limits s.past c.make.new.past change s.listeners c.in_default.ensures.past c.self.invariant.heard) c.stand.ensures.facts

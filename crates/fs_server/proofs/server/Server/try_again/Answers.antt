@@ -19,4 +19,4 @@ try_clear-requires-clause-clear c = λ r here.
     let x = c.at.result.now in
     let at = ap (λ (n : Machine). slice_get n.parked c.args.place) (sym c.self.view_is) ∙ c.at.ensures in
     let same : x ≡ r = same_Some x r (sym at ∙ here) in
-    subst (λ (k : ParkedRequest). IsClear m k.session k.envelope.request c.in_ok-reads.reads) same (is_clear m x.session x.envelope.request c.in_ok-reads.reads (sym c.in-None.is ∙ c.in_ok-refusal.ensures x.session) c.in_ok-reads.ensures)
+    subst (λ (k : ParkedRequest). IsClear m k.session k.envelope.request c.in_ok-reads.reads) same (is_clear m x.session x.envelope.request c.in_ok-reads.reads (sym c.in-Ok-None.field-0-is ∙ c.in-Ok-None.ensures x.session) c.in_ok-reads.ensures)
