@@ -80,6 +80,6 @@ impl Messages {
     pub fn take_back(&mut self)
         ensures { self.new ≡ take (length self.old - 1) self.old }
     {
-        let _ = self.items.pop();
+        drop(self.items.pop());
     }
 }
