@@ -20,3 +20,5 @@ mod table;
 mod valjson;
 #[cfg(test)]
 mod writejson;
+#[cfg(test)]
+mod written;

@@ -1,9 +1,10 @@
 //! Values, documents and arrays, read and written again, by tables.
 use crate::made::{Form, Make, demo, printed};
 use crate::table::holds;
+use crate::written::document_text;
 use fs_json::Bad;
 use fs_path::Way;
-use fs_valjson::{read_array, read_document, read_list, read_value, write_document, write_value};
+use fs_valjson::{read_array, read_document, read_list, read_value, write_value};
 use fs_value::Document;
 use serde_json::Value;
 use std::alloc::Global;
@@ -20,7 +21,7 @@ pub(crate) fn value_again(rt: &impl Abort, alloc: Global, v: &Value) -> Result<S
 /// What is written of the document that is read.
 pub(crate) fn document_again(rt: &impl Abort, alloc: Global, v: &Value) -> Result<String, Bad> {
     let document = document_of(rt, alloc, v)?;
-    let told = printed(rt, alloc, write_document(alloc, &document));
+    let told = document_text(rt, alloc, &document);
     drop(document);
     Ok(told)
 }

@@ -4,8 +4,7 @@ mod Cutting
 mod Written
 mod Ending
 mod Json
-mod Tokens
-mod Listened
+mod HeldTokens
 mod Places
 mod Reading
 mod Removed

@@ -16,4 +16,3 @@ pub mod BetweenLines
 pub mod Lines
 pub mod Commits
 pub mod Gathering
-pub mod Tokens

@@ -8,8 +8,8 @@ ghost use Rattle.fs_replay.specs.Held.{held_json, held_line, held_lines, with_he
 ghost use Rattle.fs_replay.specs.Reply.{json_line};
 
 use crate::directory::Directory;
-use crate::message_line::push_id;
 use crate::state::State;
+use fs_rpc::push_id;
 use fs_server::{Parked, Server};
 use fs_status::Id;
 use fs_valjson::push_text;

@@ -4,7 +4,6 @@
 mod ask;
 mod calls;
 mod close;
-mod commit_line;
 mod directory;
 mod forms;
 mod gather;
@@ -13,18 +12,14 @@ mod laws;
 mod limits;
 mod line;
 mod lines;
-mod listen_line;
-mod message_line;
 mod output;
 mod play;
-mod reads_line;
 mod reply;
 mod request;
 mod script;
 mod serve;
 mod state;
 mod step;
-mod write_line;
 
 pub use fs_server::{Config, Limits, Mode};
 pub use laws::scripts_are_lawful;

@@ -7,10 +7,9 @@ ghost use Rattle.fs_rpc.specs.MessageJson.{error_json};
 ghost use Rattle.fs_replay.specs.Outboxes.{message_line, message_lines};
 ghost use Rattle.fs_replay.specs.Reply.{json_line, line_error, refusal_json, refused_json};
 
-use crate::message_line::message_bytes;
 use fs_path::Text;
 use fs_request::Message;
-use fs_rpc::error_json;
+use fs_rpc::{error_json, write_message_on};
 use fs_status::{Reason, Refusal, message};
 use serde_json::{Value, json};
 use std::alloc::{AllocError, Global};
@@ -85,7 +84,7 @@ pub fn say(
 ) -> Result<(), AllocError>
     ensures { OnOk result (out.new.items ≡ out.old.items ++ message_line session.now message.now) }
 {
-    let line = message_bytes(alloc, session, message)?;
+    let line = write_message_on(alloc, session, message)?;
     out.extend_from_slice(&line)?;
     Ok(out.push(b'\n')?)
 }

@@ -18,7 +18,7 @@ use Rattle.fs_json.specs.Members.{is_given}
 use Rattle.fs_json.specs.declared.bad.Bad.{Bad}
 use Rattle.fs_valjson.specs.Document.{document_at, document_json}
 use Rattle.fs_json.specs.Time.{IsTimeHeld}
-use Rattle.fs_valjson.specs.Valid.{IsValid}
+use Rattle.fs_valjson.specs.Valid.{IsDocumentHeld, IsValid}
 use Rattle.fs_value.specs.Data as value
 use Rattle.fs_value.specs.declared.document.Document.{Document}
 use Rattle.fs_write.specs.declared.write_result.WriteResult.{WriteResult}
@@ -28,7 +28,7 @@ use Rattle.fs_rpc.specs.ListenJson.{listen_json}
 use Rattle.fs_query.specs.declared.listen.ListenMessage.{ListenMessage}
 use Rattle.fs_query.specs.declared.listen.ListenMessage.TheVariants.{Add, Remove, Reset, Current, NoChange, Changed, Deleted, Removed}
 use Rattle.fs_rpc.specs.MessageJson.{batch_answer_json, begin_json, commit_json, error_json, error_members, message_json, query_answer_json, query_answers_json, read_at, result_members, stream_answer_members}
-use Rattle.fs_rpc.specs.MessageSteps.{IsAnswerHeld, IsDocumentHeld, IsMessageHeld}
+use Rattle.fs_rpc.specs.MessageSteps.{IsAnswerHeld, IsMessageHeld}
 use Rattle.fs_rpc.specs.ReadListen.{listen_at}
 use Rattle.fs_rpc.specs.ReadMessage.{answers_begin, answers_commit, answers_names, answers_rollback, begin_result_at, commit_result_at, error_at, message_at, query_result_at, result_at}
 use Rattle.fs_rpc.specs.ReadStreamAnswer.{stream_answer_at}
@@ -73,7 +73,7 @@ missing_again root name time place h t = rw (h, t (member_place place (codes "re
 
 answer_again : (root : Root) (a : BatchAnswer) (place : List ℕ) → IsAnswerHeld a → IsAnswerOf root a → batch_answer_at root (batch_answer_json a) place ≡ Ok a
 answer_again root (Found document time) place held valid =
-    found_again root (document_json document) document time place (document_given (codes "found") document) (held.0 root (member_place place (codes "found")) valid) held.1
+    found_again root (document_json document) document time place (document_given (codes "found") document) (held.0.again root (member_place place (codes "found")) valid) held.1
 answer_again root (Missing name time) place t valid = missing_again root name time place (name_again root name valid) t
 
 answers_again : (root : Root) (xs : List BatchAnswer) (i : ℕ) (place : List ℕ) → AllByRecursion IsAnswerHeld xs → AllByRecursion (IsAnswerOf root) xs
@@ -94,7 +94,7 @@ one_item root content d time place given h t = rw (given, h, t (member_place pla
 item_again : (root : Root) (time : ℤ) (d : Document) (place : List ℕ) → IsDocumentHeld d → IsTimeHeld time → IsValid root d
     → query_answer_at root (query_answer_json time d) place ≡ Ok (told time d)
 item_again root time d place held t valid =
-    one_item root (document_json d) d time place (document_given (codes "document") d) (held root (member_place place (codes "document")) valid) t
+    one_item root (document_json d) d time place (document_given (codes "document") d) (held.again root (member_place place (codes "document")) valid) t
 
 items_again : (root : Root) (time : ℤ) (ds : List Document) (i : ℕ) (place : List ℕ) → AllByRecursion IsDocumentHeld ds → IsTimeHeld time → AllByRecursion (IsValid root) ds
     → each_at (query_answer_at root) (items_of (map (query_answer_json time) ds)) i place ≡ Ok (map (told time) ds)
@@ -163,7 +163,7 @@ no_other d = no_other_at d.name d.fields d.created d.updated
 document_result : (root : Root) (id : Option (List ℕ)) (d : Document) (place : List ℕ) → IsDocumentHeld d → IsValid root d → result_at root id (document_json d) place ≡ Ok (GetDocument id d)
 unfolding result_at
 document_result root id d place held valid =
-    let other = no_other d in rw (no_list d, other.commit, other.begin, other.rollback, held root place valid) refl
+    let other = no_other d in rw (no_list d, other.commit, other.begin, other.rollback, held.again root place valid) refl
 
 commit_result : (root : Root) (id : Option (List ℕ)) (time : ℤ) (rs : List WriteResult) (place : List ℕ) → IsTimeHeld time → AllByRecursion IsResultHeld rs → AllByRecursion ResultHasNames rs
     → result_at root id (commit_json time rs) place ≡ Ok (Commit id time rs)

@@ -3,7 +3,10 @@ pub mod ListenAgain
 pub mod ListenValid
 pub mod ListenDepth
 pub mod Again
-pub mod Floats
+pub mod HeldParts
+pub mod MessageTokens
+pub mod Tokens
+pub mod Listened
 pub mod Named
 pub mod Put
 pub mod Once

@@ -141,7 +141,7 @@ listen_again root (NoChange time token) place held valid =
     change_told root (with_moment time token no_members) (NoChange time token) place (no_change_again time token (member_place place (codes "targetChange")) held.0 held.1)
 listen_again root (Changed document targets left) place held valid =
     let inside = member_place place (codes "documentChange") in
-    changed_told root document targets left place (changed_again root document targets left inside (held root (member_place inside (codes "document")) valid.0) valid.1 valid.2)
+    changed_told root document targets left place (changed_again root document targets left inside (held.again root (member_place inside (codes "document")) valid.0) valid.1 valid.2)
 listen_again root (Deleted name time left) place held valid =
     deleted_told root name time left place (gone_again root name time left (member_place place (codes "documentDelete")) (name_again root name valid.0) held valid.1)
 listen_again root (Removed name time left) place held valid =

@@ -19,6 +19,7 @@ pub mod RequestJson
 pub mod RequestSteps
 pub mod Requests
 pub mod Steps
+pub mod Tokens
 pub mod ValidMessage
 pub mod ValidRequest
 pub mod When

@@ -2,11 +2,13 @@
 #![tactic(auto)]
 
 mod answers;
+mod commit_write;
 mod decimal;
 mod distinct;
 mod eight;
 mod envelope;
 mod error_read;
+mod error_write;
 mod id;
 mod list;
 mod listen_read;
@@ -16,6 +18,7 @@ mod message_write;
 mod names;
 mod options;
 mod read;
+mod reads_write;
 mod request_write;
 mod results;
 mod stream_answer_read;
@@ -29,8 +32,9 @@ mod when;
 
 pub use decimal::read_decimal;
 pub use envelope::{SessionRequest, read_envelope, read_request, read_session_request};
+pub use error_write::error_json;
 pub use message_read::read_message;
-pub use message_write::{error_json, write_message};
+pub use message_write::{push_id, write_message, write_message_on};
 pub use request_write::write_request;
 pub use streams_write::print_stream_token;
 pub use transaction::print_transaction;

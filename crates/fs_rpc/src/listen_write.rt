@@ -1,38 +1,56 @@
 //! Writes what a session that listens is told.
-ghost use Rattle.std.specs.Prelude.{◌≡◌, codes, map, IfOk, OnOk};
-ghost use Rattle.serde_json.specs.View.{items_of, items_view, members_view, view as json};
-ghost use Rattle.fs_json.specs.Base64.{bytes_json};
+ghost use Rattle.std.specs.Prelude.{◌≡◌, ◌++◌, codes, map, OnOk};
+ghost use Rattle.serde_json.specs.Data.{array, member, no_members};
+ghost use Rattle.serde_json.specs.View.{items_of};
 ghost use Rattle.fs_json.specs.Time.{IsTimeHeld};
-ghost use Rattle.fs_rpc.specs.ListenJson.{cause_json, changed_members, gone_members, kind_members, listen_json, number_json, told_members, told_name, with_cause, with_moment};
-ghost use Rattle.fs_rpc.specs.MessageSteps.{IsDocumentHeld, IsListenHeld, IsTokenHeld, with_cause_put, with_moment_put};
-ghost use Rattle.fs_rpc.specs.Steps.{with_list_put};
-ghost use Rattle.serde_json.specs.Data.{no_members};
+ghost use Rattle.fs_valjson.specs.Tokens.{member_tokens, tokens_of};
+ghost use Rattle.fs_valjson.specs.Valid.{IsDocumentHeld};
+ghost use Rattle.fs_rpc.specs.ListenJson.{cause_json, changed_members, gone_members, kind_members, listen_json, number_json, told_members, told_name, with_cause, with_moment, with_targets};
+ghost use Rattle.fs_rpc.specs.MessageSteps.{IsListenHeld, IsTokenHeld};
+ghost use Rattle.fs_rpc.specs.Tokens.{told_end, told_head};
 
-use crate::list::put_list;
-use crate::message_write::document_value;
 use crate::names::{
-    ADD, CAUSE, CODE, CURRENT, DOCUMENT, DOCUMENT_CHANGE, DOCUMENT_DELETE, DOCUMENT_REMOVE,
+    ADD, CAUSE, CODE, CURRENT, DOCUMENT, DOCUMENT_CHANGE, DOCUMENT_DELETE, DOCUMENT_REMOVE, LISTEN,
     MESSAGE, READ_TIME, REMOVE, REMOVED_TARGET_IDS, RESET, RESUME_TOKEN, TARGET_CHANGE,
     TARGET_CHANGE_TYPE, TARGET_IDS,
 };
-use fs_json::{with_one, write_bytes, write_text, write_time};
+use base64::engine::general_purpose::STANDARD;
 use fs_path::{Bytes, DocName, print_document};
 use fs_query::{Cause, ListenMessage, Numbers};
-use fs_time::Micros;
+use fs_time::{Micros, print};
+use fs_valjson::{push_document, push_text};
 use fs_value::Document;
-use serde_json::{Map, Value};
+use json::Writer;
 use std::alloc::{AllocError, Global};
 
-/// Writes what a session that listens is told. (v1 reference, `ListenResponse`.)
-pub(crate) fn write_listen(alloc: Global, told: &ListenMessage) -> Result<Value, AllocError>
-    ensures value { IfOk result (λ j. json j ≡ listen_json told.now) }
+/// Writes what a session is told, as the one member of its message. (v1 reference, `ListenResponse`.)
+///
+/// `"listen":{"targetChange":{"targetChangeType":"ADD","targetIds":[1]}}`
+pub(crate) fn push_listen(
+    alloc: Global,
+    line: &mut Writer,
+    told: &ListenMessage,
+) -> Result<(), AllocError>
+    ensures tokens { OnOk result (line.new.tokens
+        ≡ line.old.tokens ++ member_tokens (member (codes "listen") (listen_json told.now) no_members)) }
+    ensures before { line.new.before ≡ line.old.before }
     ensures held { OnOk result (IsListenHeld told.now) }
 {
-    let members = write_told(alloc, told)?;
-    with_one(alloc, name_of(told), Value::Object(members))
+    line.key(LISTEN)?;
+    push_told(alloc, line, told)
 }
 
-// The name that its members stand under.
+fn push_told(alloc: Global, line: &mut Writer, told: &ListenMessage) -> Result<(), AllocError>
+    ensures tokens { OnOk result (line.new.tokens ≡ line.old.tokens ++ tokens_of (listen_json told.now)) }
+    ensures before { line.new.before ≡ line.old.before }
+    ensures held { OnOk result (IsListenHeld told.now) }
+{
+    push_head(line, name_of(told))?;
+    push_content(alloc, line, told)?;
+    push_end(line)
+}
+
+// The name of the one member of what is told.
 fn name_of(told: &ListenMessage) -> &'static str
     ensures { result.now ≡ told_name told.now }
 {
@@ -44,202 +62,202 @@ fn name_of(told: &ListenMessage) -> &'static str
     }
 }
 
-fn write_told(alloc: Global, told: &ListenMessage) -> Result<Map<String, Value>, AllocError>
-    ensures value { IfOk result (λ ms. members_view ms.entries ≡ told_members told.now) }
+// An object of one member, which is an object.
+fn push_head(line: &mut Writer, name: &str) -> Result<(), AllocError>
+    ensures tokens { OnOk result (line.new.tokens ≡ line.old.tokens ++ told_head name.now) }
+    ensures before { line.new.before ≡ line.old.before }
+{
+    line.begin_object()?;
+    line.key(name)?;
+    line.begin_object()
+}
+
+fn push_end(line: &mut Writer) -> Result<(), AllocError>
+    ensures tokens { OnOk result (line.new.tokens ≡ line.old.tokens ++ told_end) }
+    ensures before { line.new.before ≡ line.old.before }
+{
+    line.end_object()?;
+    line.end_object()
+}
+
+// The members of that object.
+fn push_content(alloc: Global, line: &mut Writer, told: &ListenMessage) -> Result<(), AllocError>
+    ensures tokens { OnOk result (line.new.tokens ≡ line.old.tokens ++ member_tokens (told_members told.now)) }
+    ensures before { line.new.before ≡ line.old.before }
     ensures held { OnOk result (IsListenHeld told.now) }
 {
     match told {
-        ListenMessage::Add { targets } => write_kind(alloc, ADD, targets),
-        ListenMessage::Remove { targets, cause } => write_remove(alloc, targets, cause),
-        ListenMessage::Reset { targets } => write_kind(alloc, RESET, targets),
+        ListenMessage::Add { targets } => push_kind(line, ADD, targets),
+        ListenMessage::Remove { targets, cause } => push_remove(line, targets, cause),
+        ListenMessage::Reset { targets } => push_kind(line, RESET, targets),
         ListenMessage::Current {
             targets,
             time,
             token,
-        } => write_current(alloc, targets, *time, token),
-        ListenMessage::NoChange { time, token } => write_no_change(alloc, *time, token),
+        } => push_current(alloc, line, targets, *time, token),
+        ListenMessage::NoChange { time, token } => push_moment(alloc, line, *time, token),
         ListenMessage::Changed {
             document,
             targets,
             left,
-        } => write_changed(alloc, document, targets, left),
-        ListenMessage::Deleted { name, time, left } => write_gone(alloc, name, *time, left),
-        ListenMessage::Removed { name, time, left } => write_gone(alloc, name, *time, left),
+        } => push_changed(alloc, line, document, targets, left),
+        ListenMessage::Deleted { name, time, left } => push_gone(alloc, line, name, *time, left),
+        ListenMessage::Removed { name, time, left } => push_gone(alloc, line, name, *time, left),
     }
 }
 
 // ---- changes of targets
 
-// A kind of change, and its targets.
-fn write_kind(
-    alloc: Global,
-    kind: &str,
+fn push_kind(line: &mut Writer, kind: &str, targets: &Numbers) -> Result<(), AllocError>
+    ensures tokens { OnOk result (line.new.tokens
+        ≡ line.old.tokens ++ member_tokens (kind_members kind.now targets.now)) }
+    ensures before { line.new.before ≡ line.old.before }
+{
+    push_text(line, TARGET_CHANGE_TYPE, kind)?;
+    push_targets(line, TARGET_IDS, targets)
+}
+
+fn push_remove(
+    line: &mut Writer,
     targets: &Numbers,
-) -> Result<Map<String, Value>, AllocError>
-    ensures { IfOk result (λ ms. members_view ms.entries ≡ kind_members kind.now targets.now) }
-{
-    let mut members = Map::new(alloc);
-    let kind = Value::try_from_str(alloc, kind)?;
-    serde_json::put(&mut members, alloc, TARGET_CHANGE_TYPE, kind)?;
-    put_targets(alloc, &mut members, TARGET_IDS, targets)?;
-    Ok(members)
-}
-
-fn write_remove(
-    alloc: Global,
-    targets: &Numbers,
-    cause: &Option<Cause>,
-) -> Result<Map<String, Value>, AllocError>
-    ensures { IfOk result (λ ms. members_view ms.entries
-        ≡ with_cause cause.now (kind_members (codes "REMOVE") targets.now)) }
-{
-    let mut members = write_kind(alloc, REMOVE, targets)?;
-    put_cause(alloc, &mut members, cause)?;
-    Ok(members)
-}
-
-fn write_current(
-    alloc: Global,
-    targets: &Numbers,
-    time: Micros,
-    token: &Bytes,
-) -> Result<Map<String, Value>, AllocError>
-    ensures value { IfOk result (λ ms. members_view ms.entries
-        ≡ with_moment time token.now (kind_members (codes "CURRENT") targets.now)) }
-    ensures held { OnOk result (IsTimeHeld time × IsTokenHeld token.now) }
-{
-    let mut members = write_kind(alloc, CURRENT, targets)?;
-    put_moment(alloc, &mut members, time, token)?;
-    Ok(members)
-}
-
-fn write_no_change(
-    alloc: Global,
-    time: Micros,
-    token: &Bytes,
-) -> Result<Map<String, Value>, AllocError>
-    ensures value { IfOk result (λ ms. members_view ms.entries ≡ with_moment time token.now no_members) }
-    ensures held { OnOk result (IsTimeHeld time × IsTokenHeld token.now) }
-{
-    let mut members = Map::new(alloc);
-    put_moment(alloc, &mut members, time, token)?;
-    Ok(members)
-}
-
-/// Puts in a cause, where there is one.
-fn put_cause(
-    alloc: Global,
-    members: &mut Map<String, Value>,
     cause: &Option<Cause>,
 ) -> Result<(), AllocError>
-    ensures { OnOk result (members_view members.new.entries
-        ≡ with_cause_put cause.now (members_view members.old.entries)) }
+    ensures tokens { OnOk result (line.new.tokens
+        ≡ line.old.tokens ++ member_tokens (with_cause cause.now (kind_members (codes "REMOVE") targets.now))) }
+    ensures before { line.new.before ≡ line.old.before }
+{
+    push_cause(line, cause)?;
+    push_kind(line, REMOVE, targets)
+}
+
+fn push_current(
+    alloc: Global,
+    line: &mut Writer,
+    targets: &Numbers,
+    time: Micros,
+    token: &Bytes,
+) -> Result<(), AllocError>
+    ensures tokens { OnOk result (line.new.tokens
+        ≡ line.old.tokens ++ member_tokens (with_moment time token.now (kind_members (codes "CURRENT") targets.now))) }
+    ensures before { line.new.before ≡ line.old.before }
+    ensures held { OnOk result (IsTimeHeld time × IsTokenHeld token.now) }
+{
+    push_moment(alloc, line, time, token)?;
+    push_kind(line, CURRENT, targets)
+}
+
+// The cause, where there is one.
+fn push_cause(line: &mut Writer, cause: &Option<Cause>) -> Result<(), AllocError>
+    ensures tokens { OnOk result (line.new.tokens
+        ≡ line.old.tokens ++ member_tokens (with_cause cause.now no_members)) }
+    ensures before { line.new.before ≡ line.old.before }
 {
     match cause {
-        Some(cause) => serde_json::put(members, alloc, CAUSE, cause_value(alloc, cause)?),
+        Some(cause) => push_some_cause(line, cause),
         None => Ok(()),
     }
 }
 
-fn cause_value(alloc: Global, cause: &Cause) -> Result<Value, AllocError>
-    ensures { IfOk result (λ j. json j ≡ cause_json cause.now) }
+fn push_some_cause(line: &mut Writer, cause: &Cause) -> Result<(), AllocError>
+    ensures tokens { OnOk result (line.new.tokens
+        ≡ line.old.tokens ++ member_tokens (member (codes "cause") (cause_json cause.now) no_members)) }
+    ensures before { line.new.before ≡ line.old.before }
 {
-    let mut members = Map::new(alloc);
-    serde_json::put(&mut members, alloc, CODE, number_value(cause.code))?;
-    let message = write_text(alloc, &cause.message)?;
-    serde_json::put(&mut members, alloc, MESSAGE, message)?;
-    Ok(Value::Object(members))
+    line.key(CAUSE)?;
+    line.begin_object()?;
+    line.key(CODE)?;
+    push_number(line, cause.code)?;
+    push_text(line, MESSAGE, cause.message.as_str())?;
+    line.end_object()
 }
 
-/// Puts in a time, and the token of it.
-fn put_moment(
+// A time, and the token of it.
+fn push_moment(
     alloc: Global,
-    members: &mut Map<String, Value>,
+    line: &mut Writer,
     time: Micros,
     token: &Bytes,
 ) -> Result<(), AllocError>
-    ensures value { OnOk result (members_view members.new.entries
-        ≡ with_moment_put time token.now (members_view members.old.entries)) }
+    ensures tokens { OnOk result (line.new.tokens
+        ≡ line.old.tokens ++ member_tokens (with_moment time token.now no_members)) }
+    ensures before { line.new.before ≡ line.old.before }
     ensures held { OnOk result (IsTimeHeld time × IsTokenHeld token.now) }
 {
-    serde_json::put(members, alloc, READ_TIME, write_time(alloc, time)?)?;
-    let token = token_value(alloc, token)?;
-    serde_json::put(members, alloc, RESUME_TOKEN, token)
-}
-
-pub(crate) fn token_value(alloc: Global, token: &Bytes) -> Result<Value, AllocError>
-    ensures value { IfOk result (λ j. json j ≡ bytes_json token.now) }
-    ensures held { OnOk result (IsTokenHeld token.now) }
-{
-    write_bytes(alloc, token)
+    push_text(line, READ_TIME, &print(alloc, time)?)?;
+    push_text(
+        line,
+        RESUME_TOKEN,
+        &STANDARD.encode(alloc, token.as_slice())?,
+    )
 }
 
 // ---- documents
 
-// A document as it is in the views of targets, and those whose views have it no longer.
-fn write_changed(
+fn push_changed(
     alloc: Global,
+    line: &mut Writer,
     document: &Document,
     targets: &Numbers,
     left: &Numbers,
-) -> Result<Map<String, Value>, AllocError>
-    ensures value { IfOk result (λ ms. members_view ms.entries ≡ changed_members document.now targets.now left.now) }
+) -> Result<(), AllocError>
+    ensures tokens { OnOk result (line.new.tokens
+        ≡ line.old.tokens ++ member_tokens (changed_members document.now targets.now left.now)) }
+    ensures before { line.new.before ≡ line.old.before }
     ensures held { OnOk result (IsDocumentHeld document.now) }
 {
-    let mut members = Map::new(alloc);
-    let written = document_value(alloc, document)?;
-    serde_json::put(&mut members, alloc, DOCUMENT, written)?;
-    put_targets(alloc, &mut members, REMOVED_TARGET_IDS, left)?;
-    put_targets(alloc, &mut members, TARGET_IDS, targets)?;
-    Ok(members)
+    line.key(DOCUMENT)?;
+    push_document(alloc, line, document)?;
+    push_targets(line, REMOVED_TARGET_IDS, left)?;
+    push_targets(line, TARGET_IDS, targets)
 }
 
-// A document that those views have no longer.
-fn write_gone(
+fn push_gone(
     alloc: Global,
+    line: &mut Writer,
     name: &DocName,
     time: Micros,
     left: &Numbers,
-) -> Result<Map<String, Value>, AllocError>
-    ensures value { IfOk result (λ ms. members_view ms.entries ≡ gone_members name.now time left.now) }
+) -> Result<(), AllocError>
+    ensures tokens { OnOk result (line.new.tokens
+        ≡ line.old.tokens ++ member_tokens (gone_members name.now time left.now)) }
+    ensures before { line.new.before ≡ line.old.before }
     ensures held { OnOk result (IsTimeHeld time) }
 {
-    let mut members = Map::new(alloc);
-    let printed = print_document(alloc, name)?.into_string();
-    serde_json::put(&mut members, alloc, DOCUMENT, Value::String(printed))?;
-    serde_json::put(&mut members, alloc, READ_TIME, write_time(alloc, time)?)?;
-    put_targets(alloc, &mut members, REMOVED_TARGET_IDS, left)?;
-    Ok(members)
+    push_text(line, DOCUMENT, print_document(alloc, name)?.as_str())?;
+    push_text(line, READ_TIME, &print(alloc, time)?)?;
+    push_targets(line, REMOVED_TARGET_IDS, left)
 }
 
 // ---- numbers
 
-/// Puts in the numbers of targets under this name, where there are any.
-fn put_targets(
-    alloc: Global,
-    members: &mut Map<String, Value>,
-    name: &str,
-    targets: &Numbers,
-) -> Result<(), AllocError>
-    ensures { OnOk result (members_view members.new.entries
-        ≡ with_list_put name.now (items_of (map number_json targets.now)) (members_view members.old.entries)) }
+// The numbers of targets, which are left out where there are none.
+fn push_targets(line: &mut Writer, name: &str, targets: &Numbers) -> Result<(), AllocError>
+    ensures tokens { OnOk result (line.new.tokens
+        ≡ line.old.tokens ++ member_tokens (with_targets name.now targets.now no_members)) }
+    ensures before { line.new.before ≡ line.old.before }
 {
-    let written = write_numbers(alloc, targets.as_slice())?;
-    put_list(alloc, members, name, written)
-}
-
-fn write_numbers(alloc: Global, numbers: &[u32]) -> Result<Vec<Value>, AllocError>
-    ensures { IfOk result (λ l. items_view l.items ≡ items_of (map number_json numbers.now)) }
-{
-    let mut items = Vec::with_capacity(alloc, numbers.len())?;
-    for number in numbers {
-        items.push(number_value(*number))?;
+    if targets.is_empty() {
+        return Ok(());
     }
-    Ok(items)
+    line.key(name)?;
+    push_numbers(line, targets.as_slice())
 }
 
-pub(crate) fn number_value(number: u32) -> Value
-    ensures { json result ≡ number_json number }
+fn push_numbers(line: &mut Writer, numbers: &[u32]) -> Result<(), AllocError>
+    ensures tokens { OnOk result (line.new.tokens
+        ≡ line.old.tokens ++ tokens_of (array (items_of (map number_json numbers.now)))) }
+    ensures before { line.new.before ≡ line.old.before }
 {
-    Value::from(number)
+    line.begin_array()?;
+    for number in numbers {
+        push_number(line, *number)?;
+    }
+    line.end_array()
+}
+
+fn push_number(line: &mut Writer, number: u32) -> Result<(), AllocError>
+    ensures tokens { OnOk result (line.new.tokens ≡ line.old.tokens ++ tokens_of (number_json number)) }
+    ensures before { line.new.before ≡ line.old.before }
+{
+    line.u64(u64::from(number))
 }

@@ -1,91 +1,113 @@
 //! Writes what is told of write streams.
-ghost use Rattle.std.specs.Prelude.{◌≡◌, IfOk, OnOk};
-ghost use Rattle.std.specs.List.{AllByRecursion};
-ghost use Rattle.serde_json.specs.View.{members_view, view as json};
-ghost use Rattle.fs_json.specs.Time.{IsTimeHeld};
-ghost use Rattle.fs_writejson.specs.Results.{IsResultHeld};
-ghost use Rattle.fs_rpc.specs.Decimal.{IsDecimalHeld};
-ghost use Rattle.fs_rpc.specs.Eight.{IsEightHeld};
-ghost use Rattle.fs_rpc.specs.MessageJson.{stream_answer_json};
-ghost use Rattle.fs_rpc.specs.MessageSteps.{IsAnsweredHeld, IsStreamHeld, with_answer_put, with_committed_put, with_stream_and_token_put};
+ghost use Rattle.std.specs.Prelude.{◌≡◌, ◌++◌, codes, OnOk};
+ghost use Rattle.serde_json.specs.Data.{member, no_members};
+ghost use Rattle.fs_request.specs.declared.message.StreamAnswer.TheVariants.{Committed, Refused, Stands};
+ghost use Rattle.fs_valjson.specs.Tokens.{member_tokens, tokens_of};
+ghost use Rattle.fs_rpc.specs.MessageJson.{stream_answer_json, stream_answer_members, with_stream_and_token};
+ghost use Rattle.fs_rpc.specs.MessageSteps.{IsStreamHeld};
 
-use crate::decimal::write_decimal;
-use crate::eight::put_eight;
-use crate::list::put_list;
-use crate::message_write::{error_json, write_results};
-use crate::names::{COMMIT_TIME, ERROR, STREAM_ID, STREAM_TOKEN, WRITE_RESULTS};
-use fs_json::write_time;
+use crate::commit_write::push_results;
+use crate::message_write::push_status;
+use crate::names::{COMMIT_TIME, ERROR, STREAM_ID, STREAM_TOKEN, WRITE};
+use crate::streams_write::print_stream_token;
 use fs_request::StreamAnswer;
-use fs_time::Micros;
+use fs_status::Code;
+use fs_time::{Micros, print};
+use fs_valjson::push_text;
 use fs_write::WriteResult;
-use serde_json::{Map, Value};
+use json::Writer;
 use std::alloc::{AllocError, Global};
 
-/// Writes what is told of a write stream. (v1 reference, `WriteResponse`.)
-pub(crate) fn write_stream_answer(
+/// Writes what is told of a stream, as the one member of its message. (v1 reference, `WriteResponse`.)
+///
+/// `"write":{"commitTime":"2024-01-01T00:00:00Z","streamId":"1","streamToken":"AAAAAAAAAAE=","writeResults":[{}]}`
+pub(crate) fn push_write(
     alloc: Global,
+    line: &mut Writer,
     stream: u64,
     token: u64,
     answer: &StreamAnswer,
-) -> Result<Value, AllocError>
-    ensures value { IfOk result (λ j. json j ≡ stream_answer_json stream token answer.now) }
+) -> Result<(), AllocError>
+    ensures tokens { OnOk result (line.new.tokens
+        ≡ line.old.tokens ++ member_tokens (member (codes "write") (stream_answer_json stream token answer.now) no_members)) }
+    ensures before { line.new.before ≡ line.old.before }
     ensures held { OnOk result (IsStreamHeld stream token answer.now) }
 {
-    let mut members = Map::new(alloc);
-    put_stream(alloc, &mut members, stream, token)?;
-    put_answer(alloc, &mut members, answer)?;
-    Ok(Value::Object(members))
+    line.key(WRITE)?;
+    line.begin_object()?;
+    push_answer(alloc, line, stream, token, answer)?;
+    line.end_object()
 }
 
-/// Puts in a stream and its token.
-fn put_stream(
+fn push_answer(
     alloc: Global,
-    members: &mut Map<String, Value>,
+    line: &mut Writer,
     stream: u64,
     token: u64,
-) -> Result<(), AllocError>
-    ensures value { OnOk result (members_view members.new.entries
-        ≡ with_stream_and_token_put stream token (members_view members.old.entries)) }
-    ensures held { OnOk result (IsDecimalHeld stream × IsEightHeld token) }
-{
-    serde_json::put(members, alloc, STREAM_ID, write_decimal(alloc, stream)?)?;
-    put_eight(alloc, members, STREAM_TOKEN, token)
-}
-
-/// Puts in what is told of a batch, where something is.
-fn put_answer(
-    alloc: Global,
-    members: &mut Map<String, Value>,
     answer: &StreamAnswer,
 ) -> Result<(), AllocError>
-    ensures value { OnOk result (members_view members.new.entries
-        ≡ with_answer_put answer.now (members_view members.old.entries)) }
-    ensures held { OnOk result (IsAnsweredHeld answer.now) }
+    ensures tokens { OnOk result (line.new.tokens
+        ≡ line.old.tokens ++ member_tokens (stream_answer_members stream token answer.now)) }
+    ensures before { line.new.before ≡ line.old.before }
+    ensures held { OnOk result (IsStreamHeld stream token answer.now) }
 {
     match answer {
-        StreamAnswer::Stands => Ok(()),
+        StreamAnswer::Stands => push_stream(alloc, line, stream, token),
         StreamAnswer::Committed { time, results } => {
-            put_committed(alloc, members, *time, results.as_slice())
+            push_committed(alloc, line, stream, token, *time, results.as_slice())
         }
         StreamAnswer::Refused { code, message } => {
-            let error = error_json(alloc, *code, message.as_str())?;
-            serde_json::put(members, alloc, ERROR, error)
+            push_refused(alloc, line, stream, token, *code, message.as_str())
         }
     }
 }
 
-/// Puts in the time of a commit and its results, where there are some.
-fn put_committed(
+// A stream and its token.
+fn push_stream(alloc: Global, line: &mut Writer, stream: u64, token: u64) -> Result<(), AllocError>
+    ensures tokens { OnOk result (line.new.tokens
+        ≡ line.old.tokens ++ member_tokens (with_stream_and_token stream token no_members)) }
+    ensures before { line.new.before ≡ line.old.before }
+    ensures held { OnOk result (IsStreamHeld stream token Stands) }
+{
+    let number = format!(in alloc; "{}", stream)?;
+    let text = print_stream_token(alloc, token)?;
+    push_text(line, STREAM_ID, &number)?;
+    push_text(line, STREAM_TOKEN, text.as_str())
+}
+
+fn push_committed(
     alloc: Global,
-    members: &mut Map<String, Value>,
+    line: &mut Writer,
+    stream: u64,
+    token: u64,
     time: Micros,
     results: &[WriteResult],
 ) -> Result<(), AllocError>
-    ensures value { OnOk result (members_view members.new.entries
-        ≡ with_committed_put time results.now (members_view members.old.entries)) }
-    ensures held { OnOk result (IsTimeHeld time × AllByRecursion IsResultHeld results.now) }
+    ensures tokens { OnOk result (line.new.tokens
+        ≡ line.old.tokens ++ member_tokens (stream_answer_members stream token (Committed time results.now))) }
+    ensures before { line.new.before ≡ line.old.before }
+    ensures held { OnOk result (IsStreamHeld stream token (Committed time results.now)) }
 {
-    serde_json::put(members, alloc, COMMIT_TIME, write_time(alloc, time)?)?;
-    let written = write_results(alloc, results)?;
-    put_list(alloc, members, WRITE_RESULTS, written)
+    let text = print(alloc, time)?;
+    push_text(line, COMMIT_TIME, &text)?;
+    push_stream(alloc, line, stream, token)?;
+    push_results(alloc, line, time, &text, results)
+}
+
+fn push_refused(
+    alloc: Global,
+    line: &mut Writer,
+    stream: u64,
+    token: u64,
+    code: Code,
+    message: &str,
+) -> Result<(), AllocError>
+    ensures tokens { OnOk result (line.new.tokens
+        ≡ line.old.tokens ++ member_tokens (stream_answer_members stream token (Refused code message.now))) }
+    ensures before { line.new.before ≡ line.old.before }
+    ensures held { OnOk result (IsStreamHeld stream token (Refused code message.now)) }
+{
+    line.key(ERROR)?;
+    push_status(line, code, message)?;
+    push_stream(alloc, line, stream, token)
 }

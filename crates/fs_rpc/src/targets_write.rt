@@ -1,17 +1,18 @@
 //! Writes the requests of a session that listens.
 ghost use Rattle.std.specs.Prelude.{◌≡◌, IfOk, IfSome, OnOk};
 ghost use Rattle.serde_json.specs.View.{members_view, view as json};
+ghost use Rattle.fs_json.specs.Base64.{bytes_json};
+ghost use Rattle.fs_rpc.specs.ListenJson.{number_json};
 ghost use Rattle.fs_rpc.specs.MessageSteps.{IsTokenHeld};
 ghost use Rattle.fs_rpc.specs.RequestJson.{add_target_json, documents_target_json, listen_add_json, listen_remove_json, query_target_json};
 ghost use Rattle.fs_rpc.specs.RequestSteps.{IsNumberHeld, IsQueryHeld, IsTargetHeld, with_target_put, with_token_put};
 
-use crate::listen_write::{number_value, token_value};
 use crate::names::{
     ADD_TARGET, DATABASE, DOCUMENTS, PARENT, QUERY, REMOVE_TARGET, RESUME_TOKEN, STRUCTURED_QUERY,
     TARGET_ID,
 };
 use crate::request_write::{database_value, parent_value, query_value, write_names};
-use fs_json::write_small;
+use fs_json::{write_bytes, write_small};
 use fs_path::{Bytes, DocName, Root};
 use fs_query::{Query, Target};
 use serde_json::{Map, Value};
@@ -114,6 +115,12 @@ fn documents_target_value(alloc: Global, names: &[DocName]) -> Result<Value, All
     Ok(Value::Object(members))
 }
 
+fn number_value(number: u32) -> Value
+    ensures { json result ≡ number_json number }
+{
+    Value::from(number)
+}
+
 /// Puts in a token, where there is one. One without bytes is there too.
 fn put_token(
     alloc: Global,
@@ -131,4 +138,11 @@ fn put_token(
         }
         None => Ok(()),
     }
+}
+
+fn token_value(alloc: Global, token: &Bytes) -> Result<Value, AllocError>
+    ensures value { IfOk result (λ j. json j ≡ bytes_json token.now) }
+    ensures held { OnOk result (IsTokenHeld token.now) }
+{
+    write_bytes(alloc, token)
 }

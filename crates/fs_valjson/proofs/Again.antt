@@ -40,7 +40,7 @@ mutual
 
   entries_again : (ms : Members) (place : List ℕ) → MembersAreHeld ms → MembersHaveNames ms → entries_at (members_json ms) place ≡ Ok (fields_of ms)
   entries_again no_members place h n = refl
-  entries_again (member k d ms) place h n = rw (value_again d (member_place place k) h.0 n.0, entries_again ms place h.1 n.1) refl
+  entries_again (member k d ms) place h n = rw (value_again d (member_place place k) h.0 n.0, entries_again ms place h.2 n.1) refl
 
 pub list_again : (ds : List Data) (place : List ℕ) → ItemsAreHeld (items_of ds) → ItemsHaveNames (items_of ds) → list_at (list_json ds) place ≡ Ok ds
 list_again ds place h n = items_again (items_of ds) 0 place h n ∙ ap Ok (list_of-items_of ds)

@@ -1,9 +1,9 @@
 -- Laws that other crates cite: what is written of values and documents has no float, so its text is told byte for byte.
-use Rattle.std.proofs.Common.{◌≡◌, ℕ, ℤ, List, [], ◌∷◌, false, refl}
+use Rattle.std.proofs.Common.{◌≡◌, ℕ, List, [], ◌∷◌, false, refl}
 use Rattle.serde_json.specs.Written.{has_float, items_have_float, members_have_float}
 use Rattle.fs_path.specs.declared.name.DocName.{DocName}
 use Rattle.fs_value.specs.Data.{Data, null, boolean, integer, timestamp, string, bytes, reference, array, object, Items, no_items, item, Members, no_members, member, items_of, members_of}
-use Rattle.fs_valjson.specs.Document.{document_json, update_json}
+use Rattle.fs_valjson.specs.Document.{update_json}
 use Rattle.fs_valjson.specs.Writing.{value_json, items_json, members_json, array_json, list_json}
 
 mutual
@@ -27,12 +27,6 @@ mutual
   pub members_float : (ms : Members) → members_have_float (members_json ms) ≡ false
   members_float no_members = refl
   members_float (member k d ms) = rw (value_float d, members_float ms) refl
-
-pub document_float : (name : DocName) (fields : List (List ℕ × Data)) (created updated : ℤ)
-    → has_float (document_json (record { name = name; fields = fields; created = created; updated = updated })) ≡ false
-unfolding document_json
-document_float name [] created updated = refl
-document_float name (f ∷ fs) created updated = rw (value_float f.1, members_float (members_of fs)) refl
 
 pub update_float : (name : DocName) (fields : List (List ℕ × Data)) → has_float (update_json name fields) ≡ false
 unfolding update_json

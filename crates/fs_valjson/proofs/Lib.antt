@@ -4,6 +4,7 @@ pub mod Depths
 pub mod Floats
 pub mod Lists
 pub mod Plain
+pub mod Printed
 pub mod Rising
 pub mod Pushed
 pub mod Tokens

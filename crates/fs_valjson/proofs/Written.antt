@@ -14,6 +14,7 @@ use Rattle.serde_json.proofs.Views.{Entry, view-Array, view-Object}
 use Rattle.fs_path.specs.TextOrder.{text_cmp}
 use Rattle.fs_path.proofs.Orders.{less_is}
 use Rattle.fs_value.specs.Data.{Data, items_of, members_of}
+use Rattle.fs_value.specs.DataLaws.{fields_of-members_of}
 use Rattle.fs_value.specs.View.{field_view}
 use Rattle.fs_value.specs.declared.fields.Field.{Field}
 use Rattle.fs_valjson.specs.Document.{with_fields}
@@ -52,9 +53,12 @@ put_last (f ∷ fs) k d h =
     let above : text_cmp k f.0 ≡ Greater = nat_list_cmp_total.antisymm k f.0 ∙ ap ordering_reverse (below_last f.0 fs (k, d) (and_parts _ _ h).0) in
     rw above (ap (json.member f.0 (value_json f.1)) (put_last fs k d (and_parts _ _ h).1))
 
-pub members_held_push : (fs : List (List ℕ × Data)) (k : List ℕ) (d : Data) → MembersAreHeld (members_of fs) → IsHeld d → MembersAreHeld (members_of (fs ++ (k, d) ∷ []))
-members_held_push [] k d h one = (one, tt)
-members_held_push (e ∷ fs) k d h one = (h.0, members_held_push fs k d h.1 one)
+pub members_held_push : (fs : List (List ℕ × Data)) (k : List ℕ) (d : Data) → MembersAreHeld (members_of fs) → IsHeld d → IsTrue (is_sorted text_cmp (fs ++ (k, d) ∷ []))
+    → MembersAreHeld (members_of (fs ++ (k, d) ∷ []))
+members_held_push [] k d h one rise = (one, refl, tt)
+members_held_push (e ∷ fs) k d h one rise =
+    let parts = and_parts (below_all text_cmp e.0 (fs ++ (k, d) ∷ [])) _ rise in
+    (h.0, ap (below_all text_cmp e.0) (fields_of-members_of (fs ++ (k, d) ∷ [])) ∙ parts.0, members_held_push fs k d h.2 one parts.1)
 
 below_taken : (k : List ℕ) (n : ℕ) (fs : List Field) → IsTrue (below_all text_cmp k (map field_view fs)) → IsTrue (below_all text_cmp k (map field_view (take n fs)))
 below_taken k n [] h = rw take-nil refl
@@ -91,14 +95,7 @@ pub filled_put : (m : BTreeMap (String Global) written.Value) (others : json.Mem
     → json.put (codes "fields") (json_view (written.Object m)) others ≡ with_fields_put (members_view m.entries) others
 filled_put m others h = ap (λ d. json.put (codes "fields") d others) (view-Object m) ∙ put_filled m.entries others h
 
--- the members of a document, put in one after another
-pub document_put : (created updated : json.Data) (name : List ℕ) (fields : json.Members)
-    → json.put (codes "updateTime") updated (json.put (codes "name") (json.string name) (with_fields_put fields (json.put (codes "createTime") created json.no_members)))
-    ≡ json.member (codes "createTime") created (with_fields fields (json.member (codes "name") (json.string name) (json.member (codes "updateTime") updated json.no_members)))
-document_put created updated name json.no_members = refl
-document_put created updated name (json.member k d ms) = refl
-
--- the same of an update's document
+-- the members of an update's document, put in one after another
 pub update_put : (name : List ℕ) (fields : json.Members)
     → json.put (codes "name") (json.string name) (with_fields_put fields json.no_members) ≡ with_fields fields (json.member (codes "name") (json.string name) json.no_members)
 update_put name json.no_members = refl

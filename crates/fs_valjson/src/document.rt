@@ -7,7 +7,7 @@ ghost use Rattle.fs_value.specs.Data.{members_of};
 ghost use Rattle.serde_json.specs.Written.{has_float};
 ghost use Rattle.serde_json.specs.View.{view as json, members_view};
 ghost use Rattle.fs_json.specs.Answer.{Gives};
-ghost use Rattle.fs_valjson.specs.Document.{Content as Told, content_at, document_at, document_json, update_json, untimed, fields_in, time_in};
+ghost use Rattle.fs_valjson.specs.Document.{Content as Told, content_at, document_at, update_json, untimed, fields_in, time_in};
 ghost use Rattle.fs_valjson.specs.Steps.{with_fields_put};
 ghost use Rattle.fs_valjson.specs.Valid.{IsValid};
 ghost use Rattle.fs_valjson.specs.Writing.{MembersHaveNames};
@@ -15,7 +15,7 @@ ghost use Rattle.fs_valjson.specs.Writing.{MembersHaveNames};
 use crate::names::{CREATE_TIME, DOCUMENT_MEMBERS, FIELDS, NAME, UPDATE_TIME};
 use crate::read::read_fields;
 use crate::write::write_members;
-use fs_json::{Bad, member, only, read_document_name, read_optional_time, required, write_time};
+use fs_json::{Bad, member, only, read_document_name, read_optional_time, required};
 use fs_path::{DocName, Root, Way, print_document};
 use fs_time::Micros;
 use fs_value::{Document, Fields, SharedFields};
@@ -89,42 +89,13 @@ fn read_time_of(alloc: Global, v: &Value, name: &str, way: &Way<'_>) -> Result<M
     }
 }
 
-/// Writes a document, with its two times. Fields that are none are left out.
-pub fn write_document(alloc: Global, d: &Document) -> Result<Value, AllocError>
-    ensures value { IfOk result (λ j. json j ≡ document_json d.now) }
-    ensures no_float { IfOk result (λ j. has_float (json j) ≡ false) }
-
-    // Where it is a document of the root, and its references are names of documents, it is read back as the same
-    // document, at any place.
-    ensures reads_back { IfOk result (λ j. (root : Root) (place : List ℕ) → IsValid root d.now
-        → document_at root (json j) place ≡ Ok d.now) }
-{
-    let mut members = Map::new(alloc);
-    serde_json::put(
-        &mut members,
-        alloc,
-        CREATE_TIME,
-        write_time(alloc, d.created)?,
-    )?;
-    let fields = write_members(alloc, d.fields.as_fields())?;
-    put_fields(alloc, &mut members, fields)?;
-    let name = print_document(alloc, &d.name)?.into_string();
-    serde_json::put(&mut members, alloc, NAME, Value::String(name))?;
-    serde_json::put(
-        &mut members,
-        alloc,
-        UPDATE_TIME,
-        write_time(alloc, d.updated)?,
-    )?;
-    Ok(Value::Object(members))
-}
-
 /// Writes a document as an update has it: its name and its fields, which are left out where they are none, and no times.
 pub fn write_update(alloc: Global, name: &DocName, fields: &Fields) -> Result<Value, AllocError>
     ensures value { IfOk result (λ j. json j ≡ update_json name.now fields.now) }
     ensures no_float { IfOk result (λ j. has_float (json j) ≡ false) }
 
-    // The same premises as above. The times that it hasn't are read as the first moment of 1970.
+    // Where it is a document of the root, and its references are names of documents, it is read back, at any place. The
+    // times that it hasn't are read as the first moment of 1970.
     ensures reads_back { IfOk result (λ j. (root : Root) (place : List ℕ) → IsDocumentOf root name.now
         → MembersHaveNames (members_of fields.now) → document_at root (json j) place ≡ Ok (untimed name.now fields.now)) }
 {

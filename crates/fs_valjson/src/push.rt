@@ -5,10 +5,13 @@ ghost use Rattle.fs_time.specs.Rfc3339.{time_text};
 ghost use Rattle.fs_value.specs.Data.{null, boolean, integer, timestamp, string, bytes, reference, array, object as map, items_of, members_of};
 ghost use Rattle.fs_value.specs.View.{view};
 ghost use Rattle.fs_valjson.specs.Document.{document_json, with_fields};
+ghost use Rattle.fs_valjson.specs.Held.{IsHeld, ItemsAreHeld, MembersAreHeld};
 ghost use Rattle.fs_valjson.specs.Steps.{values_member};
 ghost use Rattle.fs_valjson.specs.Tokens.{member_tokens, text_member, tokens_of};
+ghost use Rattle.fs_valjson.specs.Valid.{IsDocumentHeld, IsListHeld};
 ghost use Rattle.fs_valjson.specs.Writing.{fields_content, items_json, list_content, list_json, members_json, value_json};
 ghost use Rattle.fs_json.specs.Members.{with_one};
+ghost use Rattle.fs_json.specs.Time.{IsTimeHeld};
 
 use crate::names::{
     ARRAY_VALUE, BOOLEAN_VALUE, BYTES_VALUE, CREATE_TIME, FIELDS, INTEGER_VALUE, MAP_VALUE, NAME,
@@ -44,7 +47,9 @@ pub fn push_time(
     requires { text.now ≡ time_text known }
     ensures tokens { OnOk result (line.new.tokens ≡ line.old.tokens ++ text_member name.now (time_text time)) }
     ensures before { line.new.before ≡ line.old.before }
+    ensures held { OnOk result (IsTimeHeld time) }
 {
+    times_are_held(time);
     if time == known {
         push_text(line, name, text)
     } else {
@@ -52,13 +57,21 @@ pub fn push_time(
     }
 }
 
+// The text of a time is read back.
+fn times_are_held(time: Micros)
+    ensures { IsTimeHeld time }
+{
+    time.get();
+}
+
 // ---- values
 
-/// Writes a value.
+// Writes a value.
 #[cycle(push)]
-pub fn push_value(alloc: Global, line: &mut Writer, v: &Value) -> Result<(), AllocError>
+fn push_value(alloc: Global, line: &mut Writer, v: &Value) -> Result<(), AllocError>
     ensures tokens { OnOk result (line.new.tokens ≡ line.old.tokens ++ tokens_of (value_json (view v.now))) }
     ensures before { line.new.before ≡ line.old.before }
+    ensures held { OnOk result (IsHeld (view v.now)) }
 {
     match v {
         Value::Null => push_null(line),
@@ -108,6 +121,7 @@ fn push_boolean(line: &mut Writer, b: bool) -> Result<(), AllocError>
 fn push_integer(line: &mut Writer, n: i64) -> Result<(), AllocError>
     ensures tokens { OnOk result (line.new.tokens ≡ line.old.tokens ++ tokens_of (value_json (integer n))) }
     ensures before { line.new.before ≡ line.old.before }
+    ensures held { OnOk result (IsHeld (integer n)) }
 {
     line.begin_object()?;
     line.key(INTEGER_VALUE)?;
@@ -125,6 +139,7 @@ fn push_string(line: &mut Writer, s: &Text) -> Result<(), AllocError>
 fn push_timestamp(alloc: Global, line: &mut Writer, t: Micros) -> Result<(), AllocError>
     ensures tokens { OnOk result (line.new.tokens ≡ line.old.tokens ++ tokens_of (value_json (timestamp t))) }
     ensures before { line.new.before ≡ line.old.before }
+    ensures held { OnOk result (IsHeld (timestamp t)) }
 {
     push_one(line, TIMESTAMP_VALUE, &print(alloc, t)?)
 }
@@ -132,6 +147,7 @@ fn push_timestamp(alloc: Global, line: &mut Writer, t: Micros) -> Result<(), All
 fn push_bytes(alloc: Global, line: &mut Writer, b: &Bytes) -> Result<(), AllocError>
     ensures tokens { OnOk result (line.new.tokens ≡ line.old.tokens ++ tokens_of (value_json (bytes b.now))) }
     ensures before { line.new.before ≡ line.old.before }
+    ensures held { OnOk result (IsHeld (bytes b.now)) }
 {
     push_one(line, BYTES_VALUE, &STANDARD.encode(alloc, b.as_slice())?)
 }
@@ -139,6 +155,7 @@ fn push_bytes(alloc: Global, line: &mut Writer, b: &Bytes) -> Result<(), AllocEr
 fn push_reference(alloc: Global, line: &mut Writer, name: &DocName) -> Result<(), AllocError>
     ensures tokens { OnOk result (line.new.tokens ≡ line.old.tokens ++ tokens_of (value_json (reference name.now))) }
     ensures before { line.new.before ≡ line.old.before }
+    ensures held { OnOk result (IsHeld (reference name.now)) }
 {
     push_one(line, REFERENCE_VALUE, print_document(alloc, name)?.as_str())
 }
@@ -148,6 +165,7 @@ fn push_reference(alloc: Global, line: &mut Writer, name: &DocName) -> Result<()
 fn push_array(alloc: Global, line: &mut Writer, values: &Values) -> Result<(), AllocError>
     ensures tokens { OnOk result (line.new.tokens ≡ line.old.tokens ++ tokens_of (value_json (array (items_of values.now)))) }
     ensures before { line.new.before ≡ line.old.before }
+    ensures held { OnOk result (ItemsAreHeld (items_of values.now)) }
 {
     line.begin_object()?;
     line.key(ARRAY_VALUE)?;
@@ -159,6 +177,7 @@ fn push_array(alloc: Global, line: &mut Writer, values: &Values) -> Result<(), A
 fn push_content(alloc: Global, line: &mut Writer, values: &Values) -> Result<(), AllocError>
     ensures tokens { OnOk result (line.new.tokens ≡ line.old.tokens ++ tokens_of (list_content (items_json (items_of values.now)))) }
     ensures before { line.new.before ≡ line.old.before }
+    ensures held { OnOk result (ItemsAreHeld (items_of values.now)) }
 {
     line.begin_object()?;
     push_values(alloc, line, values)?;
@@ -170,19 +189,20 @@ fn push_content(alloc: Global, line: &mut Writer, values: &Values) -> Result<(),
 fn push_values(alloc: Global, line: &mut Writer, values: &Values) -> Result<(), AllocError>
     ensures tokens { OnOk result (line.new.tokens ≡ line.old.tokens ++ member_tokens (values_member (items_json (items_of values.now)))) }
     ensures before { line.new.before ≡ line.old.before }
+    ensures held { OnOk result (ItemsAreHeld (items_of values.now)) }
 {
     if values.is_empty() {
         return Ok(());
     }
     line.key(VALUES)?;
-    push_list(alloc, line, values)
+    push_items(alloc, line, values)
 }
 
-/// Writes a list of values.
 #[cycle(push)]
-pub fn push_list(alloc: Global, line: &mut Writer, values: &Values) -> Result<(), AllocError>
+fn push_items(alloc: Global, line: &mut Writer, values: &Values) -> Result<(), AllocError>
     ensures tokens { OnOk result (line.new.tokens ≡ line.old.tokens ++ tokens_of (list_json values.now)) }
     ensures before { line.new.before ≡ line.old.before }
+    ensures held { OnOk result (ItemsAreHeld (items_of values.now)) }
 {
     line.begin_array()?;
     for value in values.as_slice() {
@@ -196,6 +216,7 @@ pub fn push_list(alloc: Global, line: &mut Writer, values: &Values) -> Result<()
 fn push_map(alloc: Global, line: &mut Writer, fields: &Fields) -> Result<(), AllocError>
     ensures tokens { OnOk result (line.new.tokens ≡ line.old.tokens ++ tokens_of (value_json (map (members_of fields.now)))) }
     ensures before { line.new.before ≡ line.old.before }
+    ensures held { OnOk result (MembersAreHeld (members_of fields.now)) }
 {
     line.begin_object()?;
     line.key(MAP_VALUE)?;
@@ -207,6 +228,7 @@ fn push_map(alloc: Global, line: &mut Writer, fields: &Fields) -> Result<(), All
 fn push_fields_content(alloc: Global, line: &mut Writer, fields: &Fields) -> Result<(), AllocError>
     ensures tokens { OnOk result (line.new.tokens ≡ line.old.tokens ++ tokens_of (fields_content (members_json (members_of fields.now)))) }
     ensures before { line.new.before ≡ line.old.before }
+    ensures held { OnOk result (MembersAreHeld (members_of fields.now)) }
 {
     line.begin_object()?;
     push_fields(alloc, line, fields)?;
@@ -219,6 +241,7 @@ fn push_fields(alloc: Global, line: &mut Writer, fields: &Fields) -> Result<(), 
     ensures tokens { OnOk result (line.new.tokens
         ≡ line.old.tokens ++ member_tokens (with_fields (members_json (members_of fields.now)) no_members)) }
     ensures before { line.new.before ≡ line.old.before }
+    ensures held { OnOk result (MembersAreHeld (members_of fields.now)) }
 {
     if fields.is_empty() {
         return Ok(());
@@ -231,6 +254,7 @@ fn push_fields(alloc: Global, line: &mut Writer, fields: &Fields) -> Result<(), 
 fn push_members(alloc: Global, line: &mut Writer, fields: &Fields) -> Result<(), AllocError>
     ensures tokens { OnOk result (line.new.tokens ≡ line.old.tokens ++ tokens_of (object (members_json (members_of fields.now)))) }
     ensures before { line.new.before ≡ line.old.before }
+    ensures held { OnOk result (MembersAreHeld (members_of fields.now)) }
 {
     line.begin_object()?;
     for field in fields.as_slice() {
@@ -240,12 +264,26 @@ fn push_members(alloc: Global, line: &mut Writer, fields: &Fields) -> Result<(),
     line.end_object()
 }
 
-// ---- documents
+// ---- lists and documents
+
+/// Writes a list of values.
+pub fn push_list(alloc: Global, line: &mut Writer, values: &Values) -> Result<(), AllocError>
+    ensures tokens { OnOk result (line.new.tokens ≡ line.old.tokens ++ tokens_of (list_json values.now)) }
+    ensures before { line.new.before ≡ line.old.before }
+
+    // What is written is read back as the same list.
+    ensures held { OnOk result (IsListHeld values.now) }
+{
+    push_items(alloc, line, values)
+}
 
 /// Writes a document, with its two times. Fields that are none are left out.
 pub fn push_document(alloc: Global, line: &mut Writer, d: &Document) -> Result<(), AllocError>
     ensures tokens { OnOk result (line.new.tokens ≡ line.old.tokens ++ tokens_of (document_json d.now)) }
     ensures before { line.new.before ≡ line.old.before }
+
+    // What is written is read back as the same document.
+    ensures held { OnOk result (IsDocumentHeld d.now) }
 {
     let created = print(alloc, d.created)?;
     push_dated(alloc, line, d, &created)
@@ -261,7 +299,9 @@ fn push_dated(
     requires { created.now ≡ time_text d.now.created }
     ensures tokens { OnOk result (line.new.tokens ≡ line.old.tokens ++ tokens_of (document_json d.now)) }
     ensures before { line.new.before ≡ line.old.before }
+    ensures held { OnOk result (IsDocumentHeld d.now) }
 {
+    times_are_held(d.created);
     line.begin_object()?;
     push_text(line, CREATE_TIME, created)?;
     push_fields(alloc, line, d.fields.as_fields())?;

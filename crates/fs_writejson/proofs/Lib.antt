@@ -3,6 +3,7 @@ pub mod Floats
 pub mod Least
 pub mod MaskDepth
 pub mod Operations
+pub mod Pushed
 pub mod Put
 pub mod RulesValid
 pub mod TransformDepth

@@ -1,16 +1,14 @@
 -- Members that are put in one after another stand in the order of their names.
-use Rattle.std.proofs.Common.{◌≡◌, ℤ, List, [], ◌∷◌, Option, Some, None, codes, refl, ap, ◌∙◌}
+use Rattle.std.proofs.Common.{◌≡◌, List, [], ◌∷◌, codes, refl, ap, ◌∙◌}
 use Rattle.serde_json.specs.Data.{Members, no_members, array, object, put}
 use Rattle.fs_path.specs.declared.field.FieldPath.{FieldPath}
-use Rattle.fs_value.specs.Data.{Data}
 use Rattle.fs_write.specs.declared.transform.Transform.{Transform}
 use Rattle.fs_write.specs.declared.write.Act.{Act}
 use Rattle.fs_write.specs.declared.write.Act.TheVariants.{Set, Merge, Delete}
 use Rattle.fs_write.specs.declared.write.Precondition.{Precondition}
 use Rattle.fs_write.specs.declared.write.Precondition.TheVariants as condition
 use Rattle.fs_writejson.specs.Mask.{mask_json, paths_json}
-use Rattle.fs_writejson.specs.Results.{updated_member, with_results}
-use Rattle.fs_writejson.specs.Steps.{with_act_put, with_condition_put, with_results_put, with_transforms_put, with_updated_put}
+use Rattle.fs_writejson.specs.Steps.{with_act_put, with_condition_put, with_transforms_put}
 use Rattle.fs_writejson.specs.Written.{transforms_member, with_act, with_condition}
 
 -- a mask with paths
@@ -38,9 +36,3 @@ condition_before (Delete name) (condition.UpdateTime time) rest = refl
 pub write_put : (act : Act) (ts : List Transform) (c : Precondition)
     → with_condition_put c (with_transforms_put ts (with_act_put act no_members)) ≡ with_condition c (with_act act (transforms_member ts))
 write_put act ts c = ap (with_condition_put c) (transforms_behind act ts) ∙ condition_before act c (transforms_member ts)
-
-pub result_put : (updated : Option ℤ) (ds : List Data) → with_results_put ds (with_updated_put updated no_members) ≡ with_results ds (updated_member updated)
-result_put None [] = refl
-result_put None (d ∷ ds) = refl
-result_put (Some time) [] = refl
-result_put (Some time) (d ∷ ds) = refl

@@ -1,22 +1,21 @@
--- Results are read with names of documents and written no deeper than they were read, without a float, and read back.
-use Rattle.std.proofs.Common.{◌≡◌, ℕ, ◌+◌, ◌≤◌, ◌<◌, ℤ, false, List, [], ◌∷◌, Option, Some, None, Ok, IfOk, IfSome, codes, refl, arith}
+-- Results are read with names of documents and written no deeper than they were read, and read back, from their tokens too.
+use Rattle.std.proofs.Common.{◌≡◌, ℕ, ◌+◌, ◌≤◌, ◌<◌, ℤ, List, [], ◌∷◌, Option, Some, None, Ok, IfOk, IfSome, codes, refl, arith}
 use Rattle.std.proofs.lemmas.Result.{IfOk-weaker}
 use Rattle.fs_path.specs.Place.{member_place}
 use Rattle.serde_json.specs.Data as json
 use Rattle.serde_json.specs.Data.{depth}
-use Rattle.serde_json.specs.Written.{has_float, members_have_float}
 use Rattle.fs_value.specs.Data.{Data, items_of}
 use Rattle.fs_json.specs.Members.{only_at}
 use Rattle.fs_json.specs.Time.{optional_time_at, IsTimeHeld}
 use Rattle.fs_json.proofs.Depths.{inside_or}
 use Rattle.fs_json.proofs.Readings.{at_last_holds, in_turn_holds, member_holds}
 use Rattle.fs_valjson.proofs.Depths.{list_within}
-use Rattle.fs_valjson.proofs.Floats.{list_float}
 use Rattle.fs_valjson.specs.Reading.{list_at}
+use Rattle.fs_valjson.specs.Tokens.{IsReadFromTokens}
 use Rattle.fs_valjson.proofs.Valid.{list_names}
 use Rattle.fs_valjson.specs.Writing.{list_json, ItemsHaveNames}
 use Rattle.fs_write.specs.declared.write_result.WriteResult.{WriteResult}
-use Rattle.fs_writejson.specs.Results.{result_json, transform_results_in, updated_member, write_result_at, write_result_members, IsResultHeld}
+use Rattle.fs_writejson.specs.Results.{result_json, transform_results_in, write_result_at, write_result_members, IsResultHeld}
 use Rattle.fs_writejson.specs.Valid.{ResultHasNames}
 
 -- ---- read
@@ -63,16 +62,14 @@ result_again_at None (d ∷ ds) place t h = rw (h (member_place place (codes "tr
 result_again_at (Some time) (d ∷ ds) place t h = rw (t (member_place place (codes "updateTime")), h (member_place place (codes "transformResults"))) refl
 
 pub write_result_again : (r : WriteResult) (place : List ℕ) → IsResultHeld r → ResultHasNames r → write_result_at (result_json r) place ≡ Ok r
-write_result_again r place held names = result_again_at r.updated r.transforms place held.updated (λ p. held.transforms p names)
+write_result_again r place held names = result_again_at r.updated r.transforms place held.updated (λ p. held.transforms.again p names)
 
-updated_float : (updated : Option ℤ) → members_have_float (updated_member updated) ≡ false
-updated_float None = refl
-updated_float (Some time) = refl
-
-result_float_at : (updated : Option ℤ) (ds : List Data) → has_float (result_json (record { updated = updated; transforms = ds })) ≡ false
+from_tokens_at : (updated : Option ℤ) (ds : List Data) → IsReadFromTokens (list_json ds) → IsReadFromTokens (result_json (record { updated = updated; transforms = ds }))
 unfolding result_json
-result_float_at updated [] = updated_float updated
-result_float_at updated (d ∷ ds) = rw (list_float (d ∷ ds), updated_float updated) refl
+from_tokens_at None [] h = refl
+from_tokens_at (Some time) [] h = refl
+from_tokens_at None (d ∷ ds) h = rw h refl
+from_tokens_at (Some time) (d ∷ ds) h = rw h refl
 
-pub result_float : (r : WriteResult) → has_float (result_json r) ≡ false
-result_float r = result_float_at r.updated r.transforms
+pub result_from_tokens : (r : WriteResult) → IsResultHeld r → IsReadFromTokens (result_json r)
+result_from_tokens r held = from_tokens_at r.updated r.transforms held.transforms.from_tokens

@@ -4,13 +4,14 @@
 --     a delete                                    {}
 use Rattle.std.specs.Prelude.{◌≡◌, ℕ, ℤ, List, [], ◌∷◌, Option, Some, None, Result, Ok, IfSome, codes}
 use Rattle.serde_json.specs.Data as json
-use Rattle.fs_value.specs.Data.{Data, items_of}
+use Rattle.fs_value.specs.Data.{Data}
 use Rattle.fs_json.specs.Answer.{◌>>=◌}
 use Rattle.fs_json.specs.Members.{member_or, only_at}
 use Rattle.fs_json.specs.Time.{optional_time_at, time_json, IsTimeHeld}
 use Rattle.fs_json.specs.declared.bad.Bad.{Bad}
 use Rattle.fs_valjson.specs.Reading.{list_at}
-use Rattle.fs_valjson.specs.Writing.{list_json, ItemsHaveNames}
+use Rattle.fs_valjson.specs.Valid.{IsListHeld}
+use Rattle.fs_valjson.specs.Writing.{list_json}
 use Rattle.fs_write.specs.declared.write_result.WriteResult.{WriteResult}
 
 -- ---- reading
@@ -44,7 +45,7 @@ with_results (d ∷ ds) rest = json.member (codes "transformResults") (list_json
 unfoldable pub result_json : WriteResult → json.Data
 result_json r = json.object (with_results r.transforms (updated_member r.updated))
 
--- what is written of it is read back: its time, and at any place its values, where their references are names of documents
+-- what is written of it is read back: its time, and its values
 pub record IsResultHeld (r : WriteResult) : Type 0 where
   pub updated : IfSome r.updated IsTimeHeld
-  pub transforms : (place : List ℕ) → ItemsHaveNames (items_of r.transforms) → list_at (list_json r.transforms) place ≡ Ok r.transforms
+  pub transforms : IsListHeld r.transforms

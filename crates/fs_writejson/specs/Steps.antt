@@ -1,15 +1,13 @@
 -- What only private clauses cite: the member of a precondition that is there, and the members of an object that is
 -- written, put in one after another.
-use Rattle.std.specs.Prelude.{ℕ, ℤ, List, [], ◌∷◌, Option, Some, None, Result, codes}
+use Rattle.std.specs.Prelude.{ℕ, List, [], ◌∷◌, Option, Result, codes}
 use Rattle.fs_path.specs.Document.{document_text}
 use Rattle.serde_json.specs.Data as json
-use Rattle.fs_value.specs.Data.{Data}
 use Rattle.fs_json.specs.Answer.{◌>>=◌}
 use Rattle.fs_json.specs.Members.{at_most_one_at, only_at, with_one}
 use Rattle.fs_json.specs.Time.{time_json}
 use Rattle.fs_json.specs.declared.bad.Bad.{Bad}
 use Rattle.fs_valjson.specs.Document.{update_json}
-use Rattle.fs_valjson.specs.Writing.{list_json}
 use Rattle.fs_write.specs.declared.transform.Transform.{Transform}
 use Rattle.fs_write.specs.declared.write.Act.{Act}
 use Rattle.fs_write.specs.declared.write.Act.TheVariants.{Set, Merge, Delete}
@@ -24,7 +22,7 @@ use Rattle.fs_writejson.specs.Transform.{transforms_json}
 abbrev pub the_condition : json.Data → List ℕ → Result (Option (List ℕ × json.Data)) Bad
 the_condition d place = only_at condition_members d place >>= λ _. at_most_one_at condition_members d place
 
--- ---- written of a write
+-- ---- written
 
 abbrev pub with_act_put : Act → json.Members → json.Members
 with_act_put (Set name fields) others = json.put (codes "update") (update_json name fields) others
@@ -39,13 +37,3 @@ abbrev pub with_condition_put : Precondition → json.Members → json.Members
 with_condition_put condition.None others = others
 with_condition_put (condition.Exists there) others = json.put (codes "currentDocument") (with_one (codes "exists") (json.boolean there)) others
 with_condition_put (condition.UpdateTime time) others = json.put (codes "currentDocument") (with_one (codes "updateTime") (time_json time)) others
-
--- ---- written of a result
-
-abbrev pub with_updated_put : Option ℤ → json.Members → json.Members
-with_updated_put None others = others
-with_updated_put (Some time) others = json.put (codes "updateTime") (time_json time) others
-
-abbrev pub with_results_put : List Data → json.Members → json.Members
-with_results_put [] others = others
-with_results_put (d ∷ ds) others = json.put (codes "transformResults") (list_json (d ∷ ds)) others

@@ -15,6 +15,6 @@ mod write_transform;
 pub use draft::{Draft, Drafts};
 pub use mask::{read_mask, write_mask};
 pub use read::{read_drafts, read_write};
-pub use results::{read_result, write_result};
+pub use results::{push_result, read_result};
 pub use rules::judge;
 pub use write::write_write;

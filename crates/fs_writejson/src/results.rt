@@ -1,25 +1,25 @@
 //! The results of writes, read and written.
-ghost use Rattle.std.specs.Prelude.{◌≡◌, ℕ, List, false, Ok, IfOk, IfSome, OnOk};
+ghost use Rattle.std.specs.Prelude.{◌≡◌, ◌++◌, IfOk, IfSome, OnOk};
 ghost use Rattle.fs_path.specs.Way.{place_of};
-ghost use Rattle.serde_json.specs.View.{members_view, view as json};
-ghost use Rattle.serde_json.specs.Written.{has_float};
-ghost use Rattle.fs_value.specs.Data.{items_of};
-ghost use Rattle.fs_valjson.specs.Reading.{list_at};
-ghost use Rattle.fs_json.specs.Time.{IsTimeHeld};
-ghost use Rattle.fs_valjson.specs.Writing.{list_json, ItemsHaveNames};
+ghost use Rattle.fs_time.specs.Rfc3339.{time_text};
+ghost use Rattle.serde_json.specs.Data.{no_members};
+ghost use Rattle.serde_json.specs.View.{view as json};
 ghost use Rattle.fs_json.specs.Answer.{Gives};
-ghost use Rattle.fs_writejson.specs.Results.{result_json, transform_results_in, write_result_at, IsResultHeld};
-ghost use Rattle.fs_writejson.specs.Steps.{with_results_put, with_updated_put};
+ghost use Rattle.fs_json.specs.Time.{IsTimeHeld};
+ghost use Rattle.fs_valjson.specs.Tokens.{member_tokens, tokens_of};
+ghost use Rattle.fs_valjson.specs.Valid.{IsListHeld};
+ghost use Rattle.fs_writejson.specs.Results.{result_json, transform_results_in, updated_member, with_results, write_result_at, IsResultHeld};
 ghost use Rattle.fs_writejson.specs.Valid.{ResultHasNames};
 
 use crate::names::{RESULT_MEMBERS, TRANSFORM_RESULTS, UPDATE_TIME};
-use fs_json::{Bad, member, only, read_optional_time, write_time};
+use fs_json::{Bad, member, only, read_optional_time};
 use fs_path::Way;
 use fs_time::Micros;
-use fs_valjson::{read_list, write_list};
+use fs_valjson::{push_list, push_time, read_list};
 use fs_value::Values;
 use fs_write::WriteResult;
-use serde_json::{Map, Value};
+use json::Writer;
+use serde_json::Value;
 use std::alloc::{AllocError, Global};
 
 /// Reads the result of a write. It may have neither a time, as a delete's hasn't, nor results of transforms. (v1 reference,
@@ -55,51 +55,55 @@ fn read_transform_results(alloc: Global, v: &Value, way: &Way<'_>) -> Result<Val
     }
 }
 
-/// Writes the result of a write. What it hasn't is left out: the time of a delete, and transforms where there were none.
-/// (v1 reference, "WriteResult".)
-pub fn write_result(alloc: Global, answer: &WriteResult) -> Result<Value, AllocError>
-    ensures value { IfOk result (λ j. json j ≡ result_json answer.now) }
-    ensures no_float { IfOk result (λ j. has_float (json j) ≡ false) }
+/// Writes the result of a write. What it hasn't is left out: the time of a delete, and transforms where there were none. Its time
+/// is most often one whose text is known. (v1 reference, "WriteResult".)
+pub fn push_result(
+    alloc: Global,
+    line: &mut Writer,
+    answer: &WriteResult,
+    known: Micros,
+    text: &str,
+) -> Result<(), AllocError>
+    requires { text.now ≡ time_text known }
+    ensures tokens { OnOk result (line.new.tokens ≡ line.old.tokens ++ tokens_of (result_json answer.now)) }
+    ensures before { line.new.before ≡ line.old.before }
+
+    // What is written is read back as the same result.
     ensures held { OnOk result (IsResultHeld answer.now) }
 {
-    let mut members = Map::new(alloc);
-    put_updated(alloc, &mut members, answer.updated)?;
-    put_results(alloc, &mut members, &answer.transforms)?;
-    Ok(Value::Object(members))
+    line.begin_object()?;
+    push_transforms(alloc, line, &answer.transforms)?;
+    push_updated(alloc, line, answer.updated, known, text)?;
+    line.end_object()
 }
 
-fn put_updated(
+// The results of transforms, where there were any.
+fn push_transforms(alloc: Global, line: &mut Writer, values: &Values) -> Result<(), AllocError>
+    ensures tokens { OnOk result (line.new.tokens ≡ line.old.tokens ++ member_tokens (with_results values.now no_members)) }
+    ensures before { line.new.before ≡ line.old.before }
+    ensures held { OnOk result (IsListHeld values.now) }
+{
+    if values.is_empty() {
+        return Ok(());
+    }
+    line.key(TRANSFORM_RESULTS)?;
+    push_list(alloc, line, values)
+}
+
+fn push_updated(
     alloc: Global,
-    members: &mut Map<String, Value>,
+    line: &mut Writer,
     updated: Option<Micros>,
+    known: Micros,
+    text: &str,
 ) -> Result<(), AllocError>
-    ensures value { OnOk result (members_view members.new.entries
-        ≡ with_updated_put updated (members_view members.old.entries)) }
+    requires { text.now ≡ time_text known }
+    ensures tokens { OnOk result (line.new.tokens ≡ line.old.tokens ++ member_tokens (updated_member updated)) }
+    ensures before { line.new.before ≡ line.old.before }
     ensures held { OnOk result (IfSome updated IsTimeHeld) }
 {
     match updated {
-        Some(time) => serde_json::put(members, alloc, UPDATE_TIME, write_time(alloc, time)?),
+        Some(at) => push_time(alloc, line, UPDATE_TIME, at, known, text),
         None => Ok(()),
     }
-}
-
-fn put_results(
-    alloc: Global,
-    members: &mut Map<String, Value>,
-    results: &Values,
-) -> Result<(), AllocError>
-    ensures value { OnOk result (members_view members.new.entries
-        ≡ with_results_put results.now (members_view members.old.entries)) }
-    ensures held { OnOk result ((place : List ℕ) → ItemsHaveNames (items_of results.now)
-        → list_at (list_json results.now) place ≡ Ok results.now) }
-{
-    if results.is_empty() {
-        return Ok(());
-    }
-    serde_json::put(
-        members,
-        alloc,
-        TRANSFORM_RESULTS,
-        write_list(alloc, results)?,
-    )
 }

@@ -1,15 +1,15 @@
 //! Queries over documents: which fit, in which order, and what is answered.
-use crate::made::{Form, Make, json, printed, push_word, word};
+use crate::made::{Form, Make, json, push_word, word};
 use crate::query::tables::{ANSWERS, BREAK_NONE, BREAK_ONE, DOCUMENTS, KEPT, NORMAL};
 use crate::queryjson::tests::Ask;
 use crate::table::holds;
 use crate::valjson::{SHORT, document_of};
+use crate::written::document_text;
 use fs_path::{FieldPath, Paths, parse_field, print_field};
 use fs_query::{
     Normal, Order, Query, QueryRule, answer, answers_are_lawful, check, check_with, compare_docs,
     filters_are_lawful, matches, normal_form, project, projections_are_lawful,
 };
-use fs_valjson::write_document;
 use fs_value::{Document, DocumentMap};
 use std::alloc::{AllocError, Global};
 use std::cmp::Ordering;
@@ -173,7 +173,7 @@ pub(crate) fn kept(rt: &impl Abort, alloc: Global, text: &str) -> String {
 
 fn projected(rt: &impl Abort, alloc: Global, d: &Document, paths: &Paths) -> String {
     let d = project(alloc, d, paths).expect(rt, "memory");
-    printed(rt, alloc, write_document(alloc, &d))
+    document_text(rt, alloc, &d)
 }
 
 // The fields in a document's text, which has its name and times.

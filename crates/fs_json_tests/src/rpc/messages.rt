@@ -1,5 +1,6 @@
 //! What is made of messages.
 use crate::made::{a_text, demo, moment, printed};
+use crate::written::bytes_text;
 use fs_json::Bad;
 use fs_path::parse_document;
 use fs_request::{Answers, BatchAnswer, Message};
@@ -16,11 +17,9 @@ fn read(rt: &impl Abort, alloc: Global, json: &str) -> Result<Message, Bad> {
 
 // What is written of a message.
 fn written(rt: &impl Abort, alloc: Global, message: Message) -> String {
-    let text = write_message(alloc, &message)
-        .expect(rt, "memory")
-        .into_string();
+    let bytes = write_message(alloc, &message).expect(rt, "memory");
     drop(message);
-    text
+    bytes_text(rt, alloc, bytes)
 }
 
 pub(crate) fn message_again(rt: &impl Abort, alloc: Global, json: &str) -> Result<String, Bad> {

@@ -2,6 +2,7 @@
 use crate::made::{Form, Make, both, demo, json, moment, printed, push_word, word};
 use crate::table::holds;
 use crate::writejson::tables::{DRAFTS, LISTS, MASKS, RESULTS, WRITES};
+use crate::written::result_text;
 use fs_json::Bad;
 use fs_path::Way;
 use fs_time::Micros;
@@ -9,7 +10,7 @@ use fs_valjson::read_list;
 use fs_value::Values;
 use fs_write::{Write, WriteResult, Writes};
 use fs_writejson::{
-    Draft, Drafts, judge, read_drafts, read_mask, read_write, write_mask, write_result, write_write,
+    Draft, Drafts, judge, read_drafts, read_mask, read_write, write_mask, write_write,
 };
 use serde_json::Value;
 use std::alloc::{AllocError, Global};
@@ -138,7 +139,7 @@ pub(crate) fn result_written(rt: &impl Abort, alloc: Global, text: &str) -> Stri
         updated: updated(rt, alloc, moment),
         transforms: values_of(rt, alloc, values),
     };
-    printed(rt, alloc, write_result(alloc, &answer))
+    result_text(rt, alloc, &answer)
 }
 
 fn updated(rt: &impl Abort, alloc: Global, text: &str) -> Option<Micros> {

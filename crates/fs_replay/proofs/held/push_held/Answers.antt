@@ -5,7 +5,7 @@ use Rattle.fs_rpc.specs.MessageJson.{with_id}
 use Rattle.fs_valjson.proofs.Tokens.{around, behind_both}
 use Rattle.fs_valjson.specs.Tokens.{member_tokens, text_member}
 use Rattle.fs_replay.specs.Held.{with_held}
-use Rattle.fs_replay.proofs.Tokens.{held_tokens}
+use Rattle.fs_replay.proofs.HeldTokens.{held_tokens}
 use Rattle.fs_replay.proofs.held.push_held.Goals as goal
 
 pub returns-clause-tokens : goal.returns-clause-tokens

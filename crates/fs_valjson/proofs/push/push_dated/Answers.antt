@@ -1,4 +1,4 @@
-use Rattle.std.proofs.Common.{◌≡◌, ◌++◌, [], ◌∷◌, codes, OnOk, subst, ap, ◌∙◌}
+use Rattle.std.proofs.Common.{◌≡◌, ◌++◌, [], ◌∷◌, Ok, codes, OnOk, refl, sym, subst, ap, ◌∙◌}
 use Rattle.json.specs.Token.{begin_object, end_object}
 use Rattle.serde_json.specs.Data as json
 use Rattle.fs_json.specs.Time.{time_json}
@@ -10,6 +10,11 @@ use Rattle.fs_valjson.proofs.Tokens.{around, behind_both, object_tokens}
 use Rattle.fs_valjson.specs.Tokens.{member_tokens, text_member}
 use Rattle.fs_valjson.specs.Writing.{members_json}
 use Rattle.fs_valjson.proofs.Pushed.{fields_first}
+use Rattle.fs_path.specs.Document.{document_of}
+use Rattle.fs_json.proofs.Writings.{on_ok_always}
+use Rattle.fs_valjson.specs.Held.{MembersAreHeld}
+use Rattle.fs_valjson.proofs.Again.{document_again}
+use Rattle.fs_valjson.proofs.Printed.{document_from_tokens}
 use Rattle.fs_valjson.proofs.push.push_dated.Goals as goal
 
 pub returns-clause-tokens : goal.returns-clause-tokens
@@ -34,3 +39,15 @@ returns-clause-tokens c =
     (around c.args.line.now.tokens begun c.push_time.new.line.tokens begin_object end_object (made ++ (fields ++ (name ++ changed))) _ c.in_ok-begin_object.ensures.ok all
     (ap (λ ts. begin_object ∷ ((made ++ ts) ++ end_object ∷ [])) (fields_first ms rest) ∙ object_tokens (json.member (codes "createTime") (time_json d.created) (with_fields ms rest))))
     c.end_object.ensures.ok
+
+pub returns-clause-held : goal.returns-clause-held
+returns-clause-held c =
+    let d = c.args.d.now in
+    let printed = c.in_ok-print_document.ensures in
+    let held = subst (λ fs. MembersAreHeld (members_of fs)) c.as_fields.ensures c.in_ok-push_fields.ensures.held in
+    on_ok_always c.end_object.result (record {
+      again = λ root place valid.
+          let named : document_of root (document_text d.name) ≡ Ok d.name = ap (document_of root) (sym printed.text) ∙ printed.in_root root valid.named in
+          document_again root d.name d.fields d.created d.updated place named valid.names held c.times_are_held.ensures c.in_ok-push_time.ensures.held;
+      from_tokens = document_from_tokens d d.fields refl held;
+    })

@@ -39,5 +39,5 @@ write_members-loop-field-preserved t c =
     rw (c.in_ok-put.ensures.ok, c.as_str.ensures.value, c.in_ok-value.ensures.value, l.invariant.written) refl in
     rw one (record {
       written = step ∙ put_last so_far f.key (view f.value) last;
-      held = members_held_push so_far f.key (view f.value) l.invariant.held c.in_ok-value.ensures.held;
+      held = members_held_push so_far f.key (view f.value) l.invariant.held c.in_ok-value.ensures.held last;
     })

@@ -1,8 +1,0 @@
-use Rattle.std.proofs.Common.{◌≡◌, OnOk, subst}
-use Rattle.fs_replay.proofs.Tokens.{headed}
-use Rattle.fs_replay.proofs.message_line.push_got.Goals as goal
-
-pub returns-clause-tokens : goal.returns-clause-tokens
-returns-clause-tokens c =
-    subst (λ ts. OnOk c.push_document.result (c.push_document.new.line.tokens ≡ ts))
-    (headed c.args.line.now.tokens _ c.args.id.now _ c.in_ok-push_head.ensures.tokens) c.push_document.ensures.tokens

@@ -1,0 +1,17 @@
+use Rattle.std.proofs.Common.{◌≡◌, ◌++◌, map, drop, take}
+use Rattle.std.specs.List.{AllByRecursion}
+use Rattle.json.specs.Tree.{items_tokens}
+use Rattle.serde_json.specs.Data.{array}
+use Rattle.serde_json.specs.View.{items_of}
+use Rattle.serde_json.specs.Written.{items_outline}
+use Rattle.fs_valjson.specs.Tokens.{tokens_of}
+use Rattle.fs_writejson.specs.Results.{result_json, IsResultHeld}
+use Rattle.fs_rpc.proofs.commit_write.push_each.Given as goal
+
+-- what is written so far, and the tokens of the results that are left with their bracket, are the list; and those so far are held
+abbrev pub invariant-loop-answer : goal.invariant-loop-answer
+invariant-loop-answer l = record {
+  whole : l.line.tokens ++ items_tokens (items_outline (items_of (map result_json (drop l.answer-index l.results)))) ≡ l.fn.line.tokens ++ tokens_of (array (items_of (map result_json l.results)));
+  before : l.line.before ≡ l.fn.line.before;
+  held : AllByRecursion IsResultHeld (take l.answer-index l.results);
+}
