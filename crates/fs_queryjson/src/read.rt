@@ -1,12 +1,23 @@
 //! Reads queries.
-ghost use Rattle.std.specs.Prelude.{◌≡◌, pos, IfOk};
+ghost use Rattle.std.specs.Prelude.{◌≡◌, pos, IfOk, List, Option};
 ghost use Rattle.fs_path.specs.Way.{place_of};
+ghost use Rattle.fs_path.specs.declared.field.FieldPath.{FieldPath as Path};
+ghost use Rattle.fs_path.specs.declared.scope.Scope.{Scope as Covered};
 ghost use Rattle.serde_json.specs.View.{view as json};
-ghost use Rattle.fs_json.specs.Answer.{Gives};
+ghost use Rattle.fs_json.specs.Answer.{Gives, made};
+ghost use Rattle.fs_queryjson.specs.Cursor.{cursor_in};
+ghost use Rattle.fs_queryjson.specs.Filter.{where_in};
+ghost use Rattle.fs_queryjson.specs.From.{scopes_in, the_scope};
+ghost use Rattle.fs_queryjson.specs.Order.{orders_in};
+ghost use Rattle.fs_queryjson.specs.Select.{select_in};
 ghost use Rattle.fs_queryjson.specs.Query.{listened_at, offset_in, permitted_at, query_at, walked_at};
 ghost use Rattle.fs_queryjson.specs.Steps.{listened_into, parts_into, walked_into};
 ghost use Rattle.fs_queryjson.specs.Valid.{IsValid};
 ghost use Rattle.fs_query.specs.Asked.{Asked};
+ghost use Rattle.fs_query.specs.Condition.{Condition};
+ghost use Rattle.fs_query.specs.View.{view};
+ghost use Rattle.fs_query.specs.declared.cursor.Cursor.{Cursor as Edge};
+ghost use Rattle.fs_query.specs.declared.order.Order.{Order as Ordered};
 
 use crate::cursor::read_cursor_of;
 use crate::filter::read_where_of;
@@ -16,8 +27,8 @@ use crate::names::{END_AT, LIMIT, OFFSET, QUERY_MEMBERS, SELECT, START_AT};
 use crate::order::read_orders_of;
 use crate::select::read_select_of;
 use fs_json::{Bad, only, refuse_unbuilt};
-use fs_path::{Ids, Rule, Way};
-use fs_query::{Filter, Orders, Query, check_with};
+use fs_path::{Ids, Paths, Rule, Scope, Way};
+use fs_query::{Cursor, Filter, Orders, Query, check_with};
 use serde_json::Value;
 use std::alloc::Global;
 
@@ -99,7 +110,7 @@ fn walk_into(
         (walked_into query.old parent.now (json v.now) (place_of way.now)) }
 {
     only(alloc, v, &QUERY_MEMBERS, way)?;
-    query.select = read_select_of(alloc, v, way)?;
+    select_into(alloc, v, way, &mut query.select)?;
     parts_into(alloc, parent, v, way, query)?;
     query.offset = read_offset_of(alloc, v, way)?;
     query.limit = read_small_of(alloc, v, LIMIT, way)?;
@@ -138,12 +149,65 @@ fn parts_into(
     ensures { Gives {Y = Asked} (λ u. query.new) result
         (parts_into query.old parent.now (json v.now) (place_of way.now)) }
 {
+    scope_into(alloc, parent, v, way, &mut query.scope)?;
+    filter_into(alloc, v, way, &mut query.filter)?;
+    orders_into(alloc, v, way, &mut query.orders)?;
+    cursor_into(alloc, v, START_AT, way, &mut query.start)?;
+    cursor_into(alloc, v, END_AT, way, &mut query.end)?;
+    Ok(())
+}
+
+fn select_into(
+    alloc: Global,
+    v: &Value,
+    way: &Way<'_>,
+    select: &mut Option<Paths>,
+) -> Result<(), Bad>
+    ensures { Gives {Y = Option (List Path)} (λ u. select.new) result (select_in (json v.now) (place_of way.now)) }
+{
+    *select = read_select_of(alloc, v, way)?;
+    Ok(())
+}
+
+fn scope_into(
+    alloc: Global,
+    parent: &Ids,
+    v: &Value,
+    way: &Way<'_>,
+    scope: &mut Scope,
+) -> Result<(), Bad>
+    ensures { Gives {Y = Covered} (λ u. scope.new) result
+        (made (the_scope parent.now) (scopes_in parent.now (json v.now) (place_of way.now))) }
+{
     let scopes = read_scopes_of(alloc, parent, v, way)?;
-    query.scope = the_scope(alloc, parent, scopes)?;
-    query.filter = read_where_of(alloc, v, way)?;
-    query.orders = read_orders_of(alloc, v, way)?;
-    query.start = read_cursor_of(alloc, v, START_AT, way)?;
-    query.end = read_cursor_of(alloc, v, END_AT, way)?;
+    *scope = the_scope(alloc, parent, scopes)?;
+    Ok(())
+}
+
+fn filter_into(alloc: Global, v: &Value, way: &Way<'_>, filter: &mut Filter) -> Result<(), Bad>
+    ensures { Gives {Y = Condition} (λ u. view filter.new) result (where_in (json v.now) (place_of way.now)) }
+{
+    *filter = read_where_of(alloc, v, way)?;
+    Ok(())
+}
+
+fn orders_into(alloc: Global, v: &Value, way: &Way<'_>, orders: &mut Orders) -> Result<(), Bad>
+    ensures { Gives {Y = List Ordered} (λ u. orders.new) result (orders_in (json v.now) (place_of way.now)) }
+{
+    *orders = read_orders_of(alloc, v, way)?;
+    Ok(())
+}
+
+fn cursor_into(
+    alloc: Global,
+    v: &Value,
+    name: &str,
+    way: &Way<'_>,
+    cursor: &mut Option<Cursor>,
+) -> Result<(), Bad>
+    ensures { Gives {Y = Option Edge} (λ u. cursor.new) result (cursor_in name.now (json v.now) (place_of way.now)) }
+{
+    *cursor = read_cursor_of(alloc, v, name, way)?;
     Ok(())
 }
 

@@ -2,7 +2,7 @@
 --
 --     updated at 2024, an increment came to 3     {"transformResults":[{"integerValue":"3"}],"updateTime":"2024-01-01T00:00:00Z"}
 --     a delete                                    {}
-use Rattle.std.specs.Prelude.{◌≡◌, ℕ, ℤ, List, [], ◌∷◌, Option, Some, None, Result, Ok, IfSome, codes}
+use Rattle.std.specs.Prelude.{ℕ, ℤ, List, [], ◌∷◌, Option, Some, None, Result, Ok, IfSome, codes}
 use Rattle.serde_json.specs.Data as json
 use Rattle.fs_value.specs.Data.{Data}
 use Rattle.fs_json.specs.Answer.{◌>>=◌}
