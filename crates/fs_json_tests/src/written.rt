@@ -1,5 +1,7 @@
 //! The texts of what is written token by token.
 use crate::made::moment;
+use fs_rpc::push_status;
+use fs_status::Code;
 use fs_time::print;
 use fs_valjson::push_document;
 use fs_value::Document;
@@ -21,6 +23,12 @@ pub(crate) fn result_text(rt: &impl Abort, alloc: Global, answer: &WriteResult) 
     let text = print(alloc, known).expect(rt, "memory");
     let mut line = Writer::new(Vec::new(alloc));
     push_result(alloc, &mut line, answer, known, &text).expect(rt, "memory");
+    bytes_text(rt, alloc, line.into_inner())
+}
+
+pub(crate) fn status_text(rt: &impl Abort, alloc: Global, code: Code, message: &str) -> String {
+    let mut line = Writer::new(Vec::new(alloc));
+    push_status(&mut line, code, message).expect(rt, "memory");
     bytes_text(rt, alloc, line.into_inner())
 }
 

@@ -107,9 +107,6 @@ settling_leads s = turns_leads (left_to_do s.server) s
 
 -- ---- sessions are served
 
-loads_one_leads : (n : Named) (id : ℕ) (s : State) → Leads s.server (loads_one n id s)
-loads_one_leads n id s = refl
-
 load_leads : (n : Named) (s : State) (others : State → Played) (next : Option ℕ) → ((t : State) → Leads t.server (others t)) → Leads s.server (loads_next n s others next)
 load_leads n s others None more = refl
 load_leads n s others (Some id) more = let p = loads_one n id s in lead_on s.server p others refl (more p.state)

@@ -8,6 +8,7 @@ ghost use Rattle.fs_replay.specs.Held.{held_json, held_line, held_lines, with_he
 ghost use Rattle.fs_replay.specs.Reply.{json_line};
 
 use crate::directory::Directory;
+use crate::reply::add_line;
 use crate::state::State;
 use fs_rpc::push_id;
 use fs_server::{Parked, Server};
@@ -64,8 +65,9 @@ fn say_waits(
     ensures { OnOk result (out.new.items ≡ out.old.items ++ json_line (held_json (member.now, asker.now) parked.now)) }
 {
     let line = held_bytes(alloc, member, asker, parked)?;
-    out.extend_from_slice(&line)?;
-    Ok(out.push(b'\n')?)
+    let said = add_line(out, &line);
+    drop(line);
+    said
 }
 
 // `{"held":"1","id":"9","session":"s"}`

@@ -1,61 +1,77 @@
 //! What is written for lines.
-ghost use Rattle.std.specs.Prelude.{◌≡◌, ◌++◌, IfOk, OnOk, false};
-ghost use Rattle.serde_json.specs.View.{view};
-ghost use Rattle.serde_json.specs.Written.{has_float};
+ghost use Rattle.std.specs.Prelude.{◌≡◌, ◌∷◌, ◌++◌, [], IfOk, OnOk, codes, decimal};
+ghost use Rattle.json.specs.Token.{key, number as number_token};
+ghost use Rattle.serde_json.specs.Written.{compact_text};
 ghost use Rattle.fs_request.specs.Refused.{refused};
 ghost use Rattle.fs_rpc.specs.MessageJson.{error_json};
 ghost use Rattle.fs_replay.specs.Outboxes.{message_line, message_lines};
 ghost use Rattle.fs_replay.specs.Reply.{json_line, line_error, refusal_json, refused_json};
+ghost use Rattle.fs_valjson.specs.Tokens.{tokens_of};
 
 use fs_path::Text;
 use fs_request::Message;
-use fs_rpc::{error_json, write_message_on};
-use fs_status::{Reason, Refusal, message};
-use serde_json::{Value, json};
+use fs_rpc::{push_status, write_message_on};
+use fs_status::{Code, Reason, Refusal, message};
+use json::Writer;
 use std::alloc::{AllocError, Global};
 
-/// Adds a value on a line of its own.
-fn push_line(alloc: Global, out: &mut Vec<u8>, v: &Value) -> Result<(), AllocError>
-    requires { has_float (view v.now) ≡ false }
-    ensures { OnOk result (out.new.items ≡ out.old.items ++ json_line (view v.now)) }
+/// Most errors of lines are shorter, and need no more room than this.
+const ROOM: usize = 128;
+
+/// Adds a text as a line.
+pub fn add_line(out: &mut Vec<u8>, text: &[u8]) -> Result<(), AllocError>
+    ensures { OnOk result (out.new.items ≡ out.old.items ++ (text.now ++ 10 ∷ [])) }
 {
-    out.extend_from_slice(&v.to_vec(alloc)?)?;
+    out.extend_from_slice(text)?;
     Ok(out.push(b'\n')?)
 }
 
 // ---- lines that are at fault
 
-// The error of a refusal.
-fn refusal_json(alloc: Global, refusal: &Refusal) -> Result<Value, AllocError>
-    ensures value { IfOk result (λ v. view v ≡ refusal_json refusal.now) }
-    ensures no_float { IfOk result (λ v. has_float (view v) ≡ false) }
-{
-    let text = message(alloc, refusal)?;
-    error_json(alloc, refusal.code, text.as_str())
-}
-
-// The answer to a line of a number that is no request.
-fn line_error(alloc: Global, error: Value, number: u64) -> Result<Value, AllocError>
-    ensures value { IfOk result (λ v. view v ≡ line_error (view error) number) }
-    ensures no_float { has_float (view error) ≡ false → IfOk result (λ v. has_float (view v) ≡ false) }
-{
-    json!(in alloc; {"error": error, "line": number})
-}
-
 /// Adds an error to a line of a number.
 pub fn say_error(
     alloc: Global,
-    error: Value,
+    code: Code,
+    text: &str,
     number: u64,
     out: &mut Vec<u8>,
 ) -> Result<(), AllocError>
-    requires { has_float (view error) ≡ false }
-    ensures { OnOk result (out.new.items ≡ out.old.items ++ json_line (line_error (view error) number)) }
+    ensures { OnOk result (out.new.items ≡ out.old.items ++ json_line (line_error (error_json code text.now) number)) }
 {
-    let line = line_error(alloc, error, number)?;
-    let said = push_line(alloc, out, &line);
+    let line = error_bytes(alloc, code, text, number)?;
+    let said = add_line(out, &line);
     drop(line);
     said
+}
+
+fn error_bytes(alloc: Global, code: Code, text: &str, number: u64) -> Result<Vec<u8>, AllocError>
+    ensures { IfOk result (λ b. b.items ≡ compact_text (line_error (error_json code text.now) number)) }
+{
+    let mut line = Writer::new(Vec::with_capacity(alloc, ROOM)?);
+    push_error(&mut line, code, text, number)?;
+    Ok(line.into_inner())
+}
+
+// `{"error":{"code":400,"message":"..","status":"INVALID_ARGUMENT"},"line":1}`
+fn push_error(line: &mut Writer, code: Code, text: &str, number: u64) -> Result<(), AllocError>
+    ensures tokens { OnOk result (line.new.tokens
+        ≡ line.old.tokens ++ tokens_of (line_error (error_json code text.now) number)) }
+    ensures before { line.new.before ≡ line.old.before }
+{
+    line.begin_object()?;
+    line.key("error")?;
+    push_status(line, code, text)?;
+    push_number(line, number)?;
+    line.end_object()
+}
+
+fn push_number(line: &mut Writer, number: u64) -> Result<(), AllocError>
+    ensures tokens { OnOk result (line.new.tokens
+        ≡ line.old.tokens ++ key (codes "line") ∷ number_token (decimal number) ∷ []) }
+    ensures before { line.new.before ≡ line.old.before }
+{
+    line.key("line")?;
+    line.u64(number)
 }
 
 /// Adds why a line of a number is refused.
@@ -68,9 +84,23 @@ pub fn say_refused(
     ensures { OnOk result (out.new.items ≡ out.old.items ++ json_line (line_error (refused_json reason) number)) }
 {
     let refusal = Refusal::of(reason);
-    let error = refusal_json(alloc, &refusal);
+    let said = say_refusal(alloc, &refusal, number, out);
     drop(refusal);
-    say_error(alloc, error?, number, out)
+    said
+}
+
+fn say_refusal(
+    alloc: Global,
+    refusal: &Refusal,
+    number: u64,
+    out: &mut Vec<u8>,
+) -> Result<(), AllocError>
+    ensures { OnOk result (out.new.items ≡ out.old.items ++ json_line (line_error (refusal_json refusal.now) number)) }
+{
+    let text = message(alloc, refusal)?;
+    let said = say_error(alloc, refusal.code, text.as_str(), number, out);
+    drop(text);
+    said
 }
 
 // ---- messages
@@ -85,8 +115,9 @@ pub fn say(
     ensures { OnOk result (out.new.items ≡ out.old.items ++ message_line session.now message.now) }
 {
     let line = write_message_on(alloc, session, message)?;
-    out.extend_from_slice(&line)?;
-    Ok(out.push(b'\n')?)
+    let said = add_line(out, &line);
+    drop(line);
+    said
 }
 
 /// Adds messages of a session.

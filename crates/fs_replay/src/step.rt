@@ -16,7 +16,7 @@ use crate::reply::{say_error, say_refused};
 use crate::request::Line;
 use crate::serve::load_target;
 use crate::state::State;
-use fs_rpc::{SessionRequest, error_json};
+use fs_rpc::SessionRequest;
 use fs_status::{Code, Id, LineFault, Reason};
 use fs_time::Micros;
 use std::alloc::{AllocError, Global};
@@ -207,8 +207,7 @@ fn carry_out_read(
     match line {
         Line::Empty => Ok(()),
         Line::NotBuilt => {
-            let error = error_json(alloc, Code::Unimplemented, "line not read yet")?;
-            say_error(alloc, error, number, out)
+            say_error(alloc, Code::Unimplemented, "line not read yet", number, out)
         }
         Line::Refused(reason) => say_refused(alloc, reason, number, out),
         Line::Asked(asked) => request(alloc, state, number, asked, out),

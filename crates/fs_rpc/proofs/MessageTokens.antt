@@ -74,9 +74,6 @@ query_from_tokens time (d ∷ ds) held = documents_from_tokens time (d ∷ ds) h
 
 -- ---- what a session that listens is told
 
-number_from_tokens : (n : ℕ) → IsSmall n → IsReadFromTokens (number_json n)
-number_from_tokens n small = rw (number_of-decimal n (omega arith)) refl
-
 numbers_from_tokens : (ns : List ℕ) → AreSmall ns → of_items (items_outline (items_of (map number_json ns))) ≡ Some (items_of (map number_json ns))
 numbers_from_tokens [] small = refl
 numbers_from_tokens (n ∷ ns) small = rw (number_of-decimal n (omega (arith, small.0)), numbers_from_tokens ns small.1) refl

@@ -8,7 +8,6 @@ mod distinct;
 mod eight;
 mod envelope;
 mod error_read;
-mod error_write;
 mod id;
 mod list;
 mod listen_read;
@@ -32,9 +31,8 @@ mod when;
 
 pub use decimal::read_decimal;
 pub use envelope::{SessionRequest, read_envelope, read_request, read_session_request};
-pub use error_write::error_json;
 pub use message_read::read_message;
-pub use message_write::{push_id, write_message, write_message_on};
+pub use message_write::{push_id, push_status, write_message, write_message_on};
 pub use request_write::write_request;
 pub use streams_write::print_stream_token;
 pub use transaction::print_transaction;

@@ -1,10 +1,10 @@
 //! What is made of messages.
-use crate::made::{a_text, demo, moment, printed};
-use crate::written::bytes_text;
+use crate::made::{a_text, demo, moment};
+use crate::written::{bytes_text, status_text};
 use fs_json::Bad;
 use fs_path::parse_document;
 use fs_request::{Answers, BatchAnswer, Message};
-use fs_rpc::{error_json, read_message, write_message};
+use fs_rpc::{read_message, write_message};
 use fs_status::{Code, Reason, Refusal};
 use fs_time::Micros;
 use std::alloc::Global;
@@ -45,7 +45,7 @@ pub(crate) fn refused(rt: &impl Abort, alloc: Global, name: &str) -> String {
 }
 
 pub(crate) fn error(rt: &impl Abort, alloc: Global, message: &str) -> String {
-    printed(rt, alloc, error_json(alloc, Code::Aborted, message))
+    status_text(rt, alloc, Code::Aborted, message)
 }
 
 fn answer(rt: &impl Abort, alloc: Global, name: &str) -> BatchAnswer {
