@@ -446,7 +446,7 @@ IS_NAMES = re.compile(r"(?!P\d|__)[^|]+(\|[^|]+)*")
 
 def kind_of(row):
     """The value of a line, as `bytes 0 255`, `array 1 2`, or `map a=foo b=bar`."""
-    kind, content = row.replace("␀", "\0").split(" ", 1)
+    kind, content = row.replace("␀", "\0").replace("␡", "\x7f").split(" ", 1)
     words = content.split()
     if kind == "bytes":
         return {"bytesValue": base64.b64encode(bytes(int(word) for word in words)).decode()}
@@ -464,7 +464,7 @@ def kind_of(row):
 
 def in_order(rows):
     """The values stand in documents whose names go another way."""
-    ids = [f"{7 * k % len(rows):02}" for k in range(len(rows))]
+    ids = [f"{389 * k % 997:03}" for k in range(len(rows))]
     script = commit([{"update": {"name": name(id), "fields": {"v": kind_of(row)}}} for id, row in zip(ids, rows)])
     asked = {"from": [{"collectionId": "c"}], "orderBy": [{"field": {"fieldPath": "v"}}]}
     yield "the values in their order", script + line(session="s", runQuery={"parent": DOCUMENTS, "structuredQuery": asked}), answers_ids(ids)
