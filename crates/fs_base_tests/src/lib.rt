@@ -1,26 +1,11 @@
-//! Tests of names, times, resume tokens, refusals, the edge, values, changes of fields, commit times, holds and write streams: what no script
-//! shows, and vectors from outside.
+//! Tests of times, resume tokens, the numbers of refusals and the edge: vectors from outside, and readers and writers that fail.
 #![tactic(auto)]
 
 #[cfg(test)]
-mod board;
-#[cfg(test)]
 mod edge;
 #[cfg(test)]
-mod edit;
+mod memory;
 #[cfg(test)]
-mod locks;
+mod numbers;
 #[cfg(test)]
-mod path;
-#[cfg(test)]
-mod short;
-#[cfg(test)]
-mod status;
-#[cfg(test)]
-mod streams;
-#[cfg(test)]
-mod time;
-#[cfg(test)]
-mod token;
-#[cfg(test)]
-mod value;
+mod readings;

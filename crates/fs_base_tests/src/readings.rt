@@ -1,5 +1,6 @@
-//! Texts and the moments that they are, counted from outside.
+//! Texts and the moments that they are, and bytes and the resume tokens that they are: both counted from outside.
 use fs_time::{Micros, TimeError, print, read_rfc3339};
+use fs_token::{TokenError, read, write};
 use std::alloc::{AllocError, Global};
 use std::fmt::Write as _;
 use std::process::Abort;
@@ -98,8 +99,40 @@ const READINGS: &str = r#"2024-01-01T00:00:00Z => 1704067200000000 2024-01-01T00
 T => bad text
 Z => bad text"#;
 
+// The bytes of a token, in base 16, and the microseconds that it is read as, or why it isn't. What is read is written again as
+// the same bytes.
+const TOKENS: &str = "46 53 52 31 00 06 0d d7 10 21 20 01 => 1704067200000001
+46 53 52 31 00 06 0d d7 10 21 20 00 => 1704067200000000
+46 53 52 31 00 00 00 00 00 00 00 00 => 0
+46 53 52 31 ff ff ff ff ff ff ff ff => -1
+46 53 52 31 ff 23 40 01 00 d4 40 00 => -62135596800000000
+46 53 52 31 03 84 44 0c cc 73 5f ff => 253402300799999999
+46 53 52 31 ff 23 40 01 00 d4 3f ff => bad time
+46 53 52 31 03 84 44 0c cc 73 60 00 => bad time
+46 53 52 31 80 00 00 00 00 00 00 00 => bad time
+46 53 52 31 7f ff ff ff ff ff ff ff => bad time
+47 53 52 31 00 06 0d d7 10 21 20 01 => bad mark
+46 73 52 31 00 06 0d d7 10 21 20 01 => bad mark
+46 53 00 31 00 06 0d d7 10 21 20 01 => bad mark
+46 53 52 32 00 06 0d d7 10 21 20 01 => bad mark
+46 53 52 32 7f ff ff ff ff ff ff ff => bad mark
+00 06 0d d7 10 21 20 01 46 53 52 31 => bad mark
+ => 0 bytes
+46 53 52 31 => 4 bytes
+46 53 52 31 00 06 0d d7 10 21 20 => 11 bytes
+46 53 52 31 00 06 0d d7 10 21 20 01 00 => 13 bytes
+47 53 52 31 00 06 0d d7 10 21 20 01 00 => 13 bytes
+46 53 52 31 00 06 0d d7 10 21 20 01 46 53 52 31 00 06 0d d7 10 21 20 01 => 24 bytes";
+
+/// What a table is of.
+#[derive(Clone, Copy)]
+enum Reading {
+    Time,
+    Token,
+}
+
 // Adds what a text reads as.
-fn push_reading(alloc: Global, told: &mut String, text: &str) -> Result<(), AllocError> {
+fn push_time(alloc: Global, told: &mut String, text: &str) -> Result<(), AllocError> {
     match read_rfc3339(alloc, text) {
         Ok(t) => {
             let printed = print(alloc, t)?;
@@ -111,28 +144,62 @@ fn push_reading(alloc: Global, told: &mut String, text: &str) -> Result<(), Allo
     }
 }
 
-fn is_so(rt: &impl Abort, alloc: Global, line: &str) -> bool {
-    let (text, wanted) = line.split_once(" => ").expect(rt, "an arrow");
+// The bytes that stand in a text in base 16.
+fn bytes(rt: &impl Abort, alloc: Global, text: &str) -> Vec<u8> {
+    let mut bytes = Vec::new(alloc);
+    for byte in text.split_whitespace() {
+        let byte = u8::from_str_radix(byte, 16).expect(rt, "a byte");
+        bytes.push(byte).expect(rt, "memory");
+    }
+    bytes
+}
+
+// Adds what bytes are read as.
+fn push_token(told: &mut String, bytes: &[u8]) -> Result<(), AllocError> {
+    match read(bytes) {
+        Ok(t) if write(t).as_slice() == bytes => write!(told, "{}", t.get()),
+        Ok(_) => told.push_str("written otherwise"),
+        Err(TokenError::BadLength(n)) => write!(told, "{n} bytes"),
+        Err(TokenError::BadMark) => told.push_str("bad mark"),
+        Err(TokenError::BadTime) => told.push_str("bad time"),
+    }
+}
+
+fn told(rt: &impl Abort, alloc: Global, reading: Reading, text: &str) -> String {
     let mut told = String::new(alloc);
-    push_reading(alloc, &mut told, text).expect(rt, "memory");
-    told.as_str() == wanted
+    let pushed = match reading {
+        Reading::Time => push_time(alloc, &mut told, text),
+        Reading::Token => push_token(&mut told, bytes(rt, alloc, text).as_slice()),
+    };
+    pushed.expect(rt, "memory");
+    told
+}
+
+fn is_so(rt: &impl Abort, alloc: Global, reading: Reading, line: &str) -> bool {
+    match line.split_once(" => ") {
+        Some((text, wanted)) => told(rt, alloc, reading, text).as_str() == wanted,
+        None => false,
+    }
+}
+
+// Asserts that each line of a table is so.
+fn all_are_so(rt: &impl Abort, alloc: Global, reading: Reading, table: &str) {
+    for line in table.lines() {
+        assert!(rt; is_so(rt, alloc, reading, line), "{line}");
+    }
 }
 
 #[test]
-fn texts_are_read_and_printed(rt: HostRuntime) {
-    for line in READINGS.lines() {
-        assert!(rt; is_so(&rt, rt.alloc(), line), "{line}");
-    }
+fn texts_and_tokens_are_read_and_written(rt: HostRuntime) {
+    let alloc = rt.alloc();
+    all_are_so(&rt, alloc, Reading::Time, READINGS);
+    all_are_so(&rt, alloc, Reading::Token, TOKENS);
 }
 
 #[test]
 fn the_ends_are_moments_and_no_more(rt: HostRuntime) {
-    for (n, want) in &[
-        (Micros::FIRST - 1, None),
-        (Micros::FIRST, Some(-62_135_596_800_000_000)),
-        (Micros::LAST, Some(253_402_300_799_999_999)),
-        (Micros::LAST + 1, None),
-    ] {
-        assert!(rt; Micros::new(*n).map(Micros::get) == *want, "{n}");
-    }
+    assert!(rt; Micros::new(-62_135_596_800_000_000).is_some());
+    assert!(rt; Micros::new(-62_135_596_800_000_001).is_none());
+    assert!(rt; Micros::new(253_402_300_799_999_999).is_some());
+    assert!(rt; Micros::new(253_402_300_800_000_000).is_none());
 }
