@@ -1,24 +1,11 @@
-//! Tests of what is read from JSON and written: of fs_json, fs_valjson, fs_writejson, fs_query, fs_match, fs_queryjson and fs_rpc, by their
-//! public calls.
+//! Tests of JSON that no script reads or writes: messages, requests as a client writes them, and a query's normal form.
 #![tactic(auto)]
 
 #[cfg(test)]
-mod json;
-#[cfg(test)]
 mod made;
 #[cfg(test)]
-mod matching;
-#[cfg(test)]
 mod query;
-#[cfg(test)]
-mod queryjson;
 #[cfg(test)]
 mod rpc;
 #[cfg(test)]
 mod table;
-#[cfg(test)]
-mod valjson;
-#[cfg(test)]
-mod writejson;
-#[cfg(test)]
-mod written;

@@ -1,10 +1,7 @@
-//! Tests of what fs_rpc gives, by its public calls.
+//! Tables of messages, requests and writes.
 
 mod listen_tables;
 mod message_tables;
-pub(crate) mod messages;
 mod request_tables;
-pub(crate) mod requests;
 mod stream_tables;
-mod target_tables;
 mod tests;

@@ -1,18 +1,26 @@
 //! Tables of lines: what is given, an arrow, and what is made of it.
 use crate::made::{Make, made};
 use fs_json::Bad;
-use fs_path::Rule;
 use std::alloc::{AllocError, Global};
 use std::process::Abort;
 
-// The table with what its short forms stand for, in the order in which they are spelled out.
-fn spelled_out(rt: &impl Abort, alloc: Global, short: &[(&str, &str)], table: &str) -> String {
+// What the short forms of a line stand for, in the order in which they are spelled out.
+const SHORT: [(&str, &str); 8] = [
+    ("~", "@/documents"),
+    ("@", "projects/demo/databases/(default)"),
+    ("1us", "2024-01-01T00:00:00.000001Z"),
+    ("2us", "2024-01-01T00:00:00.000002Z"),
+    ("0s", "2024-01-01T00:00:00Z"),
+    ("$0", "AAAAAAAAAAA="),
+    ("$1", "AAAAAAAAAAE="),
+    ("$2", "AAAAAAAAAAI="),
+];
+
+fn spelled_out(rt: &impl Abort, alloc: Global, table: &str) -> String {
     let mut text = String::from_str(alloc, table).expect(rt, "memory");
-    for (form, long) in short {
-        text = text
-            .as_str()
-            .replace(alloc, form, long)
-            .expect(rt, "memory");
+    for (form, long) in &SHORT {
+        let longer = text.as_str().replace(alloc, form, long);
+        text = longer.expect(rt, "memory");
     }
     text
 }
@@ -21,44 +29,26 @@ fn spelled_out(rt: &impl Abort, alloc: Global, short: &[(&str, &str)], table: &s
 fn shown(alloc: Global, made: Result<String, Bad>) -> Result<String, AllocError> {
     match made {
         Ok(text) => Ok(text),
-        Err(Bad::At(rule, place)) => refusal(alloc, rule, place.as_str()),
-        Err(Bad::Method(name)) => method(alloc, name.as_str()),
+        Err(Bad::At(rule, place)) => format!(in alloc; "{rule:?} at {}", place.as_str()),
+        Err(Bad::Method(name)) => format!(in alloc; "method {}", name.as_str()),
         Err(Bad::Memory(e)) => Err(e),
     }
 }
 
-fn refusal(alloc: Global, rule: Rule, place: &str) -> Result<String, AllocError> {
-    format!(in alloc; "{rule:?} at {place}")
-}
-
-fn method(alloc: Global, name: &str) -> Result<String, AllocError> {
-    format!(in alloc; "method {name}")
-}
-
-// Asserts that a line gives what stands behind its arrow.
-fn line_holds(rt: &impl Abort, alloc: Global, make: Make, line: &str) {
+// Whether a line gives what stands behind its arrow. Tables leave out what is the same.
+fn is_so(rt: &impl Abort, alloc: Global, make: Make, line: &str) -> bool {
     let (text, want) = line.split_once(" =>").unwrap_or((line, "an arrow"));
     let want = want.trim();
-    // Most tables leave out what is the same.
-    let want = if want.is_empty() && !make.may_be_nothing() {
-        text
-    } else {
-        want
-    };
-    let made = shown(alloc, made(rt, alloc, make, text)).expect(rt, "memory");
-    assert!(rt; made.trim() == want, "{line} gives {made}");
+    let want = if want.is_empty() { text } else { want };
+    let shown = shown(alloc, made(rt, alloc, make, text));
+    shown.expect(rt, "memory").trim() == want
 }
 
 /// Asserts that each line of a table gives what stands behind its arrow.
-pub(crate) fn holds<R: Abort + AllocGlobal>(
-    rt: &R,
-    make: Make,
-    short: &[(&str, &str)],
-    table: &str,
-) {
+pub(crate) fn holds<R: Abort + AllocGlobal>(rt: &R, make: Make, table: &str) {
     let alloc = rt.alloc();
-    let table = spelled_out(rt, alloc, short, table);
+    let table = spelled_out(rt, alloc, table);
     for line in table.lines() {
-        line_holds(rt, alloc, make, line);
+        assert!(rt; is_so(rt, alloc, make, line), "{line}");
     }
 }

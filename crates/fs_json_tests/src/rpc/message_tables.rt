@@ -104,16 +104,3 @@ pub(crate) const REFUSED: &str = r#" => G at
 {"result":[{"document":{"name":"~/c/a"},"readTime":"1us"},{"readTime":"1us"}]} => G at result
 {"result":[{"readTime":"1us"},{"document":{"name":"~/c/a"},"readTime":"1us"}]} => G at result
 {"result":[{"readTime":"1us"},{"readTime":"1us"}]} => G at result"#;
-
-/// A refusal by name, with the id 7.
-pub(crate) const REFUSALS: &str =
-    r#"no document => {"error":{"code":404,"message":"no document at 0s","status":"NOT_FOUND"},"id":"7"}
-exists => {"error":{"code":409,"message":"write 3: document exists","status":"ALREADY_EXISTS"},"id":"7"}"#;
-
-/// An error by its message.
-pub(crate) const ERROR: &str =
-    r#"conflict with 3 => {"code":409,"message":"conflict with 3","status":"ABORTED"}"#;
-
-/// The names that are asked for, and what is told of them where no document is there.
-pub(crate) const ANSWERS: &str =
-    r#"~/c/b ~/c/a => {"result":[{"missing":"~/c/b","readTime":"0s"},{"missing":"~/c/a","readTime":"0s"}]}"#;

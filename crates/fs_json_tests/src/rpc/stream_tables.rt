@@ -1,50 +1,5 @@
-//! What is asked of write streams and told of them: what is read, an arrow, and what is written of it or the place at which it is
-//! refused. `@` stands for the root's database, `~` for its documents, `1us` for a time of 2024, and `$0`, `$1` and `$2` for the
-//! tokens where so many batches are finished.
-
-/// Where nothing stands behind the arrow, the same text is written.
-pub(crate) const ASKED: &str = r#"{"write":{"database":"@"}} =>
-{"id":"1","write":{"database":"@","streamId":"1","streamToken":"$0"}} =>
-{"id":"2","write":{"database":"@","streamToken":"$0","writes":[{"delete":"~/c/a"}]}} =>
-{"write":{"database":"@","streamToken":"$1"}} =>
-{"write":{"database":"@","streamId":"2","streamToken":"$1","writes":[{"currentDocument":{"exists":true},"delete":"~/c/a"},{"update":{"fields":{"n":{"integerValue":"1"}},"name":"~/c/b"}}]}} =>
-{"write":{"database":"@","streamId":"18446744073709551615","streamToken":"//////////8="}} =>
-{"write":{"database":"@","streamId":"0","streamToken":"$2"}} =>
-{"write":{"writes":null,"stream_id":null,"streamToken":null,"labels":null,"database":"@"}} => {"write":{"database":"@"}}
-{"write":{"writes":[],"database":"@","labels":{"a":"b","c":""}}} => {"write":{"database":"@"}}
-{"write":{"database":"@","streamId":"00000000000000000012","stream_token":"AAAAAAAAAAE","writes":[]}} => {"write":{"database":"@","streamId":"12","streamToken":"$1"}}
-{"write":{"database":"@","stream_token":"$0","labels":{},"writes":[]}} => {"write":{"database":"@","streamToken":"$0"}}
-{"write":{"database":"@","streamToken":"__________8","writes":[{"delete":"~/c/a"}]}} => {"write":{"database":"@","streamToken":"//////////8=","writes":[{"delete":"~/c/a"}]}}"#;
-
-/// The first place of the walk that is at fault.
-pub(crate) const REFUSED: &str = r#"{"write":1} => G at write
-{"write":{}} => G at write.database
-{"write":{"database":"@","stream":"1","streamId":1}} => G at write.stream
-{"write":{"database":"@","streamId":"1","stream_id":"1"}} => G at write.stream_id
-{"write":{"database":"projects/x/databases/(default)","streamId":1}} => P(2, None) at write.database
-{"write":{"database":"@","streamId":1,"writes":1}} => G at write.streamId
-{"write":{"database":"@","streamId":""}} => G at write.streamId
-{"write":{"database":"@","streamId":"+1"}} => G at write.streamId
-{"write":{"database":"@","streamId":"-1"}} => G at write.streamId
-{"write":{"database":"@","streamId":"1.0"}} => G at write.streamId
-{"write":{"database":"@","streamId":" 1"}} => G at write.streamId
-{"write":{"database":"@","streamId":"000000000000000000001"}} => G at write.streamId
-{"write":{"database":"@","streamId":"18446744073709551616"}} => G at write.streamId
-{"write":{"database":"@","streamId":"1","writes":1,"streamToken":1}} => G at write.writes
-{"write":{"database":"@","writes":[{}]}} => E(1) at write.writes[0]
-{"write":{"database":"@","writes":[{"delete":"~/c/a"},{"delete":"~/c"}]}} => P(3, None) at write.writes[1].delete
-{"write":{"database":"@","streamId":"1","labels":1}} => G at write.streamToken
-{"write":{"database":"@","streamId":"1","streamToken":null,"writes":[]}} => G at write.streamToken
-{"write":{"database":"@","writes":[{"delete":"~/c/a"}],"labels":1}} => G at write.streamToken
-{"write":{"database":"@","streamId":"1","writes":[{"delete":"~/c/a"}]}} => G at write.streamToken
-{"write":{"database":"@","streamToken":""}} => G at write.streamToken
-{"write":{"database":"@","streamToken":0}} => G at write.streamToken
-{"write":{"database":"@","streamToken":"AAAAAAAAAA=="}} => G at write.streamToken
-{"write":{"database":"@","streamToken":"AAAAAAAAAAAA","labels":1}} => G at write.streamToken
-{"write":{"database":"@","streamToken":"$0","labels":[]}} => G at write.labels
-{"write":{"database":"@","streamToken":"$0","writes":[{"delete":"~/c/a","updateMask":{}}],"labels":{"a":1}}} => G at write.labels.a
-{"write":{"database":"@","streamToken":"$0","writes":[{"delete":"~/c/a"},{"delete":"~/c/a","updateMask":{}}],"labels":{}}} => E(3) at write.writes[1]
-{"write":{"database":"@","writes":[{"delete":"~/c/a","updateMask":{}}]}} => G at write.streamToken"#;
+//! What is told of write streams: what is read, an arrow, and what is written of it or the place at which it is refused. `1us` stands for a
+//! time of 2024, and `$0`, `$1` and `$2` for the tokens where so many batches are finished.
 
 /// What a session is told of its stream. Where nothing stands behind the arrow, the same text is written.
 pub(crate) const TOLD: &str = r#"{"write":{"streamId":"1","streamToken":"$0"}} =>
@@ -76,8 +31,3 @@ pub(crate) const MISTOLD: &str = r#"{"write":1} => G at write
 {"write":{"streamId":"1"}} => G at write.streamToken
 {"write":{"streamId":"1","streamToken":"AA=="}} => G at write.streamToken
 {"write":{"streamId":"1","streamToken":null}} => G at write.streamToken"#;
-
-/// The text of a token: the last is the greatest of 64 bits.
-pub(crate) const TOKENS: &str = r#"0 => AAAAAAAAAAA=
-1 => AAAAAAAAAAE=
-18446744073709551615 => //////////8="#;
