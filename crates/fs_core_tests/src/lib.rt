@@ -1,28 +1,13 @@
-//! Tests of writes, histories, transactions, versions, the store, targets and the server, by the public calls of their libraries, and of scripts whose
-//! source or sink fails.
+//! Tests of what no script shows: sources and sinks that fail, servers with small limits, deep values, and calls that the program doesn't make.
 #![tactic(auto)]
 
 #[cfg(test)]
-mod history;
+mod calls;
 #[cfg(test)]
-mod listened;
-#[cfg(test)]
-mod now;
+mod limits;
 #[cfg(test)]
 mod replay;
 #[cfg(test)]
 mod server;
 #[cfg(test)]
 mod short;
-#[cfg(test)]
-mod store;
-#[cfg(test)]
-mod table;
-#[cfg(test)]
-mod targets;
-#[cfg(test)]
-mod txns;
-#[cfg(test)]
-mod versions;
-#[cfg(test)]
-mod write;

@@ -1,5 +1,6 @@
 //! Scripts whose source or sink fails.
 ghost use Rattle.fs_machine.specs.Config.{IsAllowed};
+ghost use Rattle.fs_machine.specs.Limits.{AreAllowed};
 
 use crate::short::root;
 use fs_edge::{MemorySink, MemorySource, Pace, Paces, Status};
@@ -18,7 +19,8 @@ const ITS_REPLY: &str =
 const ANOTHER: &str =
     r#"{"session":"s","id":"2","commit":{"database":"projects/demo/databases/(default)"}}"#;
 
-fn config(rt: &impl Abort, alloc: Global) -> Config
+/// Four shards.
+pub(crate) fn config(rt: &impl Abort, alloc: Global) -> Config
     ensures { IsAllowed result }
 {
     Config {
@@ -28,29 +30,35 @@ fn config(rt: &impl Abort, alloc: Global) -> Config
     }
 }
 
+/// The greatest limits.
+pub(crate) fn allowed(rt: &impl Abort) -> Limits
+    ensures { AreAllowed result }
+{
+    let limits = Limits::greatest();
+    assert!(rt; limits.are_allowed());
+    limits
+}
+
 // The lines of a script.
 fn script(rt: &impl Abort, alloc: Global) -> Bytes {
     let lines = format!(in alloc; "{A_COMMIT}\n{ANOTHER}\n").expect(rt, "memory");
     Bytes::from_slice(alloc, lines.as_bytes()).expect(rt, "memory")
 }
 
-// Whether a script from a source into a sink that goes by these paces ends so, and has written this.
-fn ends_so(
+/// Whether a script from a source into a sink that goes by these paces ends so, and has written this.
+pub(crate) fn ends_so(
     rt: &impl Abort,
     alloc: Global,
+    limits: Limits,
     mut source: MemorySource,
     writes: Paces,
     want: Status,
     text: &[u8],
-) -> bool {
+) -> bool
+    requires { AreAllowed limits }
+{
     let mut sink = MemorySink::new(alloc, writes);
-    let status = replay(
-        alloc,
-        config(rt, alloc),
-        Limits::greatest(),
-        &mut source,
-        &mut sink,
-    );
+    let status = replay(alloc, config(rt, alloc), limits, &mut source, &mut sink);
     status == want && sink.given().as_slice() == text
 }
 
@@ -63,6 +71,7 @@ fn a_source_that_fails_leaves_the_lines_before(rt: HostRuntime) {
     let is_so = ends_so(
         &rt,
         alloc,
+        allowed(&rt),
         source,
         Paces::free(alloc),
         Status::ReadFault,
@@ -87,7 +96,7 @@ fn has_front(rt: &impl Abort, alloc: Global, bytes: usize, then: Pace, want: Sta
     let source = MemorySource::new(commit, Paces::free(alloc));
     let writes = bytes_and(rt, alloc, bytes, then);
     let front = ITS_REPLY.as_bytes().get(..bytes).expect(rt, "a front");
-    ends_so(rt, alloc, source, writes, want, front)
+    ends_so(rt, alloc, allowed(rt), source, writes, want, front)
 }
 
 #[test]
