@@ -19,7 +19,8 @@ Python loop over as many dicts, with the requests parsed and the replies printed
 Then transactions: what a begin, a read of one document and a commit of it take together, beside plain commits of one document, and what
 those take while 1,000 transactions are open that have read 100 other documents each.
 
-Then listening: what a plain commit takes while nobody listens, while sessions listen to other collections, and while one listens to its own.
+Then a query that ten of 10,000 documents answer, beside documents of another collection. Then listening: what a plain commit takes while nobody
+listens, while sessions listen to other collections, and while one listens to its own, of 1,000 and of 10,000 documents.
 
 Then the memory of a document is measured: what a run that commits five times so many documents takes at its peak, the bytes
 of the script and those of a run without lines apart, for each; and what fifty times so many commits to 1,000 names take,
@@ -261,6 +262,7 @@ def measure_listening(lines, seed):
 
     rand = random.Random(seed)
     making = list(documents(1000, rand, one_field, 1000))
+    more = list(collection("c", 10000))
     plain = list(documents(lines, rand, one_field, 1000))
     for name, listening in (
             ("nobody listens", []),
@@ -269,9 +271,27 @@ def measure_listening(lines, seed):
             ("ten sessions listen to 10 targets of another collection each", list(listeners(10, 10, "other"))),
             ("ten sessions listen to 100 targets of another collection each", list(listeners(10, 100, "other"))),
             ("a session listens to 10 targets of that collection", list(listeners(1, 10, "c"))),
+            ("a session listens to 10 targets of that collection, of 10,000 more documents", more + list(listeners(1, 10, "c"))),
             ("ten more sessions are open", list(sessions(10))),
             ("sixty more sessions are open", list(sessions(60)))):
         print("a plain commit while %s: %.1f µs" % (name, (took(making + listening + plain) - took(making + listening)) / lines * 1e6))
+
+
+def collection(id, count):
+    """Commits of 500 documents each, with one integer."""
+    for start in range(0, count, 500):
+        yield {"commit": {"database": ROOT, "writes": [
+            {"update": {"name": "%s/%s/d%07d" % (DOCUMENTS, id, i), "fields": {"n": {"integerValue": str(i)}}}}
+            for i in range(start, start + 500)]}}
+
+
+def measure_beside():
+    """A query of a collection of 10,000 documents that ten answer, beside those of another."""
+    asked = run_query(limit=10)
+    for others in (1000, 100000):
+        making = list(collection("c", 10000)) + list(collection("other", others))
+        added = best_of(script_of(making + 200 * [asked]), RUNS)[0] - best_of(script_of(making), RUNS)[0]
+        print("a query that ten of 10,000 documents answer, beside %d others: %.2f ms" % (others, added / 200 * 1e3))
 
 
 MANY = 10000
@@ -470,6 +490,7 @@ def main():
     for name, requests in (("mixed", mixed), ("commits", commits), ("reads", reads), ("old", old_reads)):
         measure(name, requests(lines, random.Random(seed)))
     measure_requests(seed)
+    measure_beside()
     measure_transactions(lines, seed)
     measure_listening(lines, seed)
     measure_memory("one integer", 5 * lines, seed, one_field)

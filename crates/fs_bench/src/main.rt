@@ -1,21 +1,18 @@
 //! Times what the libraries cost: `measure` prints nanoseconds of names and documents, `versions=1000` those of a million
-//! versions of so many documents, `store=1000` what a query costs beside so many documents of another collection, and
-//! `targets=1000` what a change and a raise cost a session that listens to so many documents. Without a word it does nothing.
+//! versions of so many documents. Without a word it does nothing.
 #![tactic(auto)]
 
-mod store;
-mod targets;
 mod versions;
 
-use fs_path::{Bytes, DocName, Text};
+use fs_path::{DocName, Text};
 use fs_time::Micros;
-use fs_value::{Document, Fields, SharedFields, Value, Values};
+use fs_value::{Document, Fields, SharedFields, Value};
 use std::alloc::{AllocError, Global};
 use std::time::Instant;
 use std::{env, io};
 
 /// How often each step is made.
-const ROUNDS: u32 = 2_000_000;
+const ROUNDS: u32 = 1_000_000;
 
 fn main(rt: HostRuntime) -> io::Result<()> {
     for word in env::args(&rt)? {
@@ -31,8 +28,6 @@ fn measure_what(rt: &HostRuntime, word: &str) -> io::Result<()> {
     match what {
         "measure" => measure(rt),
         "versions" => versions::measure(rt, count),
-        "store" => store::measure(rt, count),
-        "targets" => targets::measure(rt, count),
         _ => Ok(()),
     }
 }
@@ -51,10 +46,18 @@ fn measure_names(rt: &HostRuntime) -> io::Result<()> {
 fn compare(rt: &HostRuntime, one: &DocName, other: &DocName) -> io::Result<()> {
     let start = Instant::now(rt)?;
     let less = times_less(one, other);
-    let compared = start.elapsed(rt)?.as_nanos() / ROUNDS as u128;
-    println!(rt;
-        "comparing two names that differ in the last id: {compared} ns ({less} times less)"
+    tell(
+        rt,
+        "comparing two names that differ in the last id",
+        start,
+        less,
     )
+}
+
+// What each round took, and how many came to something.
+fn tell(rt: &HostRuntime, step: &str, start: Instant, count: u32) -> io::Result<()> {
+    let each = start.elapsed(rt)?.as_nanos() / ROUNDS as u128;
+    println!(rt; "{step}: {each} ns ({count})")
 }
 
 fn measure_documents(rt: &HostRuntime) -> io::Result<()> {
@@ -65,8 +68,12 @@ fn measure_documents(rt: &HostRuntime) -> io::Result<()> {
 fn copy(rt: &HostRuntime, document: &Document) -> io::Result<()> {
     let start = Instant::now(rt)?;
     let copies = copies_of(rt.alloc(), document)?;
-    let copied = start.elapsed(rt)?.as_nanos() / ROUNDS as u128;
-    println!(rt; "copying a document of ten fields, and dropping it: {copied} ns ({copies} copies)")
+    tell(
+        rt,
+        "copying a document of ten fields, and dropping it",
+        start,
+        copies,
+    )
 }
 
 fn times_less(one: &DocName, other: &DocName) -> u32 {
@@ -102,67 +109,32 @@ fn a_name(alloc: Global, front: &str, number: u64) -> Result<DocName, AllocError
     DocName::of_path(path).ok_or(AllocError)
 }
 
-// A text of so many bytes, each of which is an `a`.
-fn text(alloc: Global, bytes: usize) -> Result<Value, AllocError> {
-    Ok(Value::String(Text::of(format!(in alloc; "{:a<bytes$}", "")?)))
-}
-
-fn put(alloc: Global, fields: &mut Fields, key: &str, value: Value) -> Result<(), AllocError> {
-    fields.put(Text::from_str(alloc, key)?, value)
-}
-
-fn put_text(alloc: Global, fields: &mut Fields, key: &str, bytes: usize) -> Result<(), AllocError> {
-    put(alloc, fields, key, text(alloc, bytes)?)
-}
-
-fn put_all(alloc: Global, fields: &mut Fields) -> Result<(), AllocError> {
-    put_text(alloc, fields, "name", 24)?;
-    put_text(alloc, fields, "text", 120)?;
-    put(alloc, fields, "count", Value::Integer(4_611_686_018))?;
-    put(alloc, fields, "open", Value::Boolean(true))?;
-    put(alloc, fields, "none", Value::Null)?;
-    put(alloc, fields, "at", Value::Timestamp(moment(NOW)))?;
-    let data = Bytes::from_slice(alloc, b"ABCDEFGHIJKLMNOPQRSTUVWXYZabc")?;
-    put(alloc, fields, "data", Value::Bytes(data))?;
-    let owner = a_name(alloc, "u00000", 1)?;
-    put(alloc, fields, "owner", Value::Reference(owner))?;
-    put_tags(alloc, fields)?;
-    put_place(alloc, fields)
-}
-
-fn put_tags(alloc: Global, fields: &mut Fields) -> Result<(), AllocError> {
-    let mut tags = Values::new(alloc);
-    for _ in 0..4 {
-        tags.push(text(alloc, 6)?)?;
-    }
-    put(alloc, fields, "tags", Value::Array(tags))
-}
-
-fn put_place(alloc: Global, fields: &mut Fields) -> Result<(), AllocError> {
-    let mut place = Fields::new(alloc);
-    put_text(alloc, &mut place, "city", 10)?;
-    put(alloc, &mut place, "zip", Value::Integer(12_345))?;
-    put(alloc, fields, "place", Value::Map(place))
-}
-
-fn some_fields(alloc: Global) -> Result<SharedFields, AllocError> {
+// Ten texts of 24 bytes. (Whoever copies a document shares its fields, whatever their kinds.)
+fn ten_fields(alloc: Global) -> Result<SharedFields, AllocError> {
     let mut fields = Fields::new(alloc);
-    put_all(alloc, &mut fields)?;
+    put_ten(alloc, &mut fields)?;
     SharedFields::of(alloc, fields)
+}
+
+fn put_ten(alloc: Global, fields: &mut Fields) -> Result<(), AllocError> {
+    for i in 0..10u32 {
+        let key = Text::of(format!(in alloc; "f{i}")?);
+        let text = Text::of(format!(in alloc; "{i:024}")?);
+        fields.put(key, Value::String(text))?;
+    }
+    Ok(())
 }
 
 // One integer.
 fn one_field(alloc: Global, n: i64) -> Result<SharedFields, AllocError> {
     let mut fields = Fields::new(alloc);
-    put(alloc, &mut fields, "n", Value::Integer(n))?;
+    fields.put(Text::from_str(alloc, "n")?, Value::Integer(n))?;
     SharedFields::of(alloc, fields)
 }
 
-const NOW: u64 = 1_704_067_200_000_001;
-
-// The moment of so many microseconds, which is now at the latest.
-fn moment(micros: u64) -> Micros {
-    match Micros::new(micros.min(NOW) as i64) {
+// The moment that is so many microseconds after 1970 began.
+fn moment(micros: u32) -> Micros {
+    match Micros::new(i64::from(micros)) {
         Some(time) => time,
         None => unreachable!(),
     }
@@ -170,8 +142,8 @@ fn moment(micros: u64) -> Micros {
 
 fn a_document(alloc: Global) -> Result<Document, AllocError> {
     let name = a_name(alloc, "m00000", 1)?;
-    let fields = some_fields(alloc)?;
-    Ok(document_of(name, fields, moment(NOW)))
+    let fields = ten_fields(alloc)?;
+    Ok(document_of(name, fields, moment(1)))
 }
 
 // The document that was made at a time.

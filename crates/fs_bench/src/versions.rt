@@ -1,16 +1,14 @@
 //! Times version chains: a million versions of so many documents, put in one by one, and looked up again.
-use crate::{a_name, document_of, moment, one_field};
+use crate::{ROUNDS, a_name, document_of, moment, one_field, tell};
 use fs_path::DocName;
 use fs_time::Micros;
 use fs_value::SharedFields;
 use fs_versions::Versions;
-use fs_write::{Change, Changes};
+use fs_write::Change;
 use std::alloc::{AllocError, Global};
 use std::io;
 use std::time::Instant;
 
-/// How many versions are put in, and how many are looked up.
-const ROUNDS: u64 = 1_000_000;
 /// A prime, so that each document is come to as often as the others, in no order.
 const STRIDE: u64 = 611_953;
 
@@ -54,26 +52,19 @@ fn time_installs(
 ) -> io::Result<()> {
     let start = Instant::now(rt)?;
     let made = make(rt.alloc(), names, fields)?;
-    let making = start.elapsed(rt)?.as_nanos() / ROUNDS as u128;
+    tell(rt, "making a change", start, made)?;
     let start = Instant::now(rt)?;
     let installed = install(rt.alloc(), versions, names, fields)?;
-    let installing = start.elapsed(rt)?.as_nanos() / ROUNDS as u128;
-    let count = names.len();
-    println!(rt; "{count} documents, {made} changes made, {installed} versions put in")?;
-    println!(rt;
-        "making a change: {making} ns; making it and putting its version in: {installing} ns"
-    )
+    tell(rt, "making it and putting its version in", start, installed)
 }
 
 fn measure_reads(rt: &HostRuntime, versions: &Versions, names: &[DocName]) -> io::Result<()> {
     let start = Instant::now(rt)?;
     let found = look_up(versions, names);
-    let looking = start.elapsed(rt)?.as_nanos() / ROUNDS as u128;
-    println!(rt; "a document at a time: {looking} ns ({found} found)")?;
+    tell(rt, "a document at a time", start, found)?;
     let start = Instant::now(rt)?;
     let found = look_up_latest(versions, names);
-    let looking = start.elapsed(rt)?.as_nanos() / ROUNDS as u128;
-    println!(rt; "the newest of a document: {looking} ns ({found} found)")
+    tell(rt, "the newest of a document", start, found)
 }
 
 fn measure_compaction(rt: &HostRuntime, versions: &mut Versions) -> io::Result<()> {
@@ -82,8 +73,12 @@ fn measure_compaction(rt: &HostRuntime, versions: &mut Versions) -> io::Result<(
     if versions.floor() <= half {
         versions.compact(half);
     }
-    let compacting = start.elapsed(rt)?.as_millis();
-    println!(rt; "a compaction to half of the time: {compacting} ms")
+    tell(
+        rt,
+        "a compaction to half of the time, by version",
+        start,
+        ROUNDS / 2,
+    )
 }
 
 fn names(alloc: Global, count: u32) -> Result<Vec<DocName>, AllocError> {
@@ -94,19 +89,17 @@ fn names(alloc: Global, count: u32) -> Result<Vec<DocName>, AllocError> {
     Ok(names)
 }
 
-// The change of a round: the document that it comes to is set. All documents share their fields.
-fn change(
-    alloc: Global,
-    names: &[DocName],
-    fields: &SharedFields,
-    round: u64,
-) -> Result<Option<Change>, AllocError> {
-    match name_of(names, round) {
-        Some(name) => Ok(Some(change_of(alloc, name, fields, moment(round))?)),
-        None => Ok(None),
+// The name that a round comes to.
+fn name_of(names: &[DocName], round: u32) -> Option<&DocName> {
+    let count = names.len() as u64;
+    if count == 0 {
+        return None;
     }
+    let i = u64::from(round) * STRIDE % count;
+    names.get(i as usize)
 }
 
+// The document is set. All documents share their fields.
 fn change_of(
     alloc: Global,
     name: &DocName,
@@ -121,23 +114,13 @@ fn change_of(
     })
 }
 
-fn name_of(names: &[DocName], round: u64) -> Option<&DocName> {
-    let count = names.len() as u64;
-    if count == 0 {
-        return None;
-    }
-    let i = round.min(ROUNDS) * STRIDE % count;
-    names.get(i as usize)
-}
-
-fn make(alloc: Global, names: &[DocName], fields: &SharedFields) -> Result<u64, AllocError> {
-    let mut made = 0u64;
+fn make(alloc: Global, names: &[DocName], fields: &SharedFields) -> Result<u32, AllocError> {
+    let mut made = 0u32;
     for round in 0..ROUNDS {
-        let mut one = Vec::new(alloc);
-        if let Some(change) = change(alloc, names, fields, round)? {
-            one.push(change)?;
+        if let Some(name) = name_of(names, round) {
+            drop(change_of(alloc, name, fields, moment(round))?);
+            made = made.saturating_add(1);
         }
-        made = made.saturating_add(Changes::of(one).len() as u64);
     }
     Ok(made)
 }
@@ -147,13 +130,11 @@ fn install(
     versions: &mut Versions,
     names: &[DocName],
     fields: &SharedFields,
-) -> Result<u64, AllocError> {
-    let mut installed = 0u64;
+) -> Result<u32, AllocError> {
+    let mut installed = 0u32;
     for round in 0..ROUNDS {
-        let Some(change) = change(alloc, names, fields, round)? else {
-            continue;
-        };
-        if install_one(alloc, versions, change, moment(round + 1))? {
+        if let Some(name) = name_of(names, round) {
+            install_one(alloc, versions, name, fields, moment(round + 1))?;
             installed = installed.saturating_add(1);
         }
     }
@@ -163,39 +144,38 @@ fn install(
 fn install_one(
     alloc: Global,
     versions: &mut Versions,
-    change: Change,
+    name: &DocName,
+    fields: &SharedFields,
     time: Micros,
-) -> Result<bool, AllocError> {
+) -> Result<(), AllocError> {
     if time <= versions.floor() || time <= versions.last() {
-        return Ok(false);
+        return Ok(());
     }
-    let mut one = Vec::new(alloc);
-    one.push(change)?;
-    let changes = Changes::of(one);
-    versions.make_room(alloc, &changes, 1)?;
-    versions.install(changes, time);
-    Ok(true)
+    let change = change_of(alloc, name, fields, time)?;
+    let done = versions.install_one(alloc, &change, time);
+    drop(change);
+    done
 }
 
-fn look_up(versions: &Versions, names: &[DocName]) -> u64 {
-    let mut found = 0u64;
+fn look_up(versions: &Versions, names: &[DocName]) -> u32 {
+    let mut found = 0u32;
     for round in 0..ROUNDS {
         let time = moment(round + 1);
         if time < versions.floor() {
             continue;
         }
         if let Some(name) = name_of(names, round) {
-            found = found.saturating_add(versions.at(name, time).is_some() as u64);
+            found = found.saturating_add(versions.at(name, time).is_some() as u32);
         }
     }
     found
 }
 
-fn look_up_latest(versions: &Versions, names: &[DocName]) -> u64 {
-    let mut found = 0u64;
+fn look_up_latest(versions: &Versions, names: &[DocName]) -> u32 {
+    let mut found = 0u32;
     for round in 0..ROUNDS {
         if let Some(name) = name_of(names, round) {
-            found = found.saturating_add(versions.latest(name).is_some() as u64);
+            found = found.saturating_add(versions.latest(name).is_some() as u32);
         }
     }
     found
