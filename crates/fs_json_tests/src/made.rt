@@ -27,9 +27,9 @@ pub(crate) fn made(rt: &impl Abort, alloc: Global, make: Make, text: &str) -> Re
 }
 
 fn message_again(rt: &impl Abort, alloc: Global, message: Message) -> String {
-    let text = write_message(alloc, &message).expect(rt, "memory");
+    let bytes = write_message(alloc, &message).expect(rt, "memory");
     drop(message);
-    text.into_string()
+    String::from_utf8_lossy(alloc, &bytes).expect(rt, "memory")
 }
 
 fn request_again(rt: &impl Abort, alloc: Global, request: Envelope) -> String {
