@@ -1,5 +1,5 @@
 -- What is asked of the targets of a session, by their entries.
-use Rattle.std.proofs.Common.{◌≡◌, ℕ, ◌<◌, ◌≤◌, ℤ, true, false, cond, List, [], ◌∷◌, length, Option, Some, None, Result, Ok, Err, map, refl, sym, ap, ◌∙◌, subst, arith}
+use Rattle.std.proofs.Common.{◌≡◌, ℕ, ◌<◌, ◌≤◌, ℤ, true, false, cond, List, [], ◌∷◌, length, Option, Some, None, Result, Ok, Err, map, refl, sym, ap, ◌∙◌, arith}
 use Rattle.std.specs.Prelude.{⊤, IfErr, IfSome, OnOk, alloc_error, is_some, nat_le}
 use Rattle.std.specs.FinMap.{from_entries, get, keys, len, len-entries}
 use Rattle.std.specs.Option.{option_map}
@@ -10,8 +10,7 @@ use Rattle.std.proofs.lemmas.Simd.{map-map}
 use Rattle.fs_listen.specs.Listening.{Listened}
 use Rattle.fs_target.specs.Entries.{IsAbsentAt, IsKeptOut, IsThereAt, Rises, found, ids_of}
 use Rattle.fs_target.specs.Held.{Held, refusal}
-use Rattle.fs_target.specs.Seen.{Seen, held_of, listed_in, listening_of, seen}
-use Rattle.fs_target.specs.declared.entry.Entry.{Entry}
+use Rattle.fs_target.specs.Seen.{Seen, held_of, listed_in, listening_of}
 use Rattle.fs_target.specs.declared.error.TargetError.{TargetError}
 use Rattle.fs_target.specs.declared.error.TargetError.TheVariants as error
 use Rattle.fs_target.proofs.Entries.{entries_of, found_absent, found_there, get_of}

@@ -1,6 +1,6 @@
 -- Empty places that are given back: the documents stay, and so do the places that others wait for.
 use Rattle.std.proofs.Common.{◌≡◌, ℤ, Bool, true, false, cond, None, refl, sym, ap, ◌∙◌, subst}
-use Rattle.std.specs.Prelude.{IsTrue, int_lt}
+use Rattle.std.specs.Prelude.{IsTrue}
 use Rattle.std.specs.FinMap.{get, get-remove, remove, same_map}
 use Rattle.fs_path.specs.NameOrder.{name_cmp_total, name_eq, name_is, name_same}
 use Rattle.fs_path.specs.declared.name.DocName.{DocName}

@@ -1,6 +1,6 @@
 -- Targets of which it is not known whether they stand still: by what may stand for their positions.
-use Rattle.std.proofs.Common.{◌≡◌, ℕ, ℤ, true, false, List, [], ◌∷◌, cond, map, length, get_or, Option, Some, None, Result, Ok, Err, refl, sym, ap, ◌∙◌, subst}
-use Rattle.std.specs.Prelude.{IfSome, OnOk, is_some, nat_le}
+use Rattle.std.proofs.Common.{◌≡◌, ℕ, ℤ, true, false, List, [], ◌∷◌, map, length, get_or, Option, Some, None, Result, Ok, Err, refl, sym, ap, ◌∙◌, subst}
+use Rattle.std.specs.Prelude.{IfSome, OnOk, is_some}
 use Rattle.std.specs.FinMap.{get, keys, len}
 use Rattle.std.specs.Option.{option_and_then, option_map}
 use Rattle.std.proofs.lemmas.List.{length-map}
@@ -9,12 +9,11 @@ use Rattle.fs_query.specs.declared.listen.ListenMessage.TheVariants as message
 use Rattle.fs_listen.specs.Cuts.{is_loaded}
 use Rattle.fs_listen.specs.Listening.{Listened, Loaded, with_loaded}
 use Rattle.fs_target.specs.Entries.{gone_to}
-use Rattle.fs_target.specs.Held.{position_in, position_of, raised_at, refusal}
+use Rattle.fs_target.specs.Held.{position_in, position_of, raised_at}
 use Rattle.fs_target.specs.Prepared.{ArePrepared, AreReady, Prepared, held_in}
 use Rattle.fs_target.specs.Raise.{kept_told}
 use Rattle.fs_target.specs.Seen.{seen}
 use Rattle.fs_target.specs.Still.{AreStill, IsNextStill, as_awake, entry_at, in_all, in_own, listened_at, seen_at, standing}
-use Rattle.fs_target.specs.declared.error.TargetError.TheVariants as error
 use Rattle.fs_target.specs.declared.still.Next.{Next}
 use Rattle.fs_target.specs.declared.still.Still.{Still}
 use Rattle.fs_target.proofs.Asked.{ids_are, len_is}

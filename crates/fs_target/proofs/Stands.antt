@@ -1,6 +1,5 @@
 -- Targets that stand still, as contracts see them, and what is asked of them.
 use Rattle.std.proofs.Common.{◌≡◌, ℕ, ℤ, Bool, true, false, not, ◌&&◌, ◌||◌, List, [], ◌∷◌, ◌++◌, cond, map, get_or, Option, Some, None, refl, sym, ap, ◌∙◌, subst}
-use Rattle.std.specs.Prelude.{int_lt}
 use Rattle.std.specs.FinMap.{entries, from_entries, get}
 use Rattle.std.specs.List.{AllByRecursion, filter, flat_map, list_any}
 use Rattle.std.specs.Option.{option_map}
@@ -16,11 +15,9 @@ use Rattle.fs_target.specs.Held.{position_in, position_of, positions_in}
 use Rattle.fs_target.specs.Kept.{Kept}
 use Rattle.fs_target.specs.Prepared.{Prepared, held_in}
 use Rattle.fs_target.specs.Seen.{Seen, held_of, kept_in, listed_in, listening_of, loaded_in, seen}
-use Rattle.fs_target.specs.Staged.{behind}
 use Rattle.fs_target.specs.Still.{AreStill, IsStill, IsStillWith, entry_at, in_all, is_ready_still, listened_at, loaded_at, seen_at, standing}
 use Rattle.fs_target.specs.declared.entry.Entry.{Entry}
 use Rattle.fs_target.specs.declared.entry.Loaded as entry
-use Rattle.fs_target.specs.declared.event.TimedEvent.{TimedEvent}
 use Rattle.fs_target.specs.declared.still.Still.{Still}
 use Rattle.fs_target.proofs.Asked.{ids_are}
 use Rattle.fs_target.proofs.Cutting.{base_of, cut_of, least_of, least_of_entries, some_new_of}

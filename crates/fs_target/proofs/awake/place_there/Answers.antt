@@ -1,4 +1,4 @@
-use Rattle.std.proofs.Common.{List, map, subst}
+use Rattle.std.proofs.Common.{map, subst}
 use Rattle.fs_target.specs.Entries.{IsAbsentAt, IsThereAt}
 use Rattle.fs_target.specs.Seen.{seen}
 use Rattle.fs_target.proofs.awake.place_there.Goals as goal

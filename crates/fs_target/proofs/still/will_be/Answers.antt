@@ -1,4 +1,4 @@
-use Rattle.std.proofs.Common.{◌≡◌, not, [], refl, sym, ap, ◌∙◌, subst}
+use Rattle.std.proofs.Common.{◌≡◌, [], refl, sym, subst}
 use Rattle.std.specs.Option.{option_map}
 use Rattle.fs_target.specs.Seen.{loaded_in}
 use Rattle.fs_target.specs.Staged.{behind}

@@ -1,4 +1,4 @@
-use Rattle.std.proofs.Common.{◌≡◌, Some, sym, ap, ◌∙◌}
+use Rattle.std.proofs.Common.{sym, ap, ◌∙◌}
 use Rattle.std.specs.FinMap.{get}
 use Rattle.fs_path.specs.NameOrder.{name_cmp_total}
 use Rattle.fs_value.proofs.Tree.{get_tree}

@@ -6,7 +6,7 @@ use Rattle.std.specs.Map.{lookup}
 use Rattle.fs_path.specs.NameOrder.{name_cmp, name_cmp_total, name_same}
 use Rattle.fs_path.specs.declared.name.DocName.{DocName}
 use Rattle.fs_value.proofs.Tree.{get_tree, insert_tree}
-use Rattle.fs_target.specs.Places.{docs_in, is_until, lasts, stood}
+use Rattle.fs_target.specs.Places.{docs_in, is_until, stood}
 use Rattle.fs_target.specs.declared.place.Place.{Place}
 use Rattle.fs_target.proofs.Standing.{Placed, docs-same, kept_inserted, named_same, there_inserted}
 use Rattle.fs_target.proofs.places.Places.stay.Goals as goal
