@@ -1,5 +1,5 @@
 -- A line that is read as a request has no member that is there and tells another form.
-use Rattle.std.proofs.Common.{◌≡◌, ℕ, Bool, true, false, List, [], ◌∷◌, ◌++◌, Option, Some, None, Result, Ok, Err, ◌&&◌, ◌∙◌, refl, sym, ap, is_some, codes, if◌then◌else◌}
+use Rattle.std.proofs.Common.{◌≡◌, ℕ, ◌||◌, Bool, true, false, List, [], ◌∷◌, ◌++◌, Option, Some, None, Result, Ok, Err, ◌&&◌, ◌∙◌, refl, sym, ap, subst, is_some, codes, if◌then◌else◌}
 use Rattle.std.proofs.lemmas.Map.Lookups.{exact_bytes}
 use Rattle.std.specs.Cmp.Lexicographic.{slice_cmp}
 use Rattle.std.specs.Bool.{⊤}
@@ -11,13 +11,13 @@ use Rattle.std.specs.declared.cmp.Ordering.TheVariants.{Less, Equal, Greater}
 use Rattle.std.proofs.lemmas.Bool.{or_parts}
 use Rattle.serde_json.specs.Data.{Data, null, boolean, number, string, array, object, Members, no_members, member}
 use Rattle.serde_json.specs.Find.{get, get_member}
-use Rattle.fs_json.specs.Answer.{made, ◌>>=◌}
+use Rattle.fs_json.specs.Answer.{Gives, made, ◌>>=◌}
 use Rattle.fs_json.specs.Members.{first_twice, first_unknown, is_there, only_at}
 use Rattle.fs_json.specs.Names.{spells}
 use Rattle.fs_json.specs.Scalars.{text_at, truth_at}
 use Rattle.fs_json.specs.Time.{time_at}
 use Rattle.fs_json.specs.declared.bad.Bad.{Bad}
-use Rattle.fs_json.specs.declared.bad.Bad.TheVariants.{At}
+use Rattle.fs_json.specs.declared.bad.Bad.TheVariants.{At, Memory, Method}
 use Rattle.fs_path.specs.Place.{member_place}
 use Rattle.fs_path.specs.declared.name.Root.{Root}
 use Rattle.fs_path.specs.declared.place.Rule.TheVariants.{G}
@@ -141,49 +141,41 @@ forms d =
     ∷ (leaves_session d, made line.Leave (leave_at d))
     ∷ []
 
--- what is read as a request has no member that tells another form, and none of those members
-pub record IsPlain (root : Root) (d : Data) : Type 0 where
-  untold : form_at root d ≡ made line.Asked (session_request_at root (bare d))
-  bare : bare d ≡ d
+-- ---- where no member tells another form
 
-is_plain : (root : Root) (d : Data) (asked : SessionRequest) → session_request_at root d ≡ Ok asked → IsPlain root d
-unfolding session_request_at
-is_plain root d asked is =
-    let passed = first_passes (only_at known d []) _ asked is in
-    let none = λ (k : List ℕ) (spelled : list_any (λ name. spells name k) known ≡ false). isnt_there k d (is_absent known k d passed.0 spelled passed.1) in
-    record {
-      untold = none_told (forms d) (made line.Asked (session_request_at root (bare d))) (
-        any_absent known unbuilt_forms d passed.0 refl passed.1,
-        (
-          none (codes "clock") refl,
-          (
-            none (codes "compact") refl,
-            (
-              none (codes "manual") refl,
-              (
-                none (codes "settle") refl,
-                (
-                  none (codes "retry") refl,
-                  (
-                    none (codes "load") refl,
-                    (
-                      none (codes "match") refl,
-                      (
-                        none (codes "raise") refl,
-                        (neither_both (is_there (codes "session") d) (is_there (codes "leave") d) (none (codes "leave") refl), tt),
-                      ),
-                    ),
-                  ),
-                ),
-              ),
-            ),
-          ),
-        ),
-      );
-      bare = is_bare d (any_absent known form_members d passed.0 refl passed.1);
-    }
+none_there : (names : List (List ℕ)) (d : Data) → has_any names d ≡ false → AllByRecursion (λ k. is_there k d ≡ false) names
+none_there [] d none = tt
+none_there (k ∷ ks) d none =
+    let each = or_parts (is_some (get k d)) (has_any ks d) none in
+    (isnt_there k d (none_found (get k d) each.0), none_there ks d each.1)
+
+-- it is read as a request, as it is
+pub form_plain : (root : Root) (d : Data) → is_unbuilt_form d ≡ false → has_any form_members d ≡ false → form_at root d ≡ made line.Asked (session_request_at root d)
+form_plain root d built none =
+    let all = none_there form_members d none in
+    let leaves = neither_both (is_there (codes "session") d) (is_there (codes "leave") d) all.1.1.1.1.1.1.1.1.0 in
+    none_told (forms d) (made line.Asked (session_request_at root (bare d)))
+    (built, (all.0, (all.1.0, (all.1.1.0, (all.1.1.1.0, (all.1.1.1.1.0, (all.1.1.1.1.1.0, (all.1.1.1.1.1.1.0, (all.1.1.1.1.1.1.1.0, (leaves, tt))))))))))
+    ∙ ap (λ e. made line.Asked (session_request_at root e)) (is_bare d none)
+
+-- and is refused for what is wrong with that
+gives_made : (bad : Bad) (asked : Result SessionRequest Bad) → Gives {X = SessionRequest} (λ r. r) (Err bad) asked → Gives {X = Line} (λ l. l) (Err bad) (made line.Asked asked)
+gives_made (At rule place) asked gives = ap (made line.Asked) gives
+gives_made (Method name) asked gives = ap (made line.Asked) gives
+gives_made (Memory e) asked gives = tt
+
+pub plain_refused : (root : Root) (d : Data) (bad : Bad) → (is_unbuilt_form d || has_any form_members d) ≡ false → Gives {X = SessionRequest} (λ r. r) (Err bad) (session_request_at root d)
+    → Gives {X = Line} (λ l. l) (Err bad) (form_at root d)
+plain_refused root d bad none gives =
+    let both = or_parts (is_unbuilt_form d) (has_any form_members d) none in
+    subst (Gives {X = Line} (λ l. l) (Err bad)) (sym (form_plain root d both.0 both.1)) (gives_made bad (session_request_at root d) gives)
+
+-- ---- what is read as a request
 
 pub form_asked : (root : Root) (d : Data) (asked : SessionRequest) → session_request_at root d ≡ Ok asked → form_of root d ≡ line.Asked asked
+unfolding session_request_at
 form_asked root d asked is =
-    let plain = is_plain root d asked is in
-    ap line_read (plain.untold ∙ ap (λ e. made line.Asked (session_request_at root e)) plain.bare ∙ ap (made line.Asked) is)
+    let passed = first_passes (only_at known d []) _ asked is in
+    let built = any_absent known unbuilt_forms d passed.0 refl passed.1 in
+    let none = any_absent known form_members d passed.0 refl passed.1 in
+    ap line_read (form_plain root d built none ∙ ap (made line.Asked) is)

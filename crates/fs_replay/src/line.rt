@@ -1,9 +1,10 @@
 //! Reading the lines of a script.
-ghost use Rattle.std.specs.Prelude.{◌≡◌, IfOk, map, option_map};
+ghost use Rattle.std.specs.Prelude.{◌≡◌, ◌||◌, Err, IfOk, map, option_map};
 ghost use Rattle.serde_json.specs.View.{members_view, view as json};
 ghost use Rattle.fs_json.specs.Answer.{Gives};
 ghost use Rattle.fs_rpc.specs.Envelope.{session_request_at};
-ghost use Rattle.fs_replay.specs.Line.{bare, form_at, form_of, has_any, is_unbuilt_form, IsFault, json_of, leaves_session, line_of, line_reason, without_each, without_member};
+ghost use Rattle.fs_rpc.specs.declared.envelope.SessionRequest.{SessionRequest};
+ghost use Rattle.fs_replay.specs.Line.{bare, form_at, form_members, form_of, has_any, is_unbuilt_form, IsFault, json_of, leaves_session, line_of, line_reason, without_each, without_member};
 
 use crate::forms::{
     LEAVE, SESSION, id_in, leaving_in, load_in, number_in, text_in, time_in, true_in, truth_in,
@@ -97,17 +98,37 @@ pub fn read_line(alloc: Global, root: &Root, line: &[u8]) -> Result<Line, AllocE
 }
 
 // No member that is there of a request tells another form, so that is looked for only where a line isn't read as a request.
-// (docs/DECISIONS.md, "Whether a line is a request is asked first".)
+// (docs/DECISIONS.md, "Whether a line is a request is asked first".) Want of memory ends the run: nothing is tried again.
 fn line_in(alloc: Global, root: &Root, v: &mut Value) -> Result<Line, AllocError>
     ensures { IfOk result (λ l. l ≡ form_of root.now (json v.old)) }
 {
     match read_session_request(alloc, root, v) {
         Ok(asked) => Ok(Line::Asked(asked)),
-        Err(bad) => {
-            drop(bad);
-            other_line(alloc, root, v)
-        }
+        Err(bad) => unread(alloc, root, v, bad),
     }
+}
+
+// A line that isn't read as a request. Where none of its members may tell another form, it is refused for what is wrong with the request,
+// and isn't read again.
+fn unread(alloc: Global, root: &Root, v: &mut Value, bad: Bad) -> Result<Line, AllocError>
+    requires { Gives {X = SessionRequest} (λ r. r) (Err bad) (session_request_at root.now (json v.old)) }
+    ensures { IfOk result (λ l. l ≡ form_of root.now (json v.old)) }
+{
+    if let Bad::Memory(_) = &bad {
+        return refused(bad);
+    }
+    if has_form(v) {
+        drop(bad);
+        return other_line(alloc, root, v);
+    }
+    refused(bad)
+}
+
+// Whether there is a member that may tell a form other than requests.
+fn has_form(v: &Value) -> bool
+    ensures { result ≡ (is_unbuilt_form (json v.now) || has_any form_members (json v.now)) }
+{
+    is_unbuilt_form(v) || has_any(v, &FORM_MEMBERS)
 }
 
 // A line of any form, where one that isn't read is refused.
